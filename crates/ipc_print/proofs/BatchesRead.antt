@@ -26,7 +26,9 @@ use Rattle.ipc_print.specs.FirstRows.{shortened, within, AreWanted, HasReached, 
 use Rattle.ipc_print.specs.Forms.{head_of, line_of, HaveLines, HaveAllLines, row_count}
 use Rattle.ipc_print.specs.Output.{Output, output, Puts, PutFails}
 use Rattle.ipc_print.specs.Rows.{AreShownRows, lines, batch_lines, last_lines}
-use Rattle.ipc_print.specs.Streams.{PrintsRows, PrintsPart, PrintsBatches, PutsRows, as_required}
+use Rattle.ipc_decode.specs.Decoding.{TellsLast}
+use Rattle.ipc_print.proofs.Shortest.{last_shortest, none_shorter}
+use Rattle.ipc_print.specs.Streams.{AreShortest, IsTally, PrintsRows, PrintsPart, PrintsBatches, PutsRows, as_required}
 use Rattle.ipc_print.proofs.FirstRows.{within_none, within_all, within_more, wanted_more, wanted_none, wanted_within, below_refused}
 use Rattle.ipc_print.proofs.FirstRows.{refuses_all, row_count_last, take_fewer}
 use Rattle.ipc_print.proofs.Puts.{puts_then, puts_not_then, puts_none, missing_all, missing_at, missing_then}
@@ -41,11 +43,8 @@ use Rattle.std.specs.Prelude.{Bool, IsTrue, false, true, unwrap_or}
 use Rattle.std.proofs.lemmas.List.{length-append, length-take}
 use Rattle.ipc_decode.specs.declared.end.End.TheVariants.{Closed, Mark}
 use Rattle.ipc_model.specs.declared.fault.Fault.TheVariants.{Read, Truncated}
-use Rattle.ipc_decode.specs.Reader.{end_of}
 use Rattle.ipc_decode.specs.Counts.{count_up, messages_in}
 use Rattle.ipc_print.specs.declared.stop.Tally.{Tally}
-use Rattle.ipc_print.specs.Forms.{row_count}
-use Rattle.ipc_print.specs.Streams.{IsTally}
 
 -- these batches were read behind the schema and printed up to the limit, and nothing of them is kept
 pub record Batches (options : PrintOptions) (tally : Tally) (old now : Reader) (before after : Output) : Type 0 where
@@ -53,6 +52,7 @@ pub record Batches (options : PrintOptions) (tally : Tally) (old now : Reader) (
   pub batches : List BatchRows
   pub bytes : Consumes old.remaining now.remaining x
   pub run : Run old.limits (Some (in_force_of old)) x (map batch batches) (Some (in_force_of now))
+  pub shortest : AreShortest old.limits (Some (in_force_of old)) x (map batch batches)
   pub reading : now.phase ≡ Reading
   pub same : now.schema ≡ old.schema
   pub same_limits : now.limits ≡ old.limits
@@ -89,6 +89,7 @@ batches_none options r o reading empty = record {
   batches = [];
   bytes = Consumes-nil r.remaining;
   run = done;
+  shortest = none_shorter (Some (in_force_of r));
   reading = reading;
   same = refl;
   same_limits = refl;
@@ -114,6 +115,7 @@ batches_limited options tally old now before after b reached = (
     bytes = b.bytes;
     state = Some (in_force_of now);
     run = b.run;
+    shortest = b.shortest;
     reached = reached_tally options.limit tally.rows (row_count b.batches) b.tallies.1 reached;
     wanted = b.wanted;
     have = b.have;
@@ -187,6 +189,17 @@ module _ (options : PrintOptions) (tally : Tally) (old now new : Reader) (before
       (sym (map-append batch b.batches (rows_of found ∷ [])))
       (counted_then _ _ _ b.x t.x (map batch b.batches) (batch (rows_of found) ∷ []) _ _ (b.run, refl) came.run)
 
+  -- no shorter messages are those of these batches
+  more_shortest : (found : Found) (t : NextCall now new (Ok (Some found)))
+      → AreShortest old.limits (Some (in_force_of old)) (b.x ++ t.x) (map batch (b.batches ++ rows_of found ∷ []))
+  more_shortest found t =
+      let h = gave now new now.phase new.phase t.x found b.reading t.gives in
+      let last = subst (λ limits. TellsLast limits (Some (in_force_of now)) t.x (batch (rows_of found)) (Some (in_force_of new)))
+      b.same_limits h.1.last in
+      subst (AreShortest old.limits (Some (in_force_of old)) (b.x ++ t.x)) (sym (map-append batch b.batches (rows_of found ∷ [])))
+      (last_shortest (Some (in_force_of old)) (Some (in_force_of now)) (Some (in_force_of new)) b.x t.x (map batch b.batches)
+      (batch (rows_of found)) b.run last)
+
   -- what was put of a batch, by the fields that are in force
   same_puts : (fields : List Field) (found : Found) (count : ℕ) (w : Option (List ℕ)) (n : ℕ) (k : List ℕ)
       (r : Result (Option TextFault) PrintFault)
@@ -222,6 +235,7 @@ module _ (options : PrintOptions) (tally : Tally) (old now new : Reader) (before
         batches = b.batches ++ rows_of found ∷ [];
         bytes = Consumes-trans old.remaining now.remaining new.remaining b.x t.x b.bytes t.bytes;
         run = (more_run found t).0;
+        shortest = more_shortest found t;
         reading = (found_run found t).0;
         same = t.same_schema ∙ b.same;
         same_limits = t.same_limits ∙ b.same_limits;

@@ -61,6 +61,7 @@ module _ (options : PrintOptions) (front : List ℕ) (old new : Reader) where
           bytes = h.bytes;
           state = h.state;
           run = h.run;
+          shortest = h.shortest;
           reached = h.reached;
           wanted = h.wanted;
           have = h.have;
@@ -179,6 +180,7 @@ module _ (options : PrintOptions) (front : List ℕ) (old new : Reader) where
             bytes = h.bytes;
             state = h.state;
             run = h.run;
+            shortest = h.shortest;
             reached = h.reached;
             wanted = h.wanted;
             have = h.have;

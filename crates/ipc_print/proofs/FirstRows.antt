@@ -90,7 +90,7 @@ pub reached_more : (limit : Option ℕ) (batches others : List BatchRows) → Ha
 reached_more None batches others reached = absurd reached
 reached_more (Some n) batches others reached = let both = row_count_then batches others in omega (arith, both, reached)
 
-not_both : (limit : Option ℕ) (rows : ℕ) → IsBelow limit rows → HasReached limit rows → ⊥
+pub not_both : (limit : Option ℕ) (rows : ℕ) → IsBelow limit rows → HasReached limit rows → ⊥
 not_both None rows below reached = reached
 not_both (Some n) rows below reached = absurd (omega (arith, below, reached))
 

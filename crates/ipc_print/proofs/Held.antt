@@ -24,8 +24,9 @@ use Rattle.ipc_stream.proofs.Beginnings.{Holds, front_begins, holds_closed, hold
 use Rattle.ipc_print.specs.declared.form.PrintOptions.{PrintOptions}
 use Rattle.ipc_print.specs.declared.stop.Stop.{Stop}
 use Rattle.ipc_print.specs.declared.stop.Stop.TheVariants as stop
-use Rattle.ipc_print.specs.FirstRows.{within}
-use Rattle.ipc_print.specs.Forms.{form_fault}
+use Rattle.std.proofs.Common.{◌+◌}
+use Rattle.ipc_print.specs.FirstRows.{within, IsBelow}
+use Rattle.ipc_print.specs.Forms.{form_fault, row_count, Refuses}
 use Rattle.ipc_print.specs.Output.{Output}
 use Rattle.ipc_print.specs.Streams.{AnswersTable, Breaks, LacksText, Prints, PrintsFirst, PrintsStream, PrintsTable, PrintsText, Stops}
 use Rattle.ipc_print.specs.Streams.{as_required, broken, printed, refused}
@@ -65,6 +66,19 @@ printed_taken : {limits : Limits} → (options : PrintOptions) (old new w0 w1 : 
     → TakesTable limits old new (Ok (p.table, p.end))
 printed_taken options old new w0 w1 p = record { x = p.x; bytes = p.bytes; gives = reads_of p.x new p.table p.end p.denotes p.closed }
 
+-- a row of a batch below the limit that has no text is one of the table's
+pub lacking_row : (options : PrintOptions) (t u : Table) (last : BatchRows) (count : ℕ) (fault : TextFault) (others : List BatchRows)
+    → t ≡ record { schema = u.schema; batches = (u.batches ++ last ∷ []) ++ others } → IsBelow options.limit (row_count u.batches + count)
+    → Refuses options.form u.schema.fields last.rows count fault → LacksText options t fault
+lacking_row options t u last count fault others is below refuses =
+    let first = refused_within options.form u.schema.fields options.limit u.batches last others count fault below refuses in
+    let shown : within options.limit ((u.batches ++ last ∷ []) ++ others) ≡ u.batches ++ first.0 ∷ first.1 =
+    ap (within options.limit) (append_assoc u.batches (last ∷ []) others) ∙ first.2 in
+    let among : Contains (within options.limit ((u.batches ++ last ∷ []) ++ others)) first.0 =
+    subst (λ (bs : List BatchRows). Contains bs first.0) (sym shown)
+    (Contains-append_right u.batches (first.0 ∷ first.1) first.0 (zero, omega arith, refl)) in
+    subst (λ (q : Table). LacksText options q fault) (sym is) (inr (first.0, (count, (among, first.3))))
+
 -- what has no text is in the table that the source holds
 lacking : {limits : Limits} → (options : PrintOptions) (z : List ℕ) (t : Table) (h : Holds limits z t) (new w0 w1 : Option (List ℕ))
     (fault : TextFault) → Stops options limits (Some z) new w0 w1 fault → LacksText options t fault
@@ -78,13 +92,7 @@ lacking options z t h new w0 w1 fault (refused x u last count σ bytes run below
     let begins = front_begins z x left.0 t _ _ h left.1 run in
     let longer : Table = record { schema = u.schema; batches = u.batches ++ last ∷ [] } in
     let others = table_begins t longer begins.0 (begins.1 ∙ ap (λ es. es ++ begins.0) (sym (one_more u last))) in
-    let first = refused_within options.form u.schema.fields options.limit u.batches last others.0 count fault below refuses in
-    let shown : within options.limit ((u.batches ++ last ∷ []) ++ others.0) ≡ u.batches ++ first.0 ∷ first.1 =
-    ap (within options.limit) (append_assoc u.batches (last ∷ []) others.0) ∙ first.2 in
-    let among : Contains (within options.limit ((u.batches ++ last ∷ []) ++ others.0)) first.0 =
-    subst (λ (bs : List BatchRows). Contains bs first.0) (sym shown)
-    (Contains-append_right u.batches (first.0 ∷ first.1) first.0 (zero, omega arith, refl)) in
-    subst (λ (q : Table). LacksText options q fault) (sym others.1) (inr (first.0, (count, (among, first.3))))
+    lacking_row options t u last count fault others.0 others.1 below refuses
 
 text_of : (options : PrintOptions) (w0 w1 : Option (List ℕ)) (u t : Table) (d e : End) (m n : ℕ) → u ≡ t → d ≡ e → m ≡ n
     → PrintsText options u d m w0 w1 → PrintsText options t e n w0 w1

@@ -29,7 +29,8 @@ use Rattle.std.specs.Prelude.{length}
 use Rattle.ipc_print.specs.Output.{Output, output, Grows, Puts, PutFails}
 use Rattle.ipc_print.specs.Rows.{lines, batch_lines}
 use Rattle.ipc_print.specs.Streams.{PrintsTable, PrintsFirst, Breaks, unopened, broken, Stops, unfit, refused, PrintsStream}
-use Rattle.ipc_print.specs.Streams.{AreLast, PrintsSome, alone, some, unread}
+use Rattle.ipc_print.proofs.Shortest.{opened_shortest}
+use Rattle.ipc_print.specs.Streams.{AreLast, AreShortest, PrintsSome, alone, some, unread}
 use Rattle.ipc_print.specs.Streams.{Prints, PrintsLimited, PrintsRows, PrintsPart, RefusesRow, write_fault}
 use Rattle.ipc_print.specs.Streams.{PrintsSchema, printed, last_printed, schema_line}
 use Rattle.ipc_print.proofs.FirstRows.{below_less, below_within, refused_inside, take_fewer, wanted_more, wanted_within}
@@ -135,6 +136,8 @@ module _ {limits : Limits} (options : PrintOptions) (old : Option (List ℕ)) (s
     bytes = Consumes-trans old s.remaining t.remaining o.x r.x o.bytes r.bytes;
     run = run_then None (Some (in_force_of s)) r.state o.x r.x (schema s.schema ∷ []) (map batch r.batches) o.run
         (subst (λ l. Run l (Some (in_force_of s)) r.x (map batch r.batches) r.state) o.same_limits r.run);
+    shortest = opened_shortest s.schema (in_force_of s) o.x r.x (map batch r.batches) o.run o.no_dictionary
+        (subst (λ l. AreShortest l (Some (in_force_of s)) r.x (map batch r.batches)) o.same_limits r.shortest);
     reached = r.reached;
     wanted = r.wanted;
     fits = fits;

@@ -16,7 +16,7 @@ use Rattle.ipc_model.specs.declared.table.Table.{Table}
 use Rattle.ipc_model.specs.declared.value.Value.{Value}
 use Rattle.ipc_decode.specs.declared.end.End.{End}
 use Rattle.ipc_decode.specs.declared.end.End.TheVariants.{Closed, Mark}
-use Rattle.ipc_decode.specs.Stream.{State, schema, batch, begun, Run, events_of, Denotes}
+use Rattle.ipc_decode.specs.Stream.{State, Event, schema, batch, begun, Run, events_of, Denotes}
 use Rattle.ipc_decode.specs.Stream.{OpensStream}
 use Rattle.ipc_decode.specs.Failures.{Tells}
 use Rattle.ipc_decode.specs.Reasons.{Ends, IsOutside, Reads}
@@ -77,9 +77,14 @@ pub record PrintsTable (options : PrintOptions) (limits : Limits)
   pub text : Appends written_old written_new (printed options.form table.schema table.batches
       ++ tail_text options.form end (count_up 0 (length x)) table.batches)
 
+-- no shorter beginning of these bytes is messages that report these events
+abbrev pub AreShortest : Limits → State → List ℕ → List Event → Type 0
+AreShortest limits σ x events =
+    (y z : List ℕ) (τ : State) → x ≡ y ++ z → Run limits σ y events τ → z ≡ []
+
 -- the bytes that were taken are the messages of a schema, and of batches up to that one in which
--- the rows reach the limit. Exactly the text of these rows was printed: the front, and the rows up
--- to the limit in order
+-- the rows reach the limit; no shorter beginning of them reports these. Exactly the text of these
+-- rows was printed: the front, and the rows up to the limit in order
 pub record PrintsFirst (options : PrintOptions) (limits : Limits)
     (old new written_old written_new : Option (List ℕ)) : Type 0 where
   pub x : List ℕ
@@ -87,6 +92,7 @@ pub record PrintsFirst (options : PrintOptions) (limits : Limits)
   pub state : State
   pub bytes : Consumes old new x
   pub run : Run limits None x (events_of table) state
+  pub shortest : AreShortest limits None x (events_of table)
   pub reached : HasReached options.limit (row_count table.batches)
   pub wanted : AreWanted options.limit table.batches
   pub fits : form_fault options.form table.schema.fields ≡ None
@@ -278,6 +284,30 @@ AnswersTable options t end bytes written_old written_new (Err (stop.Text fault))
 AnswersTable options t end bytes written_old written_new (Err (stop.Write fault)) =
     write_fault_status fault ≢ 1
 
+-- x is the messages of a table, whose rows reach the limit in its last batch
+pub record ReachesLimit (options : PrintOptions) (limits : Limits) (x : List ℕ)
+    (t : Table) : Type 0 where
+  pub state : State
+  pub run : Run limits None x (events_of t) state
+  pub reached : HasReached options.limit (row_count t.batches)
+  pub wanted : AreWanted options.limit t.batches
+
+-- the result if the source begins with the messages x of a table whose rows reach the limit in its
+-- last batch, and does not fail. The text of the rows up to the limit was printed, and no byte
+-- after x was taken; or the fault is in these rows, or the sink failed or memory ran out
+abbrev pub AnswersFirst : PrintOptions → Table → List ℕ → Option (List ℕ) → Option (List ℕ)
+    → Option (List ℕ) → Option (List ℕ) → Result ⊤ Stop → Type 0
+AnswersFirst options t x old new written_old written_new (Ok done) =
+    ((taken rest : List ℕ) × (x ≡ taken ++ rest) × Consumes old new taken)
+    × Appends written_old written_new
+    (printed options.form t.schema (within options.limit t.batches))
+AnswersFirst options t x old new written_old written_new (Err (stop.Read fault message)) =
+    fault ≡ OutOfMemory
+AnswersFirst options t x old new written_old written_new (Err (stop.Text fault)) =
+    LacksText options t fault
+AnswersFirst options t x old new written_old written_new (Err (stop.Write fault)) =
+    write_fault_status fault ≢ 1
+
 -- ---- the steps in between
 
 -- a tally counts these batches and their rows; a count stops at 2^64 - 1
@@ -329,6 +359,7 @@ module _ (options : PrintOptions) (front : List ℕ) (old new : Reader) (before 
     pub bytes : Consumes old.remaining new.remaining x
     pub state : State
     pub run : Run old.limits (Some (in_force_of old)) x (map batch batches) state
+    pub shortest : AreShortest old.limits (Some (in_force_of old)) x (map batch batches)
     pub reached : HasReached options.limit (row_count batches)
     pub wanted : AreWanted options.limit batches
     pub have : HaveAllLines options.form old.schema.fields (within options.limit batches)

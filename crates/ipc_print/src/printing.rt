@@ -9,9 +9,9 @@ ghost use Rattle.ipc_csv.specs.RowCsv.{unless_fault};
 ghost use Rattle.ipc_json.specs.SchemaJson.{schema_text};
 ghost use Rattle.ipc_print.specs.Forms.{counts_text, form_fault, front_text};
 ghost use Rattle.ipc_print.specs.Output.{output, PrintsAs};
-ghost use Rattle.ipc_print.specs.Streams.{AnswersTable, IsWhole, Prints, PrintsAll};
+ghost use Rattle.ipc_print.specs.Streams.{AnswersFirst, AnswersTable, IsWhole, Prints, PrintsAll};
 ghost use Rattle.ipc_print.specs.Streams.{PrintsBatches, as_required};
-ghost use Rattle.ipc_print.specs.Streams.{PrintsSome, PrintsStream, TellsFailures};
+ghost use Rattle.ipc_print.specs.Streams.{PrintsSome, PrintsStream, ReachesLimit, TellsFailures};
 ghost use Rattle.ipc_print.specs.Streams.{exit_status, outcome_tail, write_fault};
 
 use crate::batch_text::print_batch;
@@ -311,6 +311,12 @@ pub fn print<R: Source, W: Sink>(
         → R.remaining source ≡ Some x → Denotes limits x t Closed → R.failures result.1 ≡ 0
         → AnswersTable options.entry t Closed (length x) (W.written sink.old) (W.written sink.new)
         result.0 }
+    // The rows of a table that reach the limit in its last batch are printed up to it, whatever
+    // follows their messages: no byte after these is read.
+    ensures limited { (x rest : List ℕ) (t : Table) → R.remaining source ≡ Some (x ++ rest)
+        → ReachesLimit options.entry limits x t → R.failures result.1 ≡ 0
+        → AnswersFirst options.entry t x (R.remaining source) (R.remaining result.1)
+        (W.written sink.old) (W.written sink.new) result.0 }
 {
     match StreamReader::open(alloc, limits, source) {
         Ok(stream) => {

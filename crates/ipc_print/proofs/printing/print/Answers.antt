@@ -1,6 +1,7 @@
 use Rattle.std.proofs.Common.{◌∙◌, sym, None, Err}
 use Rattle.ipc_print.specs.declared.stop.Stop.TheVariants.{Read}
 use Rattle.ipc_print.proofs.Held.{printed_closed, printed_marked, stream_tells}
+use Rattle.ipc_print.proofs.Limited.{printed_first}
 use Rattle.ipc_print.proofs.Streams.{part_of, prints_all, prints_none}
 use Rattle.ipc_print.proofs.printing.print.Goals as goal
 
@@ -44,3 +45,15 @@ pub returns-in-Err-clause-closed : goal.returns-in-Err-clause-closed
 returns-in-Err-clause-closed g c = λ x t free is d none.
     printed_closed c.args.options _ _ None None _ _ none (Err (Read c.in-Err.fault 0)) c.in-Err.ensures.failures
     (prints_none c.args.options _ _ None c.in-Err.fault c.in-Err.ensures.refused) x t free is d
+
+pub returns-in-Ok-clause-limited : goal.returns-in-Ok-clause-limited
+returns-in-Ok-clause-limited g c = λ x rest t is h none.
+    printed_first c.args.options _ _ _ _ _ _ (sym c.into_inner.ensures.failures ∙ none) c.print_open-result.result
+    (stream_tells c.args.options _ _ _ _ c.print_open-result.result c.print_open-result.ensures.prints)
+    (prints_all c.args.options _ _ c.in-Ok.stream _ _ _ _ _ c.print_open-result.result c.in-Ok.ensures.opened c.into_inner.ensures.remaining
+    c.print_open-result.ensures.prints) x rest t is h
+
+pub returns-in-Err-clause-limited : goal.returns-in-Err-clause-limited
+returns-in-Err-clause-limited g c = λ x rest t is h none.
+    printed_first c.args.options _ _ None None _ _ none (Err (Read c.in-Err.fault 0)) c.in-Err.ensures.failures
+    (prints_none c.args.options _ _ None c.in-Err.fault c.in-Err.ensures.refused) x rest t is h
