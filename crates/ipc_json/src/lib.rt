@@ -6,5 +6,5 @@ mod schema;
 mod schema_reader;
 
 pub use row::{RowShape, put_bytes, put_int, put_row_json, row_json};
-pub use schema::{pairs_json, schema_json};
+pub use schema::{pairs_json, schema_json, string_json, type_json};
 pub use schema_reader::schema_from_json;

@@ -4,7 +4,7 @@ ghost use Rattle.std.specs.Prelude.{codes};
 ghost use Rattle.json.specs.Token.{Token};
 ghost use Rattle.json.specs.Tree.{json_tokens, items_tokens};
 ghost use Rattle.serde_json.specs.Data.{string, number, unsigned};
-ghost use Rattle.serde_json.specs.Written.{outline, items_outline};
+ghost use Rattle.serde_json.specs.Written.{compact_text, outline, items_outline};
 ghost use Rattle.ipc_model.specs.declared.schema.Field.{out-Field};
 ghost use Rattle.ipc_json.specs.SchemaJson as spec;
 ghost use Rattle.ipc_json.specs.SchemaJson.{named, type_json, dictionary_json, pair_json};
@@ -274,6 +274,38 @@ pub fn schema_json(alloc: Global, schema: &Schema) -> Result<String, TextFault>
 {
     let mut writer = Writer::new(Vec::new(alloc));
     put_schema(&mut writer, schema)?;
+    let bytes = writer.into_inner();
+    Ok(unsafe { String::from_utf8_unchecked(bytes) })
+}
+
+/// Returns a type as compact JSON, in the form that it has in the JSON of a schema: an array of its
+/// name and its parameters. Errors: `OutOfMemory` only.
+pub fn type_json(alloc: Global, kind: &DataType) -> Result<String, TextFault>
+    ensures text { IfOk result (λ text. string_bytes text ≡ compact_text (type_json kind.now)) }
+    ensures refused { IfErr result (λ fault. fault ≡ TextFault.OutOfMemory) }
+{
+    let mut writer = Writer::new(Vec::new(alloc));
+    put_type(&mut writer, kind)?;
+    let bytes = writer.into_inner();
+    Ok(unsafe { String::from_utf8_unchecked(bytes) })
+}
+
+fn put_string(out: &mut Writer, text: &str) -> Result<(), AllocError>
+    ensures ok { OnOk result (out.new.tokens
+        ≡ out.old.tokens ++ json_tokens (outline (string text.now))) }
+    ensures before { out.new.before ≡ out.old.before }
+{
+    out.string(text)
+}
+
+/// Returns a text as a JSON string in quotes, in which control characters are escaped. Errors:
+/// `OutOfMemory` only.
+pub fn string_json(alloc: Global, text: &str) -> Result<String, TextFault>
+    ensures text { IfOk result (λ json. string_bytes json ≡ compact_text (string text.now)) }
+    ensures refused { IfErr result (λ fault. fault ≡ TextFault.OutOfMemory) }
+{
+    let mut writer = Writer::new(Vec::new(alloc));
+    put_string(&mut writer, text)?;
     let bytes = writer.into_inner();
     Ok(unsafe { String::from_utf8_unchecked(bytes) })
 }
