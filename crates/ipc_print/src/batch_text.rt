@@ -150,7 +150,7 @@ fn print_records<W: Sink>(
     }
 }
 
-// Adds what stands in front of a batch's rows.
+// Adds the line before a batch's rows, if the form has one.
 fn print_head<W: Sink>(
     alloc: Global,
     form: Form<'_>,

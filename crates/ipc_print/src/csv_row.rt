@@ -137,8 +137,8 @@ fn put_held(
     }
 }
 
-// What a slot holds, in a function of its own, so that the loop over the columns carries nothing
-// of it. A text of the column's dictionary is told by its index.
+// Writes what a slot holds. It is a function of its own, so that the loop over the columns stays
+// small. A text of the column's dictionary is found by its index.
 #[inline(never)]
 fn put_other(
     text: &mut [u8],
@@ -277,7 +277,7 @@ fn put_held_text(
     }
 }
 
-// What a slot holds, by the way in which the slots lie: each arm is compiled for its own.
+// Writes what a slot holds, by its layout: each arm is compiled for one layout.
 #[inline(always)]
 fn put_cell(
     text: &mut [u8],

@@ -1,9 +1,9 @@
 //! Numbers in decimal, eight digits at a time.
 //!
-//! The digits of a number below 10^8 stand side by side in the eight bytes of one `u64`, reckoned
-//! for all of its parts at once: halves of four digits, quarters of two, and bytes of one. A shift
-//! drops the zeros in front. No branch depends on how many of the eight are shown, and nothing is
-//! copied, where a loop over pairs of digits spends most of the time that rows take.
+//! The digits of a number below 10^8 are the eight bytes of one `u64`, computed for all of its
+//! parts at once: halves of four digits, quarters of two, and bytes of one. A shift drops the
+//! leading zeros. No branch depends on the number of digits, and nothing is copied. A loop over
+//! pairs of digits would take most of the time of printing rows.
 //!
 //! A part is cut in two by one product for all parts, whose factor is a little more than the
 //! reciprocal and gives the same quotients for numbers that are as small as these. A mask keeps the
@@ -70,8 +70,8 @@ fn eight_digits(number: u32) -> u64
 // in any case.
 const UNSHOWN: u64 = 0x2f30_3030_3030_3030;
 
-// The eight digits of a number below 10^8, the first in the lowest byte, and how many zeros stand
-// in front: no bit is set in their bytes once the digit 0 is taken from each.
+// The eight digits of a number below 10^8, the first in the lowest byte, and the number of leading
+// zeros: no bit is set in their bytes once the digit 0 is taken from each.
 #[inline(always)]
 fn digits_and_zeros(number: u32) -> (u64, usize)
     requires { number < 100000000 }
@@ -108,9 +108,8 @@ fn put_first(text: &mut [u8], at: usize, number: u32) -> usize
     at + (8 - zeros)
 }
 
-/// Writes a number in decimal from `at` on, and returns where it ends. What stands behind the end
-/// may change too, up to
-/// `at + 24`.
+/// Writes a number in decimal from `at` on, and returns where it ends. The bytes after the end may
+/// change too, up to `at + 24`.
 #[inline(always)]
 pub fn put_u64(text: &mut [u8], at: usize, number: u64) -> usize
     requires { at + 24 ≤ length text.old }

@@ -1,4 +1,4 @@
-//! The texts of a dictionary, told by the indices of a column.
+//! The texts of a dictionary, found by the indices of a column.
 ghost use Rattle.std.specs.Prelude.{◌<◌, length, IfSome};
 ghost use Rattle.ipc_column.specs.Nested.{slot_values};
 ghost use Rattle.ipc_print.specs.Entries.{AreTexts, Tells};
@@ -6,14 +6,14 @@ ghost use Rattle.ipc_print.specs.Entries.{AreTexts, Tells};
 use ipc_column::SlotView;
 use ipc_model::Layout;
 
-/// What a slot of a column shows, where it is told by its index.
+/// What a slot of a column shows, as its index gives it.
 #[derive(Clone, Copy, Debug, Drop)]
 pub enum Entry<'a> {
     /// A text of the dictionary: bytes that begin with it, and how many of them it has.
     Text(&'a [u8], usize),
     /// The slot is null, or the value of its dictionary is.
     Null,
-    /// It isn't told: the column has no dictionary of texts.
+    /// The column has no dictionary of texts.
     Others,
 }
 

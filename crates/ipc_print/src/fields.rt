@@ -23,14 +23,14 @@ use ipc_csv::Dialect;
 use ipc_moments::TextFault;
 use std::alloc::AllocError;
 
-// Whether a field stands in quotes.
+// Whether a field is written in quotes.
 fn needs_quotes(delimiter: u8, field: &[u8]) -> bool
     ensures { result ≡ csv.needs_quotes (writer delimiter) field.now }
 {
     field.iter().any(|byte| *byte == delimiter || matches!(*byte, b'"' | b'\r' | b'\n'))
 }
 
-// Writes a byte that stands between quotes from `at` on, a quote as two, and returns where it ends.
+// Writes a byte of a quoted field from `at` on, a quote as two, and returns where it ends.
 #[tactic(auto, unfolding(csv::specs::Writing::escaped))]
 fn put_between(text: &mut [u8], at: usize, byte: u8) -> usize
     requires { at + 2 ≤ length text.old }
@@ -262,9 +262,9 @@ fn put_long_text(
     put_text_field(text, at, dialect, column, chars)
 }
 
-// Writes a text as a field of CSV from `at` on, and returns where it ends. The caller gives bytes
-// that begin with the text, and how many of them it has: a short text is copied by one load of
-// sixteen, so that no branch hangs on its length. X3 where it is the text of null, other than `\N`.
+// Writes a text as a field of CSV from `at` on, and returns where it ends. The text is the first
+// bytes of those given: a short text is copied by one load of sixteen bytes, without a branch on
+// its length. X3 if it is the text of null, other than `\N`.
 #[inline(always)]
 pub(crate) fn put_front_field(
     text: &mut [u8],
@@ -337,8 +337,8 @@ pub(crate) fn put_bytes_field(
     Ok(put_hexadecimal(text, at, bytes)?)
 }
 
-// Ends a record whose fields are the first `at` bytes, and returns where it ends: a line feed,
-// behind two quotes where nothing stands there.
+// Ends a record whose fields are the first `at` bytes, and returns where it ends: with a line feed,
+// and before it two quotes if the fields are empty.
 pub(crate) fn put_end(text: &mut [u8], at: usize) -> Result<usize, AllocError>
     requires { at ≤ length text.old }
     ensures inside { IfOk result (λ end. end ≤ length text.new) }

@@ -5,14 +5,14 @@ use ipc_json::RowShape;
 /// What is printed of a table.
 #[derive(Clone, Copy, Debug, PartialEq, Eq)]
 pub enum Form<'a> {
-    /// The schema as JSON, and behind the batches how many bytes, batches and rows there are.
+    /// The schema as JSON, and after the batches the numbers of bytes, batches and rows.
     Counts,
     /// Each row as JSON on a line of its own.
     Rows {
         /// Whether a row is an array of its values, or an object with the columns' names as keys.
         shape: RowShape,
-        /// Whether a line with its pairs of key and value stands in front of each batch's rows: a
-        /// JSON object with the one member `metadata`.
+        /// Whether a line with its pairs of key and value precedes each batch's rows: a JSON object
+        /// with the one member `metadata`.
         pairs: bool,
     },
     /// A header and records of CSV, in this dialect.

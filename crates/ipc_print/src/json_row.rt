@@ -16,7 +16,7 @@ ghost use Rattle.ipc_print.specs.LentSlots.{HaveSlot, LeadsTo, list_values, slot
 ghost use Rattle.ipc_print.specs.LentSlots.{values_between};
 ghost use Rattle.ipc_print.specs.RowTexts.{name_text};
 ghost use Rattle.ipc_json.specs.RowJson.{cell_json, int_json, items_json, list_json, printed};
-ghost use Rattle.ipc_json.specs.RowJson.{row_json, row_text, values_json};
+ghost use Rattle.ipc_json.specs.RowJson.{row_text, values_json};
 ghost use Rattle.ipc_json.specs.RowTokens.{closing, opening};
 ghost use Rattle.ipc_json.specs.declared.row.RowShape.{RowShape};
 
@@ -38,7 +38,7 @@ use std::alloc::AllocError;
 // More than a comma and any value but a text or bytes take.
 const ROOM: usize = 64;
 
-// A comma, where something stands before.
+// Writes a comma, unless the item is the first.
 #[inline(always)]
 fn put_comma(text: &mut [u8], at: usize, later: bool) -> usize
     requires { at + 1 ≤ length text.old }
@@ -125,7 +125,7 @@ fn put_bytes(text: &mut [u8], at: usize, bytes: &[u8]) -> Result<usize, AllocErr
     Ok(put(text, at, b"\""))
 }
 
-// Sees to the room of a value, and writes a comma where something stands before it.
+// Reserves room for a value, and writes a comma before it, unless it is the first.
 #[inline(always)]
 fn start_item(text: &mut [u8], start: usize, later: bool) -> Result<usize, AllocError>
     requires { start ≤ length text.old }
@@ -150,8 +150,8 @@ fn put_name(text: &mut [u8], at: usize, name: &[u8]) -> Result<usize, AllocError
     Ok(put(text, end, b":"))
 }
 
-// Sees to the room of a value of a row or a struct, and writes what precedes the value: a comma
-// where something stands before it, and in an object its field's name.
+// Reserves room for a value of a row or a struct, and writes what precedes it: a comma, unless it
+// is the first, and in an object its field's name.
 #[inline(always)]
 fn start_value(
     text: &mut [u8],
@@ -233,7 +233,7 @@ fn put_slot(
     }
 }
 
-// The values of a list, which stand in slots of the first child, by its field's one child.
+// Writes the values of a list, which are slots of its child, by the field's one child.
 #[cycle(slot)]
 fn put_list(
     text: &mut [u8],
@@ -298,7 +298,7 @@ fn put_nulls(text: &mut [u8], start: usize, count: usize) -> Result<usize, Alloc
     put_end(text, at, RowShape::Array)
 }
 
-// What so many slots of a column hold, and the closing bracket.
+// Writes what these slots of a column hold, and the closing bracket.
 #[cycle(slot)]
 fn put_slots(
     text: &mut [u8],
@@ -357,8 +357,8 @@ fn put_struct(
     put_end(text, at, shape)
 }
 
-// What a slot of a row holds, read in a function of its own, so that the loop over the columns
-// carries nothing of it. A text of the column's dictionary is told by its index.
+// Writes what a slot of a row holds. It is a function of its own, so that the loop over the columns
+// stays small. A text of the column's dictionary is found by its index.
 #[inline(never)]
 fn put_other(
     text: &mut [u8],
@@ -481,7 +481,7 @@ fn put_held_text(
     }
 }
 
-// What a slot of a row holds, by the way in which the slots lie: each arm is compiled for its own.
+// Writes what a slot of a row holds, by its layout: each arm is compiled for one layout.
 #[inline(always)]
 fn put_cell(
     text: &mut [u8],

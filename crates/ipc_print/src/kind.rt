@@ -1,10 +1,10 @@
-//! The ways in which slots lie that are read by code of their own.
+//! The layouts that are read by code of their own.
 ghost use Rattle.ipc_print.specs.Kinds.{Lies};
 
 use ipc_model::{IntBits, Layout};
 
-/// How the slots of a column lie, found once for all rows, so that one jump leads to the code that
-/// is compiled for them alone.
+/// The layout of a column's slots, found once for all rows, so that one jump leads to the code that
+/// is compiled for it.
 #[derive(Clone, Copy, Debug, Drop)]
 pub enum Kind {
     /// Signed numbers of 64 bits.

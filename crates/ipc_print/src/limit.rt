@@ -3,7 +3,7 @@ ghost use Rattle.std.specs.Prelude.{◌≡◌, ◌≤◌, ℕ, IsFalse, IsTrue};
 ghost use Rattle.ipc_decode.specs.Counts.{count_up};
 ghost use Rattle.ipc_print.specs.FirstRows.{HasReached, IsBelow, wanted_rows};
 
-/// Whether no more rows are printed, if so many were read. A count of rows stops at 2^64 - 1.
+/// Whether no more rows are printed after `rows` rows. A count of rows stops at 2^64 - 1.
 pub fn has_reached(limit: Option<u64>, rows: u64) -> bool
     ensures reached { IsTrue result → HasReached limit rows }
     ensures below { (count : ℕ) → rows ≡ count_up 0 count → IsFalse result → IsBelow limit count }
@@ -14,8 +14,8 @@ pub fn has_reached(limit: Option<u64>, rows: u64) -> bool
     }
 }
 
-/// How many of a batch's rows are printed, if so many were read before it. A count of rows stops at
-/// 2^64 - 1.
+/// How many of a batch's `rows` rows are printed, if `before` rows came before it. A count of rows
+/// stops at 2^64 - 1.
 pub fn count_wanted(limit: Option<u64>, before: u64, rows: usize) -> usize
     ensures wanted { (count : ℕ) → before ≡ count_up 0 count
         → result ≡ wanted_rows limit count rows }

@@ -107,8 +107,8 @@ pub(crate) fn fitted_line_of(
     }
 }
 
-/// Writes the line of a row behind the first `at` bytes of a buffer, and returns where it ends.
-/// `OutOfMemory` where the buffer is too short.
+/// Writes the line of a row after the first `at` bytes of a buffer, and returns where it ends.
+/// `OutOfMemory` if the buffer is too short.
 pub(crate) fn add_line(
     form: Form<'_>,
     text: &mut [u8],

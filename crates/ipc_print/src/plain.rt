@@ -1,6 +1,5 @@
-//! Texts that are written where each of their bytes stands for itself in JSON, looked at many bytes
-//! at a time as they are copied. A text that is shorter than two looks is covered by two that
-//! overlap.
+//! Copies texts, and finds whether JSON writes each of their bytes as it is, many bytes at a time.
+//! A text that is shorter than two of these steps is covered by two that overlap.
 ghost use Rattle.std.specs.Prelude.{◌≡◌, ◌≤◌, ◌<◌, ◌+◌, ◌++◌, length, take};
 ghost use Rattle.std.specs.Bool.{OnTrue};
 ghost use Rattle.json.specs.Print.{escape};
@@ -141,8 +140,8 @@ fn put_and_look(text: &mut [u8], at: usize, chars: &[u8]) -> bool
     }
 }
 
-/// Writes a text from `at` on, and says whether each of its bytes stands as it is in JSON. Where it
-/// answers false, one may have another form.
+/// Writes a text from `at` on, and returns whether JSON writes each of its bytes as it is. At
+/// false, one of them may have another form.
 #[inline(always)]
 pub fn put_if_plain(text: &mut [u8], at: usize, chars: &[u8]) -> bool
     requires fits { at + length chars.now ≤ length text.old }
@@ -152,7 +151,7 @@ pub fn put_if_plain(text: &mut [u8], at: usize, chars: &[u8]) -> bool
     put_and_look(text, at, chars)
 }
 
-/// Writes sixteen bytes from `at` on, and says whether each of them stands as it is in JSON, and so
+/// Writes sixteen bytes from `at` on, and returns whether JSON writes each of them as it is, and so
 /// each of the first `len`.
 #[inline(always)]
 pub fn put_front_if_plain(text: &mut [u8], at: usize, bytes: &[u8], len: usize) -> bool

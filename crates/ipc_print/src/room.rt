@@ -4,8 +4,7 @@ ghost use Rattle.std.specs.Prelude.{◌≡◌, ◌≤◌, ◌+◌, ◌++◌, len
 use crate::rows::put_word;
 use std::alloc::AllocError;
 
-/// Sees that so many bytes stand from `at` on; what they are means nothing. It refuses where the
-/// buffer ends before.
+/// Checks that the buffer has `count` bytes from `at` on. It fails if the buffer ends before.
 #[inline(always)]
 pub fn reserve(text: &[u8], at: usize, count: usize) -> Result<(), AllocError>
     requires { at ≤ length text.now }

@@ -74,8 +74,8 @@ pub(crate) fn send<W: Sink>(sink: &mut W, text: &[u8]) -> Result<(), PrintFault>
     Ok(())
 }
 
-// Sends the text before `at` on its way where little room is left, and returns the place for what
-// comes next.
+// Sends the text before `at` if little room remains after it, and returns the place for what comes
+// next.
 #[inline(always)]
 fn make_room<W: Sink>(sink: &mut W, text: &[u8], at: usize) -> Result<usize, PrintFault>
     requires at { at ≤ length text.now }
@@ -102,7 +102,7 @@ pub(crate) fn put_word(text: &mut [u8], at: usize, word: &[u8]) -> usize
     at + word.len()
 }
 
-// Adds a text of any length behind the first `start` bytes, and returns where it ends.
+// Adds a text of any length after the first `start` bytes, and returns where it ends.
 fn put_text<W: Sink>(
     sink: &mut W,
     text: &mut [u8],
@@ -184,7 +184,7 @@ fn close_row<W: Sink>(sink: &mut W, text: &mut [u8], start: usize) -> Result<usi
     print_word(sink, text, start, b"]\n")
 }
 
-// Prints the cell of a column, behind a comma where it isn't the first, and returns where it ends.
+// Prints the cell of a column, after a comma if it isn't the first, and returns where it ends.
 #[inline(always)]
 fn print_cell<W: Sink>(
     sink: &mut W,
@@ -299,7 +299,7 @@ pub(crate) fn numbers_of<'a>(
     Ok(Some(columns))
 }
 
-// Prints a number behind a byte from `start` on, and returns where it ends.
+// Prints a byte and a number from `start` on, and returns where it ends.
 #[inline(always)]
 fn print_number<W: Sink>(
     sink: &mut W,
@@ -381,8 +381,8 @@ fn print_long_rows<W: Sink>(
     Ok(at)
 }
 
-// Prints a number from `start` on, behind a delimiter where it isn't the first, and returns where
-// it ends.
+// Prints a number from `start` on, after a delimiter if it isn't the first, and returns where it
+// ends.
 #[inline(always)]
 fn print_next<W: Sink>(
     sink: &mut W,
@@ -558,9 +558,9 @@ impl Lines {
         })
     }
 
-    /// Adds a text. Where it finds no room behind what is kept, that goes to the sink first, and a
-    /// text that is longer than all that is ever kept goes there itself. `Write` is answered where
-    /// the sink failed, and nothing else; then what was kept is lost.
+    /// Adds a text. If it has no room after the kept text, that is sent to the sink first; a text
+    /// longer than the buffer is sent there itself. The only error is `Write`, if the sink failed;
+    /// then the kept text is lost.
     pub fn put<W: Sink>(&mut self, sink: &mut W, text: &[u8]) -> Result<(), PrintFault>
         ensures { PrintsAs (output (W.written sink.old) (W.failures sink.old) self.old)
             (W.written sink.new) (W.failures sink.new) self.new text.now result }

@@ -13,8 +13,8 @@ use crate::rows::{PrintFault, number_at, put_separator, send};
 use ipc_column::Batch;
 use ipc_stream::Sink;
 
-/// Whether so many bytes have room for a row of so many numbers: each has 20 bytes at most, behind
-/// one that stands before it, and may be written by 25.
+/// Whether `bytes` bytes have room for a row of `columns` numbers. Each has 20 bytes at most and
+/// one before it, and may write 25.
 pub(crate) fn has_room(bytes: usize, columns: usize) -> bool
     ensures { IsTrue result → 26 * columns + 2 ≤ bytes }
 {

@@ -38,7 +38,7 @@ impl Tally {
         }
     }
 
-    /// With one batch more, of so many rows.
+    /// With one batch more, of `rows` rows.
     pub fn with_batch(self, rows: usize) -> Tally
         ensures batches { result.batches ≡ count_up self.batches 1 }
         ensures rows { result.rows ≡ count_up self.rows rows }
@@ -50,10 +50,10 @@ impl Tally {
     }
 }
 
-/// How printing a stream behind its schema ended, where all was printed that came before.
+/// How printing a stream after its schema ended, if all that came before was printed.
 #[derive(Clone, Copy, Debug, PartialEq, Eq)]
 pub enum Outcome {
-    /// At the stream's end, behind so many batches and rows.
+    /// At the stream's end, after these numbers of batches and rows.
     Whole(End, Tally),
     /// Where the limit of rows was reached.
     Limited,

@@ -9,7 +9,7 @@ use crate::room::{put, reserve};
 use crate::rows::put_word;
 use std::alloc::AllocError;
 
-// Writes what stands in a text of JSON for a byte from `at` on, and returns where it ends.
+// Writes a byte as JSON writes it in a string, from `at` on, and returns where it ends.
 #[tactic(auto, unfolding(json::specs::Print::escape_byte))]
 fn put_escape(text: &mut [u8], at: usize, byte: u8) -> usize
     requires { at + 6 ≤ length text.old }
@@ -64,7 +64,7 @@ fn put_escaped(text: &mut [u8], at: usize, chars: &[u8]) -> Result<usize, AllocE
     Ok(put(text, end, b"\""))
 }
 
-// Writes a text between two quotation marks, and says whether each of its bytes stands as it is.
+// Writes a text between two quotation marks, and returns whether JSON writes its bytes as they are.
 #[inline(always)]
 fn put_plain(text: &mut [u8], at: usize, chars: &[u8]) -> bool
     requires { at + length chars.now + 2 ≤ length text.old }
@@ -93,8 +93,8 @@ pub fn put_string(text: &mut [u8], at: usize, chars: &[u8]) -> Result<usize, All
     put_escaped(text, at, chars)
 }
 
-// Writes a text of at most sixteen bytes between two quotation marks, told by sixteen bytes from
-// its first on, and says whether each of its bytes stands as it is.
+// Writes a text of at most sixteen bytes between two quotation marks, and returns whether JSON
+// writes its bytes as they are. The text is the first `len` of sixteen bytes.
 #[inline(always)]
 fn put_few_plain(text: &mut [u8], at: usize, bytes: &[u8], len: usize) -> bool
     requires room { at + 18 ≤ length text.old }
@@ -122,9 +122,9 @@ fn put_long_string(text: &mut [u8], at: usize, chars: &[u8]) -> Result<usize, Al
     put_string(text, at, chars)
 }
 
-/// Writes a text of JSON from `at` on, and returns where it ends. The caller gives bytes that begin
-/// with the text, and how many of them it has: a short text is copied by one load of sixteen, so
-/// that no branch hangs on its length.
+/// Writes a text of JSON from `at` on, and returns where it ends. The text is the first `len` bytes
+/// of those given: a short text is copied by one load of sixteen bytes, without a branch on its
+/// length.
 #[inline(always)]
 pub fn put_front(text: &mut [u8], at: usize, bytes: &[u8], len: usize) -> Result<usize, AllocError>
     requires room { at + 18 ≤ length text.old }

@@ -69,13 +69,13 @@ impl<'a> ColumnTree<'a> {
         requires { slot < length (slot_values self.now) }
         ensures value { slice_get (slot_values self.now) slot
             ≡ Some (shown (row (below self.now)) slot result) }
-        // The children have the slots that are told.
+        // The children have the slots that are returned.
         ensures inside { LeadsInside (below self.now) slot result }
     {
         self.slots.at(slot)
     }
 
-    /// The way in which the slots lie.
+    /// The layout of the slots.
     #[inline(always)]
     pub fn kind(&self) -> Kind
         ensures { Lies result self.now.column.layout }
@@ -83,15 +83,15 @@ impl<'a> ColumnTree<'a> {
         self.kind
     }
 
-    /// What a slot holds, as `at` tells it. The caller gives the column's layout, and a slot below
-    /// `len`.
+    /// What a slot holds, as `at` returns it. The caller gives the column's layout, and a slot
+    /// below `len`.
     #[inline(always)]
     pub fn at_layout(&self, layout: Layout, slot: usize) -> Slot<'a>
         requires layout { self.now.column.layout ≡ layout }
         requires slot { slot < length (slot_values self.now) }
         ensures value { slice_get (slot_values self.now) slot
             ≡ Some (shown (row (below self.now)) slot result) }
-        // The children have the slots that are told.
+        // The children have the slots that are returned.
         ensures inside { LeadsInside (below self.now) slot result }
     {
         self.slots.at_layout(layout, slot)
@@ -109,8 +109,8 @@ impl<'a> ColumnTree<'a> {
         self.slots.text_at(slot)
     }
 
-    /// What a slot shows by its index, where it is told so: texts of a dictionary are. The caller
-    /// gives a slot below `len`.
+    /// What a slot shows by its index, if the column has a dictionary of texts. The caller gives a
+    /// slot below `len`.
     #[inline(always)]
     pub fn entry_at(&self, slot: usize) -> Entry<'a>
         requires { slot < length (slot_values self.now) }

@@ -29,7 +29,7 @@ fn word_of(truth: bool) -> u64
     word_at(usize::from(truth))
 }
 
-/// Writes `true` or `false` from `at` on, and returns where it ends. What stands behind the end may
+/// Writes `true` or `false` from `at` on, and returns where it ends. The bytes after the end may
 /// change too, up to `at + 5`.
 #[inline(always)]
 pub(crate) fn put_truth(text: &mut [u8], at: usize, truth: bool) -> usize
