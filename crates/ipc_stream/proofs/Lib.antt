@@ -14,3 +14,4 @@ pub mod BatchSent
 pub mod Chains
 pub mod OverLimit
 pub mod Beginnings
+pub mod Reporting

@@ -9,3 +9,4 @@ pub mod Messages
 pub mod Pushed
 pub mod RoundTrip
 pub mod PushedColumns
+pub mod Progress
