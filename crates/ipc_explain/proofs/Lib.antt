@@ -1,0 +1,4 @@
+pub mod Alone
+pub mod Explaining
+pub mod Fronts
+pub mod Paths

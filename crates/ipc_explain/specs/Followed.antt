@@ -1,0 +1,23 @@
+-- What a recorder keeps after bytes were read.
+use Rattle.std.specs.Prelude.{◌≡◌, ℕ, Bool, true, false, List, [], Option, None, Some}
+use Rattle.ipc_model.specs.declared.limits.Limits.{Limits}
+use Rattle.ipc_frame.specs.Pieces.{taking}
+use Rattle.ipc_explain.specs.declared.recorded.Recorded.{Recorded}
+use Rattle.ipc_explain.specs.Kept.{Keeps}
+
+-- a recorder that is on keeps messages from the beginning of a stream on; one that is off keeps
+-- nothing
+abbrev pub Starts : Limits → Bool → Option Recorded → Type 0
+Starts limits true (Some recorded) = (recorded.limits ≡ limits)
+    × (recorded.frames.progress ≡ taking []) × (recorded.last ≡ None)
+Starts limits true None = ⊥
+Starts limits false recorded = recorded ≡ None
+
+-- what was kept, and is kept after a piece of the stream; nothing is kept any more after memory ran
+-- out
+abbrev pub Follows : Option Recorded → List ℕ → Option Recorded → Type 0
+Follows (Some old) piece (Some new) = (new.limits ≡ old.limits)
+    × Keeps old.limits old.frames.progress old.front.items piece new.frames.progress
+    new.front.items new.last
+Follows (Some old) piece None = Unit {0}
+Follows None piece new = new ≡ None

@@ -1,0 +1,5 @@
+pub mod Explained
+pub mod FieldPaths
+pub mod Followed
+pub mod Formats
+pub mod Kept

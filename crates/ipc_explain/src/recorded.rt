@@ -1,0 +1,95 @@
+//! The message that is being read, or was read last.
+ghost use Rattle.std.specs.Prelude.{◌≡◌, ◌≤◌, ◌++◌, [], length, None, IfOk, IfSome};
+ghost use Rattle.ipc_frame.specs.Pieces.{taking};
+ghost use Rattle.ipc_explain.specs.Kept.{Keeps, KeepsFed, front_of, kept_of};
+
+use ipc_frame::{Frame, Frames};
+use ipc_model::{Fault, Limits};
+use std::alloc::Global;
+
+/// What is kept of a stream: the first bytes of the message that is being read, or the message that
+/// was read last, if no byte of the next one has come.
+#[derive(Drop)]
+pub(crate) struct Recorded {
+    pub(crate) limits: Limits,
+    pub(crate) frames: Frames,
+    pub(crate) front: Vec<u8>,
+    pub(crate) last: Option<Frame>,
+    pub(crate) ghost same_limits: { frames.limits ≡ limits },
+    pub(crate) ghost front_kept: { front.items ≡ kept_of limits frames.progress front.items },
+}
+
+// The first bytes of a message after a piece of it, as far as they are kept, or `None` if memory
+// ran out.
+fn extended(limits: &Limits, front: Vec<u8>, piece: &[u8]) -> Option<Vec<u8>>
+    ensures { IfSome result
+        (λ bytes. bytes.items ≡ front_of limits.now (front.items ++ piece.now)) }
+{
+    let mut front = front;
+    front.extend_from_slice(piece).ok()?;
+    front.truncate(8 + limits.metadata as usize);
+    Some(front)
+}
+
+// What is kept after a piece: the first bytes of the message, and the message that it completes.
+// `None` if memory ran out.
+fn kept_after(
+    limits: &Limits,
+    front: Vec<u8>,
+    piece: &[u8],
+    fed: Result<(usize, Option<Frame>), Fault>,
+) -> Option<(Vec<u8>, Option<Frame>)>
+    requires { IfOk fed (λ taken. taken.0 ≤ length piece.now) }
+    ensures { IfSome result
+        (λ kept. KeepsFed limits.now front.items piece.now kept.0.items kept.1 fed) }
+{
+    match fed {
+        Ok((_, Some(frame))) => {
+            let mut front = front;
+            front.clear();
+            Some((front, Some(frame)))
+        }
+        Ok((taken, None)) => Some((extended(limits, front, &piece[..taken])?, None)),
+        Err(Fault::OutOfMemory) => None,
+        Err(Fault::Failed) => Some((front, None)),
+        Err(_) => Some((extended(limits, front, piece)?, None)),
+    }
+}
+
+impl Recorded {
+    /// Starts at the beginning of a stream.
+    pub(crate) fn new(alloc: Global, limits: Limits) -> Recorded
+        ensures limits { result.limits ≡ limits }
+        ensures progress { result.frames.progress ≡ taking [] }
+        ensures last { result.last ≡ None }
+    {
+        Recorded {
+            limits,
+            frames: Frames::new(alloc, limits),
+            front: Vec::new(alloc),
+            last: None,
+        }
+    }
+
+    /// Takes the bytes that were read next. Returns `None` if memory ran out.
+    pub(crate) fn record(self, piece: &[u8]) -> Option<Recorded>
+        ensures limits { IfSome result (λ next. next.limits ≡ self.limits) }
+        ensures keeps { IfSome result (λ next. Keeps self.limits self.frames.progress
+            self.front.items piece.now next.frames.progress next.front.items next.last) }
+    {
+        let Recorded {
+            limits,
+            mut frames,
+            front,
+            last: _,
+        } = self;
+        let fed = frames.feed(piece);
+        let (front, last) = kept_after(&limits, front, piece, fed)?;
+        Some(Recorded {
+            limits,
+            frames,
+            front,
+            last,
+        })
+    }
+}
