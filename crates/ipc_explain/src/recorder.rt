@@ -20,7 +20,8 @@ pub struct Recorder<R> {
 }
 
 impl<R: Source> Recorder<R> {
-    /// Creates a recorder of a source at the beginning of a stream. It keeps messages only if `on`.
+    /// Creates a recorder of a source at the beginning of a stream. It keeps messages only if `on`,
+    /// and until memory for them runs out; it passes bytes on in any case.
     pub fn new(alloc: Global, limits: Limits, source: R, on: bool) -> Recorder<R>
         ensures source { result.source ≡ source }
         ensures starts { Starts limits on result.recorded }
@@ -41,8 +42,10 @@ impl<R: Source> Recorder<R> {
     ///   the column and of the children on the way to it, and its type (Schema.fbs, union Type).
     ///   Nothing is said if no column alone has the fault, as mostly with F17 to F21.
     ///
-    /// It is on its caller that the fault is that of the message that was read last: a reader that
-    /// is generic in its source does not state it. Errors: `OutOfMemory` only.
+    /// Pass the fault of the message that was read last. No contract compares the two, because a
+    /// reader that is generic in its source does not state which message it read last.
+    ///
+    /// Errors: `OutOfMemory` only.
     pub fn explain(&self, alloc: Global, fault: &Fault, message: u64) -> Result<Vec<u8>, Fault>
         ensures lines { IfOk result
             (λ lines. Explains self.now.recorded fault.now message lines.items) }
