@@ -56,7 +56,7 @@ fn print_job<S: Source, W: Sink>(
     ensures works { exit_status result.0 ≢ 3 → W.failures sink ≡ 0 → W.failures result.2 ≡ 0 }
 {
     let mut sink = sink;
-    let (result, source) = print(alloc, limits, options, input, &mut sink);
+    let (result, source) = print(alloc, limits, options, input, &mut sink, &mut ());
     let result = match result {
         Ok(()) => Ok(()),
         Err(why) => Err(why.into()),
@@ -79,7 +79,15 @@ fn rewrite_job<S: Source, W: Sink>(
     ensures handed_on { OnOk result.0 (W.held_back result.2 ≡ Some []) }
     ensures works { exit_status result.0 ≢ 3 → W.failures sink ≡ 0 → W.failures result.2 ≡ 0 }
 {
-    let (result, source, sink) = rewrite_with_seed(alloc, seed, require_mark, limits, input, sink);
+    let (result, source, sink) = rewrite_with_seed(
+        alloc,
+        seed,
+        require_mark,
+        limits,
+        input,
+        sink,
+        &mut (),
+    );
     let result = match result {
         Ok(()) => Ok(()),
         Err(why) => Err(why.into()),

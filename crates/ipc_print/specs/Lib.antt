@@ -8,6 +8,7 @@ pub mod Kinds
 pub mod Entries
 pub mod Output
 pub mod RowTexts
+pub mod Reporting
 pub mod Rows
 pub mod Streams
 pub mod TreeFalls

@@ -1,14 +1,17 @@
 //! A stream is read, and its rows are printed as they come.
 ghost use Rattle.std.specs.Prelude.{◌≡◌, ◌++◌, ◌∷◌, ℕ, List, [], length, Some, IfErr, IfOk, OnOk};
-ghost use Rattle.std.specs.Prelude.{decimal, None, Ok, false};
+ghost use Rattle.std.specs.Prelude.{decimal, None, Ok, Option, false};
 ghost use Rattle.ipc_decode.specs.Stream.{Denotes};
 ghost use Rattle.ipc_decode.specs.declared.end.End.TheVariants.{Closed, Mark};
 ghost use Rattle.ipc_decode.specs.declared.phase.Phase.TheVariants.{Reading};
+ghost use Rattle.ipc_decode.specs.Reader.{Opens};
+ghost use Rattle.ipc_model.specs.declared.limits.Limits.{Limits};
 ghost use Rattle.ipc_model.specs.declared.table.Table.{Table};
 ghost use Rattle.ipc_csv.specs.RowCsv.{unless_fault};
 ghost use Rattle.ipc_json.specs.SchemaJson.{schema_text};
 ghost use Rattle.ipc_print.specs.Forms.{counts_text, form_fault, front_text};
 ghost use Rattle.ipc_print.specs.Output.{output, PrintsAs};
+ghost use Rattle.ipc_print.specs.Reporting.{ReportsBatches, ReportsOutcome};
 ghost use Rattle.ipc_print.specs.Streams.{AnswersFirst, AnswersTable, IsWhole, Prints, PrintsAll};
 ghost use Rattle.ipc_print.specs.Streams.{PrintsBatches, as_required};
 ghost use Rattle.ipc_print.specs.Streams.{PrintsSome, PrintsStream, ReachesLimit, TellsFailures};
@@ -23,7 +26,7 @@ use ipc_csv::{check_flat, csv_header};
 use ipc_json::schema_json;
 use ipc_model::{Fault, Limits, Schema, WriteFault};
 use ipc_moments::TextFault;
-use ipc_stream::{End, Sink, Source, StreamReader};
+use ipc_stream::{End, Progress, Sink, Source, StreamReader};
 use itoa::Buffer;
 use std::alloc::{AllocError, Global};
 
@@ -43,13 +46,14 @@ fn check_end(end: End, require_mark: bool) -> Result<End, Fault>
 }
 
 // Prints the rows of a stream up to the limit, and tells how that ended. The text of each batch is
-// sent before the next one is read.
-fn print_rows<R: Source, W: Sink>(
+// sent before the next one is read, and the batch is reported then.
+fn print_rows<R: Source, W: Sink, P: Progress>(
     alloc: Global,
     options: PrintOptions<'_>,
     stream: &mut StreamReader<R>,
     lines: &mut Lines,
     sink: &mut W,
+    progress: &mut P,
 ) -> Result<Outcome, PrintFault>
     requires reading { stream.old.phase ≡ Reading }
     requires fits { form_fault options.form stream.old.schema.fields ≡ None }
@@ -59,6 +63,9 @@ fn print_rows<R: Source, W: Sink>(
     ensures prints { PrintsBatches options.entry [] stream.old stream.new
         (output (W.written sink.old) (W.failures sink.old) lines.old)
         (output (W.written sink.new) (W.failures sink.new) lines.new) result }
+    ensures reports { (limits : Limits) (start : Option (List ℕ)) → Opens limits start stream.old
+        → ReportsOutcome limits start stream.new.remaining (P.told progress.old)
+        (P.told progress.new) result }
 {
     let form = options.form;
     let mut tally = Tally::none();
@@ -76,6 +83,7 @@ fn print_rows<R: Source, W: Sink>(
                 }
                 lines.flush(sink)?;
                 tally = tally.with_batch(batch.rows());
+                progress.batch_done(stream.taken(), tally.batches, tally.rows);
                 stream.reuse(batch);
             }
             // The reader has an end now, so none is made up.
@@ -178,11 +186,12 @@ pub(crate) fn print_front<W: Sink>(
 
 // Prints a stream behind its schema. The text in front of the rows is sent before the first batch
 // is read, and what comes before a fault before that is returned.
-fn print_stream<R: Source, W: Sink>(
+fn print_stream<R: Source, W: Sink, P: Progress>(
     alloc: Global,
     options: PrintOptions<'_>,
     stream: &mut StreamReader<R>,
     sink: &mut W,
+    progress: &mut P,
 ) -> Result<Outcome, PrintFault>
     requires reading { stream.old.phase ≡ Reading }
     requires fits { form_fault options.form stream.old.schema.fields ≡ None }
@@ -192,11 +201,14 @@ fn print_stream<R: Source, W: Sink>(
         stream.old
         stream.new (output (W.written sink.old) (W.failures sink.old) [])
         (output (W.written sink.new) (W.failures sink.new) []) result }
+    ensures reports { (limits : Limits) (start : Option (List ℕ)) → Opens limits start stream.old
+        → ReportsOutcome limits start stream.new.remaining (P.told progress.old)
+        (P.told progress.new) result }
 {
     let mut lines = Lines::new(alloc)?;
     print_front(alloc, options.form, stream.schema(), &mut lines, sink)?;
     lines.flush(sink)?;
-    let outcome = print_rows(alloc, options, stream, &mut lines, sink)?;
+    let outcome = print_rows(alloc, options, stream, &mut lines, sink, progress)?;
     print_tail(
         alloc,
         options.form,
@@ -230,11 +242,13 @@ pub(crate) fn write_fault_of(fault: PrintFault) -> WriteFault
 }
 
 // Prints a stream whose schema was read.
-fn print_open<R: Source, W: Sink>(
+#[tactic(auto, using(crate::proofs::Reporting::none_reported))]
+fn print_open<R: Source, W: Sink, P: Progress>(
     alloc: Global,
     options: PrintOptions<'_>,
     stream: &mut StreamReader<R>,
     sink: &mut W,
+    progress: &mut P,
 ) -> Result<(), Stop>
     requires { stream.old.phase ≡ Reading }
     ensures handed_on { OnOk result (W.held_back sink.new ≡ Some []) }
@@ -243,12 +257,16 @@ fn print_open<R: Source, W: Sink>(
         (output (W.written sink.new) (W.failures sink.new) []) result }
     ensures devices { stream.old.failures ≡ 0 → TellsFailures stream.old.failures
         stream.new.failures (W.failures sink.old) (W.failures sink.new) result }
+    ensures reports { (limits : Limits) (start : Option (List ℕ)) → Opens limits start stream.old
+        → ReportsBatches limits start stream.new.remaining (P.told progress.old)
+        (P.told progress.new) result }
 {
     if let Err(fault) = check_form(options.form, stream.schema()) {
         return Err(Stop::Text(fault));
     }
-    match print_stream(alloc, options, stream, sink) {
-        Ok(Outcome::Whole(..) | Outcome::Limited) => Ok(()),
+    match print_stream(alloc, options, stream, sink, progress) {
+        Ok(Outcome::Whole(..)) => Ok(()),
+        Ok(Outcome::Limited) => Ok(()),
         Ok(Outcome::Broken(fault)) => Err(Stop::Read(fault, stream.messages())),
         Ok(Outcome::Refused(fault)) => Err(Stop::Text(fault)),
         Err(fault) => Err(Stop::Write(write_fault_of(fault))),
@@ -260,7 +278,8 @@ fn print_open<R: Source, W: Sink>(
 /// end-of-stream mark is read. At Ok the sink was flushed.
 ///
 /// The text of the schema and of each batch is written, and the sink is flushed, before the next
-/// batch is read. A batch takes one write for each 64 KiB of its text, and at least one.
+/// batch is read. A batch takes one write for each 64 KiB of its text, and at least one. After each
+/// batch that was printed, `progress` is called once; `()` ignores it.
 ///
 /// With a limit of rows, printing ends with Ok at the last of them. The batch that has it is read
 /// whole, and no message after it; at limit 0 only the schema is read. No end-of-stream mark is
@@ -274,12 +293,13 @@ fn print_open<R: Source, W: Sink>(
 ///   at the message after the last one.
 /// - `Text`: the columns or a row have no text in this form, or memory ran out in making one.
 /// - `Write`: the sink failed, also if the source failed before it, or memory ran out in writing.
-pub fn print<R: Source, W: Sink>(
+pub fn print<R: Source, W: Sink, P: Progress>(
     alloc: Global,
     limits: Limits,
     options: PrintOptions<'_>,
     source: R,
     sink: &mut W,
+    progress: &mut P,
 ) -> (Result<(), Stop>, R)
     // At Ok the sink holds nothing back.
     ensures handed_on { OnOk result.0 (W.held_back sink.new ≡ Some []) }
@@ -317,11 +337,16 @@ pub fn print<R: Source, W: Sink>(
         → ReachesLimit options.entry limits x t → R.failures result.1 ≡ 0
         → AnswersFirst options.entry t x (R.remaining source) (R.remaining result.1)
         (W.written sink.old) (W.written sink.new) result.0 }
+    // Each batch that was read was reported once, in order, with the bytes taken up to it, and the
+    // batches and rows so far. At `Text` and `Write` the last one may have no report. That a report
+    // comes after the text of its batch is not stated.
+    ensures reports { ReportsBatches limits (R.remaining source) (R.remaining result.1)
+        (P.told progress.old) (P.told progress.new) result.0 }
 {
     match StreamReader::open(alloc, limits, source) {
         Ok(stream) => {
             let mut stream = stream;
-            let result = print_open(alloc, options, &mut stream, sink);
+            let result = print_open(alloc, options, &mut stream, sink, progress);
             (result, stream.into_inner())
         }
         Err((fault, source)) => (Err(Stop::Read(fault, 0)), source),

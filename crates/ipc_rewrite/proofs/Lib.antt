@@ -3,3 +3,4 @@ pub mod Batches
 pub mod Pushing
 pub mod Complete
 pub mod Whole
+pub mod Reporting

@@ -1,3 +1,4 @@
 pub mod LentRows
 pub mod Raised
+pub mod Reporting
 pub mod Rewriting

@@ -15,6 +15,7 @@ ghost use Rattle.ipc_stream.specs.Writing.{AcceptsBatch, CutShort};
 ghost use Rattle.ipc_stream.specs.Writing.{RefusesBatch, Sends, Sent};
 ghost use Rattle.ipc_rewrite.specs.declared.stop.Stop.TheVariants.{Write};
 ghost use Rattle.ipc_rewrite.specs.Raised.{raised_of};
+ghost use Rattle.ipc_rewrite.specs.Reporting.{ReportsBatches};
 ghost use Rattle.ipc_rewrite.specs.Rewriting.{AnswersTable, CopiesBatches, Rewrites, as_required};
 ghost use Rattle.ipc_rewrite.specs.Rewriting.{TellsFailures};
 
@@ -22,7 +23,9 @@ use crate::limits::raised;
 use crate::rows::{columns_of, read_row};
 use crate::stop::Stop;
 use ipc_model::{Fault, Items, Limits, Schema, Text, Value, WriteFault};
-use ipc_stream::{Batch, BatchWriter, End, Seed, Sink, Source, StreamReader, StreamWriter};
+use ipc_stream::{
+    Batch, BatchWriter, End, Progress, Seed, Sink, Source, StreamReader, StreamWriter,
+};
 use std::alloc::Global;
 
 // Pushes the rows of a batch: all at once straight from its columns, where these are plain, or else
@@ -104,14 +107,15 @@ fn check_end(end: End, require_mark: bool) -> Result<End, Fault>
     }
 }
 
-// Writes each batch that is read, to the end of the stream, which is F4 if it is not the mark that
-// is required.
+// Writes each batch that is read, and reports it then, to the end of the stream, which is F4 if it
+// is not the mark that is required.
 #[tactic(auto, using(crate::proofs::Batches::copied_none, crate::proofs::Batches::copied_more))]
-fn copy_batches<R: Source, W: Sink>(
+fn copy_batches<R: Source, W: Sink, P: Progress>(
     alloc: Global,
     require_mark: bool,
     stream: &mut StreamReader<R>,
     writer: &mut StreamWriter<W>,
+    progress: &mut P,
 ) -> Result<(), Stop>
     requires reading { stream.old.phase ≡ Reading }
     requires source { stream.old.failures ≡ 0 }
@@ -123,11 +127,21 @@ fn copy_batches<R: Source, W: Sink>(
     ensures works { OnOk result (writer.new.failed ≡ false) }
     ensures devices { TellsFailures stream.old.failures stream.new.failures writer.old.failures
         writer.new.failures result }
+    ensures reports { (limits : Limits) (start : Option (List ℕ)) → Opens limits start stream.old
+        → ReportsBatches limits start stream.new.remaining (P.told progress.old)
+        (P.told progress.new) result }
 {
     let mut row = Vec::new(alloc);
+    let mut batches: u64 = 0;
+    let mut rows: u64 = 0;
     loop {
         match stream.next() {
-            Ok(Some((batch, pairs))) => copy_batch(alloc, &batch, pairs, &mut row, writer)?,
+            Ok(Some((batch, pairs))) => {
+                copy_batch(alloc, &batch, pairs, &mut row, writer)?;
+                batches = batches.saturating_add(1);
+                rows = rows.saturating_add(batch.rows() as u64);
+                progress.batch_done(stream.taken(), batches, rows);
+            }
             // The reader has an end now, so none is made up.
             Ok(None) => match check_end(stream.end().unwrap_or(End::Closed), require_mark) {
                 Ok(_) => return Ok(()),
@@ -174,12 +188,13 @@ fn end_stream<W: Sink>(writer: StreamWriter<W>) -> (Result<(), Stop>, W)
 }
 
 // Writes a stream whose schema was read, and gives the sink back.
-fn copy_stream<R: Source, W: Sink>(
+fn copy_stream<R: Source, W: Sink, P: Progress>(
     alloc: Global,
     seed: Seed,
     require_mark: bool,
     stream: &mut StreamReader<R>,
     sink: W,
+    progress: &mut P,
 ) -> (Result<(), Stop>, W)
     requires reading { stream.old.phase ≡ Reading }
     requires source { stream.old.failures ≡ 0 }
@@ -189,12 +204,15 @@ fn copy_stream<R: Source, W: Sink>(
     ensures handed_on { OnOk result.0 (W.held_back result.1 ≡ Some []) }
     ensures devices { TellsFailures stream.old.failures stream.new.failures (W.failures sink)
         (W.failures result.1) result.0 }
+    ensures reports { (limits : Limits) (start : Option (List ℕ)) → Opens limits start stream.old
+        → ReportsBatches limits start stream.new.remaining (P.told progress.old)
+        (P.told progress.new) result.0 }
 {
     let mut writer = match begin_stream(alloc, seed, &stream.limits(), sink, stream.schema()) {
         Ok(writer) => writer,
         Err((fault, sink)) => return (Err(Stop::Write(fault)), sink),
     };
-    match copy_batches(alloc, require_mark, stream, &mut writer) {
+    match copy_batches(alloc, require_mark, stream, &mut writer, progress) {
         Ok(()) => end_stream(writer),
         Err(stop) => (Err(stop), writer.into_inner()),
     }
@@ -207,7 +225,8 @@ fn copy_stream<R: Source, W: Sink>(
 /// The schema's message is sent as soon as it is read. Each batch is sent with its pairs and rows,
 /// after the dictionaries that it needs, before the next one is read. One batch is kept at a time,
 /// and of each dictionary the values that were sent. Hashes use `Seed::Fixed`. What is read is
-/// within `limits`, and what is written is within `raised(limits)`.
+/// within `limits`, and what is written is within `raised(limits)`. After each batch that was
+/// written, `progress` is called once; `()` ignores it.
 ///
 /// Errors, after which the bytes that were written remain written:
 ///
@@ -216,11 +235,12 @@ fn copy_stream<R: Source, W: Sink>(
 /// - `Stop::Write`: what was read is refused, as in `StreamWriter`, with W1 to W9 or W11. A null in
 ///   a field that is not nullable is read, and refused with W5. W11 also comes if memory for the
 ///   rows of a batch ran out.
-pub fn rewrite<R: Source, W: Sink>(
+pub fn rewrite<R: Source, W: Sink, P: Progress>(
     alloc: Global,
     limits: Limits,
     source: R,
     sink: W,
+    progress: &mut P,
 ) -> (Result<(), Stop>, R, W)
     // At Ok what was taken denotes a table, and what was sent is that table with the mark. At a
     // fault, why reading or writing broke off there, and the messages that were sent before.
@@ -244,8 +264,13 @@ pub fn rewrite<R: Source, W: Sink>(
         → R.remaining source ≡ Some x → Denotes limits x t Closed → R.failures result.1 ≡ 0
         → AnswersTable (raised_of limits) t (W.written sink) (W.written result.2)
         (W.failures sink) (W.failures result.2) result.0 }
+    // Each batch that was read was reported once, in order, with the bytes taken up to it, and the
+    // batches and rows so far. At `Write` the last one may have no report. That a report comes
+    // after the messages of its batch is not stated.
+    ensures reports { ReportsBatches limits (R.remaining source) (R.remaining result.1)
+        (P.told progress.old) (P.told progress.new) result.0 }
 {
-    rewrite_with_seed(alloc, Seed::Fixed, false, limits, source, sink)
+    rewrite_with_seed(alloc, Seed::Fixed, false, limits, source, sink, progress)
 }
 
 /// Rewrites a stream as `rewrite` does, but hashes the values of dictionaries with this seed.
@@ -253,13 +278,14 @@ pub fn rewrite<R: Source, W: Sink>(
 ///
 /// With `require_mark`, a stream that ends without the end-of-stream mark is refused with F4 and
 /// the number of the message after its last one. Its batches were sent then, and no mark.
-pub fn rewrite_with_seed<R: Source, W: Sink>(
+pub fn rewrite_with_seed<R: Source, W: Sink, P: Progress>(
     alloc: Global,
     seed: Seed,
     require_mark: bool,
     limits: Limits,
     source: R,
     sink: W,
+    progress: &mut P,
 ) -> (Result<(), Stop>, R, W)
     // At Ok what was taken denotes a table, with its mark if that is required, and what was sent is
     // that table with the mark. At a fault, why reading or writing broke off there, and the
@@ -284,11 +310,23 @@ pub fn rewrite_with_seed<R: Source, W: Sink>(
         → R.remaining source ≡ Some x → Denotes limits x t Closed → R.failures result.1 ≡ 0
         → AnswersTable (raised_of limits) t (W.written sink) (W.written result.2)
         (W.failures sink) (W.failures result.2) result.0 }
+    // Each batch that was read was reported once, in order, with the bytes taken up to it, and the
+    // batches and rows so far. At `Write` the last one may have no report. That a report comes
+    // after the messages of its batch is not stated.
+    ensures reports { ReportsBatches limits (R.remaining source) (R.remaining result.1)
+        (P.told progress.old) (P.told progress.new) result.0 }
 {
     match StreamReader::open(alloc, limits, source) {
         Ok(stream) => {
             let mut stream = stream;
-            let (result, sink) = copy_stream(alloc, seed, require_mark, &mut stream, sink);
+            let (result, sink) = copy_stream(
+                alloc,
+                seed,
+                require_mark,
+                &mut stream,
+                sink,
+                progress,
+            );
             (result, stream.into_inner(), sink)
         }
         Err((fault, source)) => (Err(Stop::Read(fault, 0)), source, sink),

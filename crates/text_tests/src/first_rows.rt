@@ -79,7 +79,14 @@ fn is_printed(alloc: Global, stream: &[u8], case: Case) -> Result<bool, AllocErr
     };
     let source = Memory::new(Vec::from_slice(alloc, stream)?);
     let mut sink = Memory::new(Vec::new(alloc));
-    let (result, source) = print(alloc, Limits::standard(), options, source, &mut sink);
+    let (result, source) = print(
+        alloc,
+        Limits::standard(),
+        options,
+        source,
+        &mut sink,
+        &mut (),
+    );
     let is_text = sink.into_bytes().as_slice() == wanted.as_bytes();
     Ok(result.is_ok() && is_text && source.unread().len() == unread)
 }

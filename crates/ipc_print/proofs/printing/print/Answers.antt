@@ -1,4 +1,5 @@
-use Rattle.std.proofs.Common.{◌∙◌, sym, None, Err}
+use Rattle.std.proofs.Common.{◌∙◌, sym, inl, None, Err}
+use Rattle.ipc_stream.proofs.Reporting.{unopened_to}
 use Rattle.ipc_print.specs.declared.stop.Stop.TheVariants.{Read}
 use Rattle.ipc_print.proofs.Held.{printed_closed, printed_marked, stream_tells}
 use Rattle.ipc_print.proofs.Limited.{printed_first}
@@ -57,3 +58,10 @@ pub returns-in-Err-clause-limited : goal.returns-in-Err-clause-limited
 returns-in-Err-clause-limited g c = λ x rest t is h none.
     printed_first c.args.options _ _ None None _ _ none (Err (Read c.in-Err.fault 0)) c.in-Err.ensures.failures
     (prints_none c.args.options _ _ None c.in-Err.fault c.in-Err.ensures.refused) x rest t is h
+
+pub returns-in-Ok-clause-reports : goal.returns-in-Ok-clause-reports
+returns-in-Ok-clause-reports g c =
+    rw c.into_inner.ensures.remaining (c.print_open-result.ensures.reports _ _ c.in-Ok.ensures.opened)
+
+pub returns-in-Err-clause-reports : goal.returns-in-Err-clause-reports
+returns-in-Err-clause-reports g c = inl (unopened_to _ _ c.in-Err.fault _ c.in-Err.ensures.refused)

@@ -1,8 +1,10 @@
 use Rattle.std.proofs.Common.{Ok, Err, refl}
 use Rattle.std.proofs.lemmas.Result.{err_from_is_err_and}
+use Rattle.ipc_stream.proofs.Reporting.{opened_some}
 use Rattle.ipc_print.specs.Output.{output}
 use Rattle.ipc_print.proofs.Endings.{behind_front, flushed, unflushed, tail_cut}
 use Rattle.ipc_print.proofs.FrontPuts.{part_none, part_front, front_sent, front_unsent}
+use Rattle.ipc_print.proofs.Reporting.{outcome_some}
 use Rattle.ipc_print.proofs.printing.print_stream.Goals as goal
 
 pub returns-in_err-lines-clause-prints : goal.returns-in_err-lines-clause-prints
@@ -73,3 +75,36 @@ returns-clause-prints g c =
     (output (g.W.Sink.written c.print_rows.new.sink) (g.W.Sink.failures c.print_rows.new.sink) c.print_rows.new.lines)
     c.in_ok-outcome.outcome _ _ refl prints
     (rw c.taken.ensures at c.in_ok-print_tail.ensures.puts) c.in_ok-flush-2.ensures.puts
+
+pub returns-in_err-lines-clause-reports : goal.returns-in_err-lines-clause-reports
+returns-in_err-lines-clause-reports g c = λ limits start o.
+    let p = err_from_is_err_and c.from_residual.result c.from_residual.ensures.1 in
+    rw p.1 (opened_some start _ _ o)
+
+pub returns-in_err-print_front-clause-reports : goal.returns-in_err-print_front-clause-reports
+returns-in_err-print_front-clause-reports g c = λ limits start o.
+    let p = err_from_is_err_and c.from_residual-in_err-print_front.result c.from_residual-in_err-print_front.ensures.1 in
+    rw p.1 (opened_some start _ _ o)
+
+pub returns-in_err-flush-clause-reports : goal.returns-in_err-flush-clause-reports
+returns-in_err-flush-clause-reports g c = λ limits start o.
+    let p = err_from_is_err_and c.from_residual-in_err-flush.result c.from_residual-in_err-flush.ensures.1 in
+    rw p.1 (opened_some start _ _ o)
+
+pub returns-in_err-outcome-clause-reports : goal.returns-in_err-outcome-clause-reports
+returns-in_err-outcome-clause-reports g c = λ limits start o.
+    let p = err_from_is_err_and c.from_residual-in_err-outcome.result c.from_residual-in_err-outcome.ensures.1 in
+    rw p.1 (c.in_err-outcome.ensures.reports limits start o)
+
+pub returns-in_err-print_tail-clause-reports : goal.returns-in_err-print_tail-clause-reports
+returns-in_err-print_tail-clause-reports g c = λ limits start o.
+    let p = err_from_is_err_and c.from_residual-in_err-print_tail.result c.from_residual-in_err-print_tail.ensures.1 in
+    rw p.1 (outcome_some start _ _ _ c.in_ok-outcome.outcome (c.in_ok-outcome.ensures.reports limits start o))
+
+pub returns-in_err-flush-2-clause-reports : goal.returns-in_err-flush-2-clause-reports
+returns-in_err-flush-2-clause-reports g c = λ limits start o.
+    let p = err_from_is_err_and c.from_residual-in_err-flush-2.result c.from_residual-in_err-flush-2.ensures.1 in
+    rw p.1 (outcome_some start _ _ _ c.in_ok-outcome.outcome (c.in_ok-outcome.ensures.reports limits start o))
+
+pub returns-clause-reports : goal.returns-clause-reports
+returns-clause-reports g c = λ limits start o. c.in_ok-outcome.ensures.reports limits start o

@@ -1,4 +1,5 @@
-use Rattle.std.proofs.Common.{◌∙◌, refl, sym, Err}
+use Rattle.std.proofs.Common.{◌∙◌, refl, sym, inl, Err}
+use Rattle.ipc_stream.proofs.Reporting.{unopened_to}
 use Rattle.ipc_rewrite.specs.declared.stop.Stop.TheVariants as stop
 use Rattle.ipc_rewrite.proofs.Complete.{answered_marked, answered_closed}
 use Rattle.ipc_rewrite.proofs.Whole.{none_read}
@@ -28,3 +29,10 @@ returns-in-Err-clause-closed g c = λ x t free is d none.
     answered_closed c.args.require_mark _ _ (g.W.Sink.written c.args.sink) (g.W.Sink.written c.args.sink) _ _
     (g.W.Sink.failures c.args.sink) (g.W.Sink.failures c.args.sink) (Err (stop.Read c.in-Err.fault 0)) (c.in-Err.ensures.failures, refl)
     (none_read c.args.require_mark _ _ _ _ _ c.in-Err.ensures.refused) none x t free is d
+
+pub returns-in-Ok-clause-reports : goal.returns-in-Ok-clause-reports
+returns-in-Ok-clause-reports g c =
+    rw c.into_inner.ensures.remaining (c.copy_stream-result.ensures.reports _ _ c.in-Ok.ensures.opened)
+
+pub returns-in-Err-clause-reports : goal.returns-in-Err-clause-reports
+returns-in-Err-clause-reports g c = inl (unopened_to _ _ c.in-Err.fault _ c.in-Err.ensures.refused)
