@@ -73,6 +73,7 @@ abbrev pub stop_of_csv : CsvStop → Stop
 stop_of_csv from_csv.Input = stop.Input
 stop_of_csv (from_csv.Write fault) = stop.Write fault
 stop_of_csv (from_csv.Text fault) = stop.Text fault
+stop_of_csv (from_csv.Record fault refused) = stop.Text fault
 
 -- a result with its reason for stopping as the job's
 abbrev pub lifted : {A : Type 0} → (A → Stop) → Result ⊤ A → Result ⊤ Stop

@@ -3,6 +3,7 @@
 
 mod command_line;
 mod csv_dialect;
+mod explain;
 mod line;
 mod running;
 mod schema_file;

@@ -67,6 +67,7 @@ impl From<ipc_from_csv::Stop> for Stop {
             ipc_from_csv::Stop::Input => Stop::Input,
             ipc_from_csv::Stop::Write(fault) => Stop::Write(fault),
             ipc_from_csv::Stop::Text(fault) => Stop::Text(fault),
+            ipc_from_csv::Stop::Record { fault, refused: _refused } => Stop::Text(fault),
         }
     }
 }

@@ -6,12 +6,14 @@ use Rattle.std.proofs.Math.Nat.{eq-or-lt_of_le}
 use Rattle.std.proofs.Math.Seq.{get_or-append_seam, take-append_seam}
 use Rattle.std.proofs.lemmas.Bool.{false≢true}
 use Rattle.std.proofs.lemmas.List.{append-nil, length_push}
+use Rattle.csv.specs.Records.{Row, fields_of}
 use Rattle.ipc_model.specs.declared.fault.WriteFault.{WriteFault}
 use Rattle.ipc_model.specs.declared.fault.WriteFault.TheVariants as w
 use Rattle.ipc_model.specs.declared.limits.Limits.{Limits}
 use Rattle.ipc_model.specs.declared.schema.Schema.{Schema}
 use Rattle.ipc_model.specs.declared.table.BatchRows.{BatchRows}
 use Rattle.ipc_model.specs.declared.value.Value.{Value}
+use Rattle.ipc_moments.specs.declared.fault.TextFault.TheVariants as x
 use Rattle.ipc_stream.specs.Pushed.{RefusesHeld, StaysAt, no_rows}
 use Rattle.ipc_stream.specs.Dictionaries.{SendsBatch, SendsTable, kept_after, none_sent}
 use Rattle.ipc_stream.specs.Writer.{Leaves, LeavesBatch, Writer}
@@ -22,11 +24,13 @@ use Rattle.ipc_stream.proofs.TablesWritten as tables
 use Rattle.ipc_csv.specs.RowCsv.{names}
 use Rattle.ipc_from_csv.specs.Batches.{batch_of, last_batch}
 use Rattle.ipc_from_csv.specs.Conversion.{AreAccepted, IsOfLengths, SendsFull, StopsBehind, StopsFor, StopsWriting, table_of}
-use Rattle.ipc_from_csv.specs.Conversion.{in_record, exhausted_behind, behind}
+use Rattle.ipc_from_csv.specs.Conversion.{as_row, exhausted_behind, behind}
 use Rattle.ipc_from_csv.specs.Records.{AreRecordsOf}
 use Rattle.ipc_from_csv.specs.Steps.{Came, IsOut, RefusesNext}
 use Rattle.ipc_from_csv.specs.declared.rows.RowReader.{RowReader}
-use Rattle.ipc_from_csv.specs.declared.stop.Stop.{Stop}
+use Rattle.ipc_from_csv.specs.Stops.{stop_of}
+use Rattle.ipc_from_csv.specs.declared.stop.NoRow.{NoRow}
+use Rattle.ipc_from_csv.specs.declared.stop.NoRow.TheVariants as none
 use Rattle.ipc_from_csv.proofs.Reading.{are_first}
 use Rattle.ipc_from_csv.proofs.Sending.{all_accepted, as_out, came_before, came_fill, came_filled}
 use Rattle.ipc_csv.specs.declared.dialect.Dialect.{Dialect}
@@ -173,20 +177,16 @@ module _ (d : Dialect) {R : Type 0} (remaining : R → Option (List ℕ)) (input
     }
 
     -- a conversion stops where no next row is read
-    pub next_stops : (why : Stop) → RefusesNext d input s came.records why
-        → StopsFor d input s size old writer.written failures writer.failures why
-    next_stops why (inl is) =
-        subst (λ z. StopsFor d input s size old writer.written failures writer.failures z) (sym is) (behind stops_here)
-    next_stops why (inr (inl is)) =
-        subst (λ z. StopsFor d input s size old writer.written failures writer.failures z) (sym is) (exhausted_behind refl stops_here)
-    next_stops why (inr (inr (texts, fault, is, there, cause))) =
-        subst (λ z. StopsFor d input s size old writer.written failures writer.failures z) (sym is) (in_record (record {
-          before = came.records;
-          texts = texts;
-          there = there;
-          cause = cause;
-          sent = full_sent;
-        }))
+    pub next_stops : (why : NoRow) (refused : Row) → RefusesNext d input s came.records (fields_of refused) why
+        → StopsFor d input s size old writer.written failures writer.failures (stop_of why refused)
+    next_stops none.Input refused refuses = behind stops_here
+    next_stops (none.Text x.OutOfMemory) refused refuses = exhausted_behind refl stops_here
+    next_stops (none.Text x.NotFlat) refused refuses = as_row came.records refuses.0 refuses.1 full_sent
+    next_stops (none.Text x.NoColumns) refused refuses = as_row came.records refuses.0 refuses.1 full_sent
+    next_stops (none.Text (x.NoTextForm column)) refused refuses = as_row came.records refuses.0 refuses.1 full_sent
+    next_stops (none.Text (x.BadField number column)) refused refuses = as_row came.records refuses.0 refuses.1 full_sent
+    next_stops (none.Text (x.WrongFieldCount number)) refused refuses = as_row came.records refuses.0 refuses.1 full_sent
+    next_stops (none.Text x.BadSchemaJson) refused refuses = as_row came.records refuses.0 refuses.1 full_sent
 
   -- ---- the batch is refused
 

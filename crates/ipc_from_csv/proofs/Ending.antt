@@ -22,7 +22,7 @@ use Rattle.ipc_stream.proofs.Chains.{table_tells}
 use Rattle.ipc_stream.proofs.TablesWritten as tables
 use Rattle.ipc_csv.specs.RowCsv.{flat_fault, names}
 use Rattle.ipc_from_csv.specs.Batches.{batch_of, last_batch}
-use Rattle.ipc_from_csv.specs.Conversion.{Answers, AnswersHeader, Converts, StopsFor, StopsWriting, before, in_header, table_of}
+use Rattle.ipc_from_csv.specs.Conversion.{Answers, AnswersHeader, Converts, StopsFor, StopsWriting, as_header, before, in_header, table_of}
 use Rattle.ipc_from_csv.specs.Records.{AreRecordsOf, Stands}
 use Rattle.ipc_from_csv.specs.Steps.{Came, HoldsLast, IsOut, SendsAll, SendsBatch}
 use Rattle.ipc_from_csv.specs.declared.rows.RowReader.{RowReader}
@@ -198,6 +198,7 @@ pub header_stops : (d : Dialect) {R : Type 0} (remaining : R → Option (List �
     → StopsFor d input s size old old failures failures why
 header_stops d remaining input s size old failures reader stop.Input answers = before answers (refl, refl)
 header_stops d remaining input s size old failures reader (stop.Text fault) answers = in_header answers (refl, refl)
+header_stops d remaining input s size old failures reader (stop.Record fault refused) answers = as_header answers.0 answers.1 (refl, refl)
 header_stops d remaining input s size old failures reader (stop.Write fault) answers = absurd answers
 
 -- the same, where the reader says what the bytes are of

@@ -3,12 +3,14 @@ use Rattle.std.proofs.Common.{◌≡◌, sym, subst, refl, ap, ℕ, ◌+◌, Lis
 use Rattle.std.specs.Prelude.{true, ⊤, IfErr, OnOk}
 use Rattle.std.specs.Io.KnownBytes.{Keeps}
 use Rattle.std.proofs.lemmas.List.{length_push}
+use Rattle.csv.specs.Records.{Row}
 use Rattle.csv.specs.declared.reader.Reader.{Reader}
 use Rattle.ipc_model.specs.declared.schema.Schema.{Schema}
 use Rattle.ipc_model.specs.declared.value.Value.{Value}
 use Rattle.ipc_csv.specs.CsvRows.{RecordReadsAs}
 use Rattle.ipc_csv.specs.RowCsv.{flat_fault, names, unless_fault}
 use Rattle.ipc_moments.specs.declared.fault.TextFault.{TextFault}
+use Rattle.ipc_moments.specs.declared.fault.TextFault.TheVariants as x
 use Rattle.ipc_from_csv.specs.Conversion.{Answers, Converts, StopsFor}
 use Rattle.ipc_from_csv.specs.Stops.{TellsInput, TellsNext, stop_of}
 use Rattle.ipc_from_csv.specs.declared.stop.NoRow.{NoRow}
@@ -57,10 +59,16 @@ stands_kept d remaining (Some xs) None reader same stands = absurd same
 stands_kept d remaining (Some xs) (Some ys) reader same stands = subst (λ bytes. Stands d remaining (Some bytes) [] reader) same stands
 
 -- why no row is read tells of the source what the stop does
-pub told_next : (failures : ℕ) (why : NoRow) → TellsNext failures (let r : Result ⊤ NoRow = Err why in r)
-    → TellsInput failures (let r : Result ⊤ Stop = Err (stop_of why) in r)
-told_next failures none.Input tells = tells
-told_next failures (none.Text fault) tells = tells
+pub told_next : (failures : ℕ) (why : NoRow) (refused : Row) → TellsNext failures (let r : Result ⊤ NoRow = Err why in r)
+    → TellsInput failures (let r : Result ⊤ Stop = Err (stop_of why refused) in r)
+told_next failures none.Input refused tells = tells
+told_next failures (none.Text x.OutOfMemory) refused tells = tells
+told_next failures (none.Text x.NotFlat) refused tells = tells
+told_next failures (none.Text x.NoColumns) refused tells = tells
+told_next failures (none.Text (x.NoTextForm column)) refused tells = tells
+told_next failures (none.Text (x.BadField number column)) refused tells = tells
+told_next failures (none.Text (x.WrongFieldCount number)) refused tells = tells
+told_next failures (none.Text x.BadSchemaJson) refused tells = tells
 
 -- what is answered of the whole conversion, at Ok and at a refusal
 pub answers_ok : (d : Dialect) (input : Option (List ℕ)) (s : Schema) (size : ℕ) (old new : Option (List ℕ)) (f0 f1 : ℕ) (r : Result ⊤ Stop)

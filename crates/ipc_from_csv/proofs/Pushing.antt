@@ -1,6 +1,7 @@
 -- Rows pushed into a batch.
 use Rattle.std.proofs.Common.{◌≡◌, sym, subst, ℕ, ◌<◌, List, [], ◌∷◌, ◌++◌, length, Option}
 use Rattle.std.specs.Prelude.{Bool, true}
+use Rattle.csv.specs.Records.{Row, fields_of}
 use Rattle.ipc_model.specs.declared.fault.WriteFault.{WriteFault}
 use Rattle.ipc_model.specs.declared.schema.Schema.{Schema}
 use Rattle.ipc_model.specs.declared.value.Value.{Value}
@@ -12,7 +13,8 @@ use Rattle.ipc_from_csv.specs.Batches.{batch_of}
 use Rattle.ipc_from_csv.specs.Conversion.{StopsFor, StopsWriting}
 use Rattle.ipc_from_csv.specs.Steps.{Came, FindsRow, Holds, RefusesNext}
 use Rattle.ipc_from_csv.specs.declared.rows.RowReader.{RowReader}
-use Rattle.ipc_from_csv.specs.declared.stop.Stop.{Stop}
+use Rattle.ipc_from_csv.specs.Stops.{stop_of}
+use Rattle.ipc_from_csv.specs.declared.stop.NoRow.{NoRow}
 use Rattle.ipc_from_csv.proofs.Breaking.{next_stops, row_stops}
 use Rattle.ipc_from_csv.proofs.Sending.{came_more}
 use Rattle.ipc_csv.specs.declared.dialect.Dialect.{Dialect}
@@ -46,10 +48,10 @@ module _ (d : Dialect) {R : Type 0} (remaining : R → Option (List ℕ)) (input
     holds_accepted = subst (λ z. AcceptsBatch writer.limits z (batch_of left)) holds.came.out.same_schema holds.held_rows.accepted
 
     -- a conversion stops where no next row is read
-    pub held_stops : length left < size → (why : Stop) → RefusesNext d input s holds.came.records why
-        → StopsFor d input s size old writer.written failures writer.failures why
-    held_stops few why refuses =
-        next_stops d remaining input s size old failures now writer left holds.came (λ _. holds_accepted) few why refuses
+    pub held_stops : length left < size → (why : NoRow) (refused : Row) → RefusesNext d input s holds.came.records (fields_of refused) why
+        → StopsFor d input s size old writer.written failures writer.failures (stop_of why refused)
+    held_stops few why refused refuses =
+        next_stops d remaining input s size old failures now writer left holds.came (λ _. holds_accepted) few why refused refuses
 
     -- one record more was read
     pub held_more : (new : RowReader R) (found : Bool) → found ≡ true

@@ -1,6 +1,7 @@
 -- What is read from an input of CSV and sent to the sink of its stream.
 use Rattle.std.specs.Prelude.{◌≡◌, ◌≢◌, ℕ, ◌+◌, List, [], ◌∷◌, ◌++◌, length, Option, Some, None}
 use Rattle.std.specs.Prelude.{Result, Ok, Err, ⊤}
+use Rattle.csv.specs.Records.{Row, fields_of}
 use Rattle.csv.specs.declared.reader.Reader.{Reader}
 use Rattle.ipc_model.specs.Limits.{IsStandard}
 use Rattle.ipc_model.specs.declared.fault.WriteFault.{WriteFault}
@@ -70,34 +71,35 @@ pub record StopsBehind (d : Dialect) (input : Option (List ℕ)) (s : Schema) (s
   pub there : AreFirstRecordsOf d input (names s.fields ∷ records)
   pub sent : SendsFull d s size records old new failures_old failures_new
 
--- why nothing is sent: the columns cannot be written as CSV, there is no header, it names other
--- columns, or memory ran out
+-- why no header is read, and nothing is sent: the columns cannot be written as CSV, there is no
+-- record, or memory ran out
 pub data RefusesHeader (d : Dialect) (input : Option (List ℕ)) (fields : List Field)
     (fault : TextFault) : Type 0 where
   columns : flat_fault fields ≡ Some fault → RefusesHeader d input fields fault
   missing : flat_fault fields ≡ None → AreRecordsOf d input [] → fault ≡ WrongFieldCount 0
       → RefusesHeader d input fields fault
-  other : (header : List (List ℕ)) → AreFirstRecordsOf d input (header ∷ [])
-      → IsHeaderFault fields header fault → RefusesHeader d input fields fault
   exhausted : flat_fault fields ≡ None → fault ≡ OutOfMemory → RefusesHeader d input fields fault
 
--- the header is right, and the record after these does not read as a row; the batches that these
--- fill were sent. The header is record 0
-pub record RefusesRecord (d : Dialect) (input : Option (List ℕ)) (s : Schema) (size : ℕ)
-    (old new : Option (List ℕ)) (failures_old failures_new : ℕ) (fault : TextFault) : Type 0 where
-  pub before : List (List (List ℕ))
-  pub texts : List (List ℕ)
-  pub there : AreFirstRecordsOf d input (names s.fields ∷ before ++ texts ∷ [])
-  pub cause : IsRecordFault d (length before + 1) s.fields texts fault
-  pub sent : SendsFull d s size before old new failures_old failures_new
+-- a record of the input has these texts and is refused. It is the header, record 0, with other
+-- names, and nothing was sent; or it is the record after these, and does not read as a row, and the
+-- batches that these fill were sent
+pub data RefusesRecord (d : Dialect) (input : Option (List ℕ)) (s : Schema) (size : ℕ)
+    (old new : Option (List ℕ)) (failures_old failures_new : ℕ) (texts : List (List ℕ))
+    (fault : TextFault) : Type 0 where
+  as_header : AreFirstRecordsOf d input (texts ∷ []) → IsHeaderFault s.fields texts fault
+      → Unsent old new failures_old failures_new
+      → RefusesRecord d input s size old new failures_old failures_new texts fault
+  as_row : (before : List (List (List ℕ)))
+      → AreFirstRecordsOf d input (names s.fields ∷ before ++ texts ∷ [])
+      → IsRecordFault d (length before + 1) s.fields texts fault
+      → SendsFull d s size before old new failures_old failures_new
+      → RefusesRecord d input s size old new failures_old failures_new texts fault
 
--- a refusal of the header or of a record, or memory ran out after some records
+-- no header was read, or memory ran out after some records
 pub data RefusesText (d : Dialect) (input : Option (List ℕ)) (s : Schema) (size : ℕ) (old new :
     Option (List ℕ))
     (failures_old failures_new : ℕ) (fault : TextFault) : Type 0 where
   in_header : RefusesHeader d input s.fields fault → Unsent old new failures_old failures_new
-      → RefusesText d input s size old new failures_old failures_new fault
-  in_record : RefusesRecord d input s size old new failures_old failures_new fault
       → RefusesText d input s size old new failures_old failures_new fault
   exhausted_behind : fault ≡ OutOfMemory
       → StopsBehind d input s size old new failures_old failures_new
@@ -169,6 +171,8 @@ StopsFor d input s size old new failures_old failures_new stop.Input =
     StopsReading d input s size old new failures_old failures_new
 StopsFor d input s size old new failures_old failures_new (stop.Text fault) =
     RefusesText d input s size old new failures_old failures_new fault
+StopsFor d input s size old new failures_old failures_new (stop.Record fault refused) =
+    RefusesRecord d input s size old new failures_old failures_new (fields_of refused) fault
 StopsFor d input s size old new failures_old failures_new (stop.Write fault) =
     StopsWriting d input s size old new failures_old failures_new fault
 
@@ -184,10 +188,13 @@ Answers d input s size old new failures_old failures_new (Err why) =
 -- the header was read and names the columns, or why it was not
 abbrev pub AnswersHeader : {R : Type 0} → Dialect → (R → Option (List ℕ)) → Option (List ℕ)
     → List Field
-    → Reader R → Result Unit Stop → Type 0
-AnswersHeader d remaining input fields reader (Ok x) =
+    → Reader R → Result Row Stop → Type 0
+AnswersHeader d remaining input fields reader (Ok header) =
     (flat_fault fields ≡ None) × Stands d remaining input (names fields ∷ []) reader
 AnswersHeader d remaining input fields reader (Err stop.Input) = flat_fault fields ≡ None
 AnswersHeader d remaining input fields reader (Err (stop.Text fault)) =
     RefusesHeader d input fields fault
+AnswersHeader d remaining input fields reader (Err (stop.Record fault refused)) =
+    AreFirstRecordsOf d input (fields_of refused ∷ [])
+    × IsHeaderFault fields (fields_of refused) fault
 AnswersHeader d remaining input fields reader (Err (stop.Write fault)) = ⊥

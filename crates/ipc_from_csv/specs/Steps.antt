@@ -1,5 +1,5 @@
 -- The progress of a conversion.
-use Rattle.std.specs.Prelude.{◌≡◌, ◌⊎◌, ℕ, ◌<◌, ◌+◌, Bool, true, false, List, [], ◌∷◌, ◌++◌}
+use Rattle.std.specs.Prelude.{◌≡◌, ℕ, ◌<◌, ◌+◌, Bool, true, false, List, [], ◌∷◌, ◌++◌, ⊤}
 use Rattle.std.specs.Prelude.{flat_map, length, Option, None, Result, Ok, Err}
 use Rattle.std.specs.List.{AllByRecursion}
 use Rattle.ipc_model.specs.Limits.{IsStandard}
@@ -19,7 +19,8 @@ use Rattle.ipc_from_csv.specs.Conversion.{StopsFor, table_of}
 use Rattle.ipc_from_csv.specs.Records.{AreFirstRecordsOf, AreRecordsOf, EachRecordReadsAs, Stands}
 use Rattle.ipc_from_csv.specs.declared.rows.RowReader.{RowReader}
 use Rattle.ipc_from_csv.specs.declared.stop.Stop.{Stop}
-use Rattle.ipc_from_csv.specs.declared.stop.Stop.TheVariants as stop
+use Rattle.ipc_from_csv.specs.declared.stop.NoRow.{NoRow}
+use Rattle.ipc_from_csv.specs.declared.stop.NoRow.TheVariants as none
 use Rattle.ipc_csv.specs.declared.dialect.Dialect.{Dialect}
 
 -- ---- records read as rows
@@ -42,13 +43,15 @@ FindsRow d remaining input s records rows now true = (texts : List (List ℕ))
 FindsRow d remaining input s records rows now false =
     AreRecordsOf d input (names s.fields ∷ records)
 
--- why no row is read after these records: the source failed, memory ran out, or the next record
--- does not read as a row
-abbrev pub RefusesNext : Dialect → Option (List ℕ) → Schema → List (List (List ℕ)) → Stop → Type 0
-RefusesNext d input s records why = (why ≡ stop.Input) ⊎ (why ≡ stop.Text OutOfMemory)
-    ⊎ ((texts : List (List ℕ)) × (fault : _) × (why ≡ stop.Text fault)
-    × AreFirstRecordsOf d input (names s.fields ∷ records ++ texts ∷ [])
-    × IsRecordFault d (length records + 1) s.fields texts fault)
+-- why no row is read after these records: the source failed, memory ran out, or the next record,
+-- with these texts, does not read as a row
+abbrev pub RefusesNext : Dialect → Option (List ℕ) → Schema → List (List (List ℕ))
+    → List (List ℕ) → NoRow → Type 0
+RefusesNext d input s records texts none.Input = ⊤
+RefusesNext d input s records texts (none.Text OutOfMemory) = ⊤
+RefusesNext d input s records texts (none.Text fault) =
+    AreFirstRecordsOf d input (names s.fields ∷ records ++ texts ∷ [])
+    × IsRecordFault d (length records + 1) s.fields texts fault
 
 -- ---- rows sent in batches
 

@@ -1,14 +1,17 @@
 -- Why a conversion stops, and how that tells whether its source failed.
 use Rattle.std.specs.Prelude.{◌≡◌, ◌≢◌, ℕ, Result, Ok, Err, ⊤}
+use Rattle.csv.specs.Records.{Row}
+use Rattle.ipc_moments.specs.declared.fault.TextFault.TheVariants.{OutOfMemory}
 use Rattle.ipc_from_csv.specs.declared.stop.NoRow.{NoRow}
 use Rattle.ipc_from_csv.specs.declared.stop.NoRow.TheVariants as none
 use Rattle.ipc_from_csv.specs.declared.stop.Stop.{Stop}
 use Rattle.ipc_from_csv.specs.declared.stop.Stop.TheVariants as stop
 
--- the reason for which a conversion stops, from the reason for which no row is read
-abbrev pub stop_of : NoRow → Stop
-stop_of none.Input = stop.Input
-stop_of (none.Text fault) = stop.Text fault
+-- the reason for which a conversion stops, from the reason for which this record is read as no row
+abbrev pub stop_of : NoRow → Row → Stop
+stop_of none.Input refused = stop.Input
+stop_of (none.Text OutOfMemory) refused = stop.Text OutOfMemory
+stop_of (none.Text fault) refused = stop.Record fault refused
 
 -- the source's count of failures after the next record was read, or why it was not: it failed
 -- exactly if the reason is `Input`
@@ -23,6 +26,7 @@ abbrev pub TellsInput : {T : Type 0} → ℕ → Result T Stop → Type 0
 TellsInput failures (Ok x) = failures ≡ 0
 TellsInput failures (Err stop.Input) = failures ≡ 1
 TellsInput failures (Err (stop.Text fault)) = failures ≡ 0
+TellsInput failures (Err (stop.Record fault refused)) = failures ≡ 0
 TellsInput failures (Err (stop.Write fault)) = failures ≡ 0
 
 -- the source's count of failures before and after a conversion with this result: at `Input` it is

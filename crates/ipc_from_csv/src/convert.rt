@@ -16,7 +16,6 @@ use crate::records::{read_header, reader_of};
 use crate::rows::RowReader;
 use crate::source_reader::{SourceReader, Watched};
 use crate::stop::Stop;
-use csv::ByteRecord;
 use ipc_csv::{Dialect, check_flat};
 use ipc_model::{Items, Limits, Schema, WriteFault};
 use ipc_stream::{BatchWriter, Seed, Sink, Source, StreamWriter};
@@ -52,7 +51,11 @@ fn push_rows<R: Read + Watched, W: Sink>(
 {
     batch.push(rows.row.as_slice())?;
     for _ in 1..size {
-        if !rows.next(alloc, dialect, schema)? {
+        let found = match rows.next(alloc, dialect, schema) {
+            Ok(found) => found,
+            Err(why) => return Err(why.at_record(rows.take_record(alloc))),
+        };
+        if !found {
             return Ok(false);
         }
         batch.push(rows.row.as_slice())?;
@@ -105,12 +108,18 @@ fn send_records<R: Read + Watched, W: Sink>(
         → Begins dialect.entry R.remaining input schema.now old failures rows.old stream.old
         → SendsRecords dialect.entry input schema.now size old failures stream.new result }
 {
-    while rows.next(alloc, dialect, schema)? {
+    loop {
+        let found = match rows.next(alloc, dialect, schema) {
+            Ok(found) => found,
+            Err(why) => return Err(why.at_record(rows.take_record(alloc))),
+        };
+        if !found {
+            return Ok(());
+        }
         if !send_batch(alloc, dialect, rows, stream, schema, size)? {
             return Ok(());
         }
     }
-    Ok(())
 }
 
 // Ends a stream, and gives its sink back.
@@ -195,9 +204,9 @@ fn send_stream<R: Read + Watched, W: Sink>(
 /// records:
 ///
 /// - `Text` X1 and X2: before anything is read.
-/// - `Text` X5 and X4 of record 0, the header: before anything is sent. X5 of record 0 also comes
-///   if there is no record.
-/// - `Text` X5 and X4 of a later record, counted from 1: it is no row of the schema.
+/// - `Text` X5 of record 0: there is no record, and nothing was sent.
+/// - `Record` X5 and X4 of record 0, the header: before anything is sent.
+/// - `Record` X5 and X4 of a later record, counted from 1: it is no row of the schema.
 /// - `Text` `OutOfMemory`: memory for a record or its row ran out, or there are more than 2^64 - 1
 ///   records after the header.
 /// - `Write` W1 and W6: the schema is refused, as in `StreamWriter::start`.
@@ -283,10 +292,10 @@ pub fn from_csv_with_seed<R: Source, W: Sink>(
         return (Err(Stop::Text(fault)), input, sink);
     }
     let mut reader = reader_of(alloc, dialect, SourceReader::new(input));
-    let mut fields = ByteRecord::new(alloc);
-    if let Err(why) = read_header(&mut reader, &mut fields, schema) {
-        return (Err(why), reader.into_inner().into_inner(), sink);
-    }
+    let fields = match read_header(alloc, &mut reader, schema) {
+        Ok(fields) => fields,
+        Err(why) => return (Err(why), reader.into_inner().into_inner(), sink),
+    };
     let mut rows = RowReader::new(alloc, reader, fields);
     let (result, sink) = send_stream(alloc, seed, dialect, &mut rows, sink, schema, batch);
     (result, rows.into_inner().into_inner(), sink)

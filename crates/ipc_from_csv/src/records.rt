@@ -57,12 +57,12 @@ pub fn next_record<R: Read + Watched>(
     Ok(found)
 }
 
-// Reads the header and checks it.
+// Reads the header and checks it. Returns the record, for those after it to be read into.
 pub fn read_header<R: Read + Watched>(
+    alloc: Global,
     reader: &mut Reader<R>,
-    fields: &mut ByteRecord,
     schema: &Schema,
-) -> Result<(), Stop>
+) -> Result<ByteRecord, Stop>
     requires flat { flat_fault schema.now.fields ≡ None }
     ensures set_up { (d : Dialect) → IsSetUp d reader.old → OnOk result (IsSetUp d reader.new) }
     ensures device { TellsInput (R.failures (reader_source reader.new)) result }
@@ -70,9 +70,19 @@ pub fn read_header<R: Read + Watched>(
         → Stands d R.remaining input [] reader.old
         → AnswersHeader d R.remaining input schema.now.fields reader.new result }
 {
-    if !next_record(reader, fields)? {
+    let mut fields = ByteRecord::new(alloc);
+    let found = match next_record(reader, &mut fields) {
+        Ok(found) => found,
+        Err(why) => return Err(why.at_record(fields)),
+    };
+    if !found {
         return Err(Stop::Text(TextFault::WrongFieldCount { record: 0 }));
     }
-    check_header(schema, fields)?;
-    Ok(())
+    match check_header(schema, &fields) {
+        Ok(()) => Ok(fields),
+        Err(fault) => Err(Stop::Record {
+            fault,
+            refused: fields,
+        }),
+    }
 }

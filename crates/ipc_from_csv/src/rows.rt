@@ -4,8 +4,9 @@ ghost use Rattle.std.specs.Prelude.{false};
 ghost use Rattle.ipc_model.specs.declared.value.Value.{Value};
 ghost use Rattle.ipc_from_csv.specs.Records.{IsSetUp};
 ghost use Rattle.ipc_from_csv.specs.Steps.{FindsRow, HasRead, RefusesNext};
-ghost use Rattle.ipc_from_csv.specs.Stops.{TellsNext, stop_of};
+ghost use Rattle.ipc_from_csv.specs.Stops.{TellsNext};
 ghost use Rattle.csv.specs.Reading.{reader_source};
+ghost use Rattle.csv.specs.Records.{fields_of};
 
 use crate::records::next_record;
 use crate::source_reader::Watched;
@@ -16,6 +17,7 @@ use ipc_model::{Items, Row, Schema};
 use ipc_moments::TextFault;
 use std::alloc::Global;
 use std::io::Read;
+use std::mem;
 
 // The rows of the records after a header. One record and one row are kept.
 pub struct RowReader<R> {
@@ -57,7 +59,8 @@ impl<R: Read + Watched> RowReader<R> {
         ensures refused { IfErr result (λ why. (input : Option (List ℕ))
             (records : List (List (List ℕ))) (rows : List (List Value))
             → HasRead dialect.entry R.remaining input schema.now records rows self.old
-            → RefusesNext dialect.entry input schema.now records (stop_of why)) }
+            → RefusesNext dialect.entry input schema.now records
+            (fields_of self.new.fields) why) }
         ensures counted { IfOk result (λ found. found ≡ true
             → (self.new.count ≡ self.old.count + 1) × (self.new.count < 2 ^ 64)) }
         ensures stayed { IfOk result (λ found. found ≡ false → self.new.count ≡ self.old.count) }
@@ -72,6 +75,14 @@ impl<R: Read + Watched> RowReader<R> {
         self.count = count;
         fill_row_from_csv(alloc, dialect, schema, count, &self.fields, &mut self.row)?;
         Ok(true)
+    }
+
+    // Takes the record that was read last out of the reader.
+    pub fn take_record(&mut self, alloc: Global) -> ByteRecord
+        ensures record { result ≡ self.old.fields }
+        ensures reader { self.new.reader ≡ self.old.reader }
+    {
+        mem::replace(&mut self.fields, ByteRecord::new(alloc))
     }
 
     // The input.

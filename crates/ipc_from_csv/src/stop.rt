@@ -2,26 +2,36 @@
 ghost use Rattle.std.specs.Prelude.{◌≡◌};
 ghost use Rattle.ipc_moments.specs.declared.fault.TextFault.{TextFault};
 ghost use Rattle.ipc_moments.specs.declared.fault.TextFault.TheVariants.{OutOfMemory};
+ghost use Rattle.ipc_from_csv.specs.Stops.{stop_of};
 ghost use Rattle.ipc_from_csv.specs.declared.stop.Stop.TheVariants as stop;
 
+use csv::ByteRecord;
 use ipc_model::WriteFault;
 use ipc_moments::TextFault;
 use std::alloc::AllocFailed;
 
 /// Why a conversion from CSV stopped.
-#[derive(Debug, PartialEq, Eq, Drop)]
+#[derive(Debug, PartialEq, Drop)]
 pub enum Stop {
     /// The source of the input failed.
     Input,
     /// The stream could not be written: W1 to W9, or W11.
     Write(WriteFault),
-    /// CSV cannot represent the columns (X1, X2), the header is another or a record is no row (X4,
-    /// X5), or memory ran out.
+    /// CSV cannot represent the columns (X1, X2), there is no header (X5 of record 0), or memory
+    /// ran out.
     Text(TextFault),
+    /// The header is another, or a record is no row.
+    Record {
+        /// X5 or X4.
+        fault: TextFault,
+        /// The record, with all its fields. Its position is the one that the crate `csv` notes when
+        /// it begins to read the record; no contract states it.
+        refused: ByteRecord,
+    },
 }
 
-/// Why a record is not read as a row. It is small: a `Stop` also holds a path to a value, and each
-/// call that may return one clears space for it.
+/// Why a record is not read as a row. It is small: a `Stop` also holds a path to a value and a
+/// record, and each call that may return one clears space for it.
 #[derive(Debug, PartialEq, Eq, Drop)]
 pub(crate) enum NoRow {
     /// The source of the input failed.
@@ -30,15 +40,15 @@ pub(crate) enum NoRow {
     Text(TextFault),
 }
 
-impl From<NoRow> for Stop {
-    ghost use Rattle.ipc_from_csv.specs.Stops.{stop_of};
-
-    ghost from_gives = { λ no_row why. why ≡ stop_of no_row };
-
-    fn from(no_row: NoRow) -> Stop {
-        match no_row {
+impl NoRow {
+    /// The reason why the conversion stops at this record.
+    pub(crate) fn at_record(self, refused: ByteRecord) -> Stop
+        ensures { result ≡ stop_of self refused }
+    {
+        match self {
             NoRow::Input => Stop::Input,
-            NoRow::Text(fault) => Stop::Text(fault),
+            NoRow::Text(TextFault::OutOfMemory) => Stop::Text(TextFault::OutOfMemory),
+            NoRow::Text(fault) => Stop::Record { fault, refused },
         }
     }
 }

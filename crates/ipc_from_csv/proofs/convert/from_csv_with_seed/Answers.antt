@@ -14,21 +14,21 @@ returns-in-Err-read_header-clause-stopped g c =
 pub returns-clause-converts : goal.returns-clause-converts
 returns-clause-converts g c =
     let stands = c.reader_of-reader.ensures.stands (g.R.Source.remaining c.args.input) c.new.ensures in
-    let header = c.in_default-read_header.ensures.answers c.args.dialect _ c.reader_of-reader.ensures.set_up stands in
+    let header = c.in-Ok.ensures.answers c.args.dialect _ c.reader_of-reader.ensures.set_up stands in
     answers_ok c.args.dialect _ _ _ _ _ _ _ c.send_stream-result.result.0 (c.send_stream-result.ensures.converts _
     (header_read c.args.dialect _ _ _ _ _ header.0 header.1 c.new-rows.ensures.reader c.new-rows.ensures.count))
 
 pub returns-clause-stopped : goal.returns-clause-stopped
 returns-clause-stopped g c =
     let stands = c.reader_of-reader.ensures.stands (g.R.Source.remaining c.args.input) c.new.ensures in
-    let header = c.in_default-read_header.ensures.answers c.args.dialect _ c.reader_of-reader.ensures.set_up stands in
+    let header = c.in-Ok.ensures.answers c.args.dialect _ c.reader_of-reader.ensures.set_up stands in
     answers_err c.args.dialect _ _ _ _ _ _ _ c.send_stream-result.result.0 (c.send_stream-result.ensures.converts _
     (header_read c.args.dialect _ _ _ _ _ header.0 header.1 c.new-rows.ensures.reader c.new-rows.ensures.count))
 
 pub returns-clause-left : goal.returns-clause-left
 returns-clause-left g c =
     let stands = c.reader_of-reader.ensures.stands (g.R.Source.remaining c.args.input) c.new.ensures in
-    let header = c.in_default-read_header.ensures.answers c.args.dialect _ c.reader_of-reader.ensures.set_up stands in
+    let header = c.in-Ok.ensures.answers c.args.dialect _ c.reader_of-reader.ensures.set_up stands in
     answers_left c.args.dialect _ _ _ _ _ _ _ c.send_stream-result.result.0 c.requires.within
     (c.send_stream-result.ensures.converts _ (header_read c.args.dialect _ _ _ _ _ header.0 header.1 c.new-rows.ensures.reader
     c.new-rows.ensures.count))
@@ -36,4 +36,4 @@ returns-clause-left g c =
 pub send_stream-result-requires-clause-set_up : goal.send_stream-result-requires-clause-set_up
 send_stream-result-requires-clause-set_up g c =
     subst (IsSetUp c.args.dialect) (sym c.new-rows.ensures.reader)
-    (c.in_default-read_header.ensures.set_up c.args.dialect c.reader_of-reader.ensures.set_up)
+    (c.in-Ok.ensures.set_up c.args.dialect c.reader_of-reader.ensures.set_up)

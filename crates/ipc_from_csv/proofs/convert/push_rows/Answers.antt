@@ -31,19 +31,18 @@ loop-init g c = (
 pub next-requires : goal.next-requires
 next-requires g c = record { set_up = c.loop.invariant.0 }
 
-pub returns-in_err-next-clause-same_reference : goal.returns-in_err-next-clause-same_reference
-returns-in_err-next-clause-same_reference g c = c.loop.invariant.2
+pub returns-in-Err-clause-same_reference : goal.returns-in-Err-clause-same_reference
+returns-in-Err-clause-same_reference g c = c.loop.invariant.2
 
-pub returns-in_err-next-clause-pushes : goal.returns-in_err-next-clause-pushes
-returns-in_err-next-clause-pushes g c = λ input old failures came held.
-    let p = err_from_is_err_and c.from_residual-in_err-next.result c.from_residual-in_err-next.ensures.1 in
+pub returns-in-Err-clause-pushes : goal.returns-in-Err-clause-pushes
+returns-in-Err-clause-pushes g c = λ input old failures came held.
     let (left, holds, many) = c.loop.invariant.5 input old failures came held in
-    rw (p.1, p.2) (held_stops c.args.dialect _ _ _ _ _ _ _ _ _ left holds (omega (arith, many, c.loop-test.true)) _
-    (c.in_err-next.ensures.refused input _ _ holds.came.read))
+    rw (c.at_record.ensures, c.take_record.ensures.record) (held_stops c.args.dialect _ _ _ _ _ _ _ _ _ left holds
+    (omega (arith, many, c.loop-test.true)) _ _ (c.in-Err.ensures.refused input _ _ holds.came.read))
 
 pub returns-then-not-branch-clause-counted : goal.returns-then-not-branch-clause-counted
 returns-then-not-branch-clause-counted g c =
-    omega (arith, c.loop.invariant.1, c.in_ok-next.ensures.stayed c.if-not-branch.true)
+    omega (arith, c.loop.invariant.1, c.in-Ok.ensures.stayed c.if-not-branch.true)
 
 pub returns-then-not-branch-clause-same_reference : goal.returns-then-not-branch-clause-same_reference
 returns-then-not-branch-clause-same_reference g c = c.loop.invariant.2
@@ -57,7 +56,7 @@ returns-then-not-branch-clause-pushes g c = λ input old failures came held.
       omega (arith, many, c.loop.invariant.3),
       omega (arith, many, c.loop-test.true),
       rw c.if-not-branch.true at
-          (c.in_ok-next.ensures.finds input _ _ holds.came.read),
+          (c.in-Ok.ensures.finds input _ _ holds.came.read),
     )
 
 pub returns-in_err-push-2-clause-same_reference : goal.returns-in_err-push-2-clause-same_reference
@@ -68,7 +67,7 @@ returns-in_err-push-2-clause-pushes g c = λ input old failures came held.
     let p = err_from_is_err_and c.from_residual-in_err-push-2.result c.from_residual-in_err-push-2.ensures.1 in
     let (left, holds, many) = c.loop.invariant.5 input old failures came held in
     let more = held_more c.args.dialect _ _ _ _ _ _ _ _ _ left holds c.next.new.self _ c.if-not-branch.false
-    (c.in_ok-next.ensures.finds input _ _ holds.came.read) in
+    (c.in-Ok.ensures.finds input _ _ holds.came.read) in
     rw (p.1, p.2) (pushed_stops c.args.dialect _ _ _ _ _ _ _ _ left c.next.new.self.row c.as_slice-in-loop.result.now
     c.as_slice-in-loop.ensures more
     c.push-in-loop.new.self.writer.now (λ _. holds_accepted c.args.dialect _ _ _ _ _ _ _ _ _ left holds) (omega (
@@ -80,21 +79,21 @@ returns-in_err-push-2-clause-pushes g c = λ input old failures came held.
 
 pub loop-preserved : goal.loop-preserved
 loop-preserved g c = (
-  c.in_ok-next.ensures.set_up,
-  omega (arith, c.loop.invariant.1, (c.in_ok-next.ensures.counted c.if-not-branch.false).0),
+  c.in-Ok.ensures.set_up,
+  omega (arith, c.loop.invariant.1, (c.in-Ok.ensures.counted c.if-not-branch.false).0),
   c.in_ok-push-2.ensures.same_reference ∙ c.loop.invariant.2,
   omega arith,
   omega (arith, c.loop-test.true),
   λ input old failures came held.
       let (left, holds, many) = c.loop.invariant.5 input old failures came held in
       let more = held_more c.args.dialect _ _ _ _ _ _ _ _ _ left holds c.next.new.self _ c.if-not-branch.false
-      (c.in_ok-next.ensures.finds input _ _ holds.came.read) in (
+      (c.in-Ok.ensures.finds input _ _ holds.came.read) in (
         left ++ c.next.new.self.row ∷ [],
         holds_pushed c.args.dialect _ _ _ _ _ _ _ _ left c.next.new.self.row c.as_slice-in-loop.result.now c.as_slice-in-loop.ensures more
             c.push-in-loop.new.self.writer.now _ c.in_ok-push-2.ensures.stays.1 (c.in_ok-push-2.ensures.judged _ holds.held_rows),
         length_push left c.next.new.self.row ∙ ap (λ n. n + 1) many,
       ),
-  c.in_ok-next.ensures.device,
+  c.in-Ok.ensures.device,
 )
 
 pub returns-clause-set_up : goal.returns-clause-set_up

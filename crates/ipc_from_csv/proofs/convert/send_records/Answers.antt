@@ -6,65 +6,62 @@ use Rattle.ipc_from_csv.proofs.Ending.{ends_full}
 use Rattle.ipc_from_csv.proofs.Sending.{came_more, came_none}
 use Rattle.ipc_from_csv.proofs.convert.send_records.Goals as goal
 
-pub loop-alloc-init : goal.loop-alloc-init
-loop-alloc-init g c = (c.requires.set_up, λ input old failures begins. came_none c.args.dialect _ _ _ _ _ _ _ _ begins, c.requires.works)
+pub loop-init : goal.loop-init
+loop-init g c = (c.requires.set_up, λ input old failures begins. came_none c.args.dialect _ _ _ _ _ _ _ _ begins, c.requires.works)
 
-pub returns-in_err-next : goal.returns-in_err-next
-returns-in_err-next g c = record {
+pub returns-in-Err : goal.returns-in-Err
+returns-in-Err g c = record {
   sends = λ input old failures begins.
-      let p = err_from_is_err_and c.from_residual.result c.from_residual.ensures.1 in
-      let came = c.loop-alloc.invariant.1 input old failures begins in
-      rw (p.1, p.2) (next_stops c.args.dialect _ _ _ _ _ _ _ _ [] came (λ none. absurd (omega (arith, none))) c.requires.some _
-      (c.in_err-next.ensures.refused input _ _ came.read));
-  device =
-      let p = err_from_is_err_and c.from_residual.result c.from_residual.ensures.1 in
-      rw (p.1, p.2) (told_next _ _ c.in_err-next.ensures.device);
+      let came = c.loop.invariant.1 input old failures begins in
+      rw (c.at_record.ensures, c.take_record.ensures.record) (next_stops c.args.dialect _ _ _ _ _ _ _ _ [] came
+      (λ none. absurd (omega (arith, none))) c.requires.some _ _ (c.in-Err.ensures.refused input _ _ came.read));
+  device = rw (c.at_record.ensures, c.take_record.ensures.reader) (told_next _ _ _ c.in-Err.ensures.device);
 }
 
 pub returns-in_err-send_batch : goal.returns-in_err-send_batch
 returns-in_err-send_batch g c = record {
   sends = λ input old failures begins.
       let p = err_from_is_err_and c.from_residual-in_err-send_batch.result c.from_residual-in_err-send_batch.ensures.1 in
-      let came = c.loop-alloc.invariant.1 input old failures begins in
-      let more = came_more c.args.dialect _ _ _ _ _ _ _ _ [] came c.next.new.self (rw c.if-branch.true at
-      (c.in_ok-next.ensures.finds input _ _ came.read)) in
+      let came = c.loop.invariant.1 input old failures begins in
+      let more = came_more c.args.dialect _ _ _ _ _ _ _ _ [] came c.next.new.self (rw c.if-not-branch.false at
+      (c.in-Ok.ensures.finds input _ _ came.read)) in
       rw (p.1, p.2) (c.in_err-send_batch.ensures.sends input old failures more);
   device =
       let p = err_from_is_err_and c.from_residual-in_err-send_batch.result c.from_residual-in_err-send_batch.ensures.1 in
       rw (p.1, p.2) c.in_err-send_batch.ensures.device;
 }
 
-pub returns-then-not-branch : goal.returns-then-not-branch
-returns-then-not-branch g c = record {
+pub returns-then-not-branch-2 : goal.returns-then-not-branch-2
+returns-then-not-branch-2 g c = record {
   sends = λ input old failures begins.
-      let came = c.loop-alloc.invariant.1 input old failures begins in
-      let more = came_more c.args.dialect _ _ _ _ _ _ _ _ [] came c.next.new.self (rw c.if-branch.true at
-      (c.in_ok-next.ensures.finds input _ _ came.read)) in
+      let came = c.loop.invariant.1 input old failures begins in
+      let more = came_more c.args.dialect _ _ _ _ _ _ _ _ [] came c.next.new.self (rw c.if-not-branch.false at
+      (c.in-Ok.ensures.finds input _ _ came.read)) in
       rw c.if-not-branch.true at (c.in_ok-send_batch.ensures.sends input old failures more);
   device = c.in_ok-send_batch.ensures.device;
 }
 
-pub loop-alloc-smaller : goal.loop-alloc-smaller
-loop-alloc-smaller g c =
-    let (one, few) = c.in_ok-next.ensures.counted c.if-branch.true in
+pub loop-smaller : goal.loop-smaller
+loop-smaller g c =
+    let (one, few) = c.in-Ok.ensures.counted c.if-not-branch.false in
     omega (arith, one, few, c.in_ok-send_batch.ensures.counted)
 
-pub loop-alloc-preserved : goal.loop-alloc-preserved
-loop-alloc-preserved g c = (
+pub loop-preserved : goal.loop-preserved
+loop-preserved g c = (
   c.in_ok-send_batch.ensures.set_up,
   λ input old failures begins.
-      let came = c.loop-alloc.invariant.1 input old failures begins in
-      let more = came_more c.args.dialect _ _ _ _ _ _ _ _ [] came c.next.new.self (rw c.if-branch.true at
-      (c.in_ok-next.ensures.finds input _ _ came.read)) in
+      let came = c.loop.invariant.1 input old failures begins in
+      let more = came_more c.args.dialect _ _ _ _ _ _ _ _ [] came c.next.new.self (rw c.if-not-branch.false at
+      (c.in-Ok.ensures.finds input _ _ came.read)) in
       rw c.if-not-branch.false at (c.in_ok-send_batch.ensures.sends input old failures more),
   c.in_ok-send_batch.ensures.device,
 )
 
-pub returns : goal.returns
-returns g c = record {
+pub returns-then-not-branch : goal.returns-then-not-branch
+returns-then-not-branch g c = record {
   sends = λ input old failures begins.
-      let came = c.loop-alloc.invariant.1 input old failures begins in
-      ends_full c.args.dialect _ _ _ _ _ _ _ _ [] came c.requires.some (rw c.if-branch.false at (c.in_ok-next.ensures.finds input _ _
+      let came = c.loop.invariant.1 input old failures begins in
+      ends_full c.args.dialect _ _ _ _ _ _ _ _ [] came c.requires.some (rw c.if-not-branch.true at (c.in-Ok.ensures.finds input _ _
       came.read)) refl;
-  device = c.in_ok-next.ensures.device;
+  device = c.in-Ok.ensures.device;
 }
