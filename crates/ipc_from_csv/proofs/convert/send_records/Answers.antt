@@ -23,7 +23,7 @@ returns-in_err-send_batch g c = record {
   sends = λ input old failures begins.
       let p = err_from_is_err_and c.from_residual-in_err-send_batch.result c.from_residual-in_err-send_batch.ensures.1 in
       let came = c.loop.invariant.1 input old failures begins in
-      let more = came_more c.args.dialect _ _ _ _ _ _ _ _ [] came c.next.new.self (rw c.if-not-branch.false at
+      let more = came_more c.args.dialect _ _ _ _ _ _ _ _ [] came c.next.new.self (rw c.if-not-found.false at
       (c.in-Ok.ensures.finds input _ _ came.read)) in
       rw (p.1, p.2) (c.in_err-send_batch.ensures.sends input old failures more);
   device =
@@ -31,11 +31,11 @@ returns-in_err-send_batch g c = record {
       rw (p.1, p.2) c.in_err-send_batch.ensures.device;
 }
 
-pub returns-then-not-branch-2 : goal.returns-then-not-branch-2
-returns-then-not-branch-2 g c = record {
+pub returns-then-not-branch : goal.returns-then-not-branch
+returns-then-not-branch g c = record {
   sends = λ input old failures begins.
       let came = c.loop.invariant.1 input old failures begins in
-      let more = came_more c.args.dialect _ _ _ _ _ _ _ _ [] came c.next.new.self (rw c.if-not-branch.false at
+      let more = came_more c.args.dialect _ _ _ _ _ _ _ _ [] came c.next.new.self (rw c.if-not-found.false at
       (c.in-Ok.ensures.finds input _ _ came.read)) in
       rw c.if-not-branch.true at (c.in_ok-send_batch.ensures.sends input old failures more);
   device = c.in_ok-send_batch.ensures.device;
@@ -43,7 +43,7 @@ returns-then-not-branch-2 g c = record {
 
 pub loop-smaller : goal.loop-smaller
 loop-smaller g c =
-    let (one, few) = c.in-Ok.ensures.counted c.if-not-branch.false in
+    let (one, few) = c.in-Ok.ensures.counted c.if-not-found.false in
     omega (arith, one, few, c.in_ok-send_batch.ensures.counted)
 
 pub loop-preserved : goal.loop-preserved
@@ -51,17 +51,18 @@ loop-preserved g c = (
   c.in_ok-send_batch.ensures.set_up,
   λ input old failures begins.
       let came = c.loop.invariant.1 input old failures begins in
-      let more = came_more c.args.dialect _ _ _ _ _ _ _ _ [] came c.next.new.self (rw c.if-not-branch.false at
+      let more = came_more c.args.dialect _ _ _ _ _ _ _ _ [] came c.next.new.self (rw c.if-not-found.false at
       (c.in-Ok.ensures.finds input _ _ came.read)) in
       rw c.if-not-branch.false at (c.in_ok-send_batch.ensures.sends input old failures more),
   c.in_ok-send_batch.ensures.device,
 )
 
-pub returns-then-not-branch : goal.returns-then-not-branch
-returns-then-not-branch g c = record {
+pub returns-then-not-found : goal.returns-then-not-found
+returns-then-not-found g c = record {
   sends = λ input old failures begins.
       let came = c.loop.invariant.1 input old failures begins in
-      ends_full c.args.dialect _ _ _ _ _ _ _ _ [] came c.requires.some (rw c.if-not-branch.true at (c.in-Ok.ensures.finds input _ _
+      ends_full c.args.dialect _ _ _ _ _ _ _ _ [] came c.requires.some (rw c.if-not-found.true at
+      (c.in-Ok.ensures.finds input _ _
       came.read)) refl;
   device = c.in-Ok.ensures.device;
 }
