@@ -1,7 +1,6 @@
 use Rattle.std.proofs.Common.{refl, [], arith}
 use Rattle.std.proofs.lemmas.Result.{err_from_is_err_and}
 use Rattle.ipc_from_csv.proofs.Breaking.{next_stops}
-use Rattle.ipc_from_csv.proofs.NextRow.{told_next}
 use Rattle.ipc_from_csv.proofs.Ending.{ends_full}
 use Rattle.ipc_from_csv.proofs.Sending.{came_more, came_none}
 use Rattle.ipc_from_csv.proofs.convert.send_records.Goals as goal
@@ -9,25 +8,22 @@ use Rattle.ipc_from_csv.proofs.convert.send_records.Goals as goal
 pub loop-found-init : goal.loop-found-init
 loop-found-init g c = (c.requires.set_up, λ input old failures begins. came_none c.args.dialect _ _ _ _ _ _ _ _ begins, c.requires.works)
 
-pub returns-in-Err : goal.returns-in-Err
-returns-in-Err g c = record {
-  sends = λ input old failures begins.
-      let came = c.loop-found.invariant.1 input old failures begins in
-      rw (c.at_record.ensures, c.take_record.ensures.record) (next_stops c.args.dialect _ _ _ _ _ _ _ _ [] came
-      (λ none. absurd (omega (arith, none))) c.requires.some _ _ (c.in-Err.ensures.refused input _ _ came.read));
-  device = rw (c.at_record.ensures, c.take_record.ensures.reader) (told_next _ _ _ c.in-Err.ensures.device);
-}
+pub returns-in-Err-clause-sends : goal.returns-in-Err-clause-sends
+returns-in-Err-clause-sends g c = λ input old failures begins.
+    let came = c.loop-found.invariant.1 input old failures begins in
+    rw (c.at_record.ensures, c.take_record.ensures.record) (next_stops c.args.dialect _ _ _ _ _ _ _ _ [] came
+    (λ none. absurd (omega (arith, none))) c.requires.some _ _ (c.in-Err.ensures.refused input _ _ came.read))
 
 pub returns-in_err-send_batch : goal.returns-in_err-send_batch
 returns-in_err-send_batch g c = record {
   sends = λ input old failures begins.
-      let p = err_from_is_err_and c.from_residual-in_err-send_batch.result c.from_residual-in_err-send_batch.ensures.1 in
+      let p = err_from_is_err_and c.from_residual.result c.from_residual.ensures.1 in
       let came = c.loop-found.invariant.1 input old failures begins in
       let more = came_more c.args.dialect _ _ _ _ _ _ _ _ [] came c.next.new.self (rw c.if-not-found.false at
       (c.in-Ok.ensures.finds input _ _ came.read)) in
       rw (p.1, p.2) (c.in_err-send_batch.ensures.sends input old failures more);
   device =
-      let p = err_from_is_err_and c.from_residual-in_err-send_batch.result c.from_residual-in_err-send_batch.ensures.1 in
+      let p = err_from_is_err_and c.from_residual.result c.from_residual.ensures.1 in
       rw (p.1, p.2) c.in_err-send_batch.ensures.device;
 }
 
