@@ -10,11 +10,11 @@ _arrowstream() {
     *" --batch"|*" --delimiter"|*" --limit"|*" --max-body"|*" --max-metadata"|*" --max-rows"|*" --null") return ;;
   esac
   case "${COMP_WORDS[1]}" in
-    check) words='--schema --max-metadata --max-body --max-rows --require-mark --help' ;;
-    show) words='--objects --pairs --limit --max-metadata --max-body --max-rows --require-mark --help' ;;
-    to-csv) words='--delimiter --null --limit --max-metadata --max-body --max-rows --require-mark --help' ;;
-    from-csv) words='--schema --batch --delimiter --null --help' ;;
-    rewrite) words='--max-metadata --max-body --max-rows --require-mark --help' ;;
+    check) words='--schema --max-metadata --max-body --max-rows --require-mark --explain --progress --help' ;;
+    show) words='--objects --pairs --limit --max-metadata --max-body --max-rows --require-mark --explain --progress --help' ;;
+    to-csv) words='--delimiter --null --limit --max-metadata --max-body --max-rows --require-mark --explain --progress --help' ;;
+    from-csv) words='--schema --batch --delimiter --null --explain --help' ;;
+    rewrite) words='--max-metadata --max-body --max-rows --require-mark --explain --progress --help' ;;
     help) words='check show to-csv from-csv rewrite' ;;
   esac
   [ "$COMP_CWORD" -gt 1 ] || words='check show to-csv from-csv rewrite help --help --version'

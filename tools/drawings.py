@@ -38,6 +38,7 @@ CRATES = {
     "ipc_print": ("jobs", 7, 580, "stream to JSON, CSV"),
     "ipc_text": ("text", 7, 880, "re-exports for users"),
     "ipc_stream": ("streams", 6, 300, "writer, sinks, devices"),
+    "ipc_explain": ("jobs", 6, 490, "why it is refused"),
     "ipc_decode": ("streams", 5, 190, "reader and decoder"),
     "ipc_dict": ("streams", 5, 410, "dictionaries to send"),
     "ipc_csv": ("text", 5, 680, "CSV both ways"),

@@ -4,14 +4,17 @@
 ghost use Rattle.std.specs.Prelude.{IfOk};
 ghost use Rattle.ipc_command.specs.Words.{HasGoodSize};
 
+mod progress;
 mod retry;
+mod schema_file;
 
-use ipc_command::{Job, Usage, read_words, run_with_seed};
+use ipc_command::{Invocation, Usage, read_words, run_with_seed};
 use ipc_stream::{Device, Seed, Sink};
+use progress::ProgressLine;
 use retry::Retry;
+use schema_file::{SchemaFile, open_schema};
 use std::alloc::{AllocError, Global};
 use std::env::Args;
-use std::fs::File;
 use std::hash::RandomState;
 use std::io::{BufWriter, IsTerminal, Write};
 use std::process::ExitCode;
@@ -28,26 +31,14 @@ fn collect_words(alloc: Global, words: Args) -> Result<Vec<String>, AllocError> 
     Ok(all)
 }
 
-// The job of the command line.
-fn read_job(rt: &HostRuntime) -> Result<Job, Usage>
-    ensures { IfOk result HasGoodSize }
+// What the command line asks for.
+fn read_invocation(rt: &HostRuntime) -> Result<Invocation, Usage>
+    ensures { IfOk result (λ asked. HasGoodSize asked.job) }
 {
     match env::args(rt) {
         Ok(words) => read_words(rt.alloc(), collect_words(rt.alloc(), words)?),
         Err(error) if error.kind() == io::ErrorKind::OutOfMemory => Err(Usage::OutOfMemory),
         Err(_) => Err(Usage::Wrong(String::from_str(rt.alloc(), "error: a word is not UTF-8\n")?)),
-    }
-}
-
-// The file with the schema, where the job names one that can be opened.
-fn open_schema(rt: &HostRuntime, job: &Job) -> Result<Option<Device<Retry<File>>>, Usage> {
-    let Job::FromCsv { schema, .. } = job else {
-        return Ok(None);
-    };
-    match File::open(rt, schema.as_str()) {
-        Ok(file) => Ok(Some(Device::new(Retry::new(file)))),
-        Err(error) if error.kind() == io::ErrorKind::OutOfMemory => Err(Usage::OutOfMemory),
-        Err(_) => Ok(None),
     }
 }
 
@@ -72,14 +63,14 @@ fn ask_input(rt: &HostRuntime) -> Result<(), Usage> {
     }
 }
 
-// The job of the command line, with its schema's file.
-fn read_job_and_schema(rt: &HostRuntime) -> Result<(Job, Option<Device<Retry<File>>>), Usage>
-    ensures { IfOk result (λ read. HasGoodSize read.0) }
+// What the command line asks for, with its schema's file.
+fn read_invocation_and_schema(rt: &HostRuntime) -> Result<(Invocation, SchemaFile), Usage>
+    ensures { IfOk result (λ read. HasGoodSize read.0.job) }
 {
-    let job = read_job(rt)?;
+    let asked = read_invocation(rt)?;
     ask_input(rt)?;
-    let schema = open_schema(rt, &job)?;
-    Ok((job, schema))
+    let schema = open_schema(rt, &asked.job)?;
+    Ok((asked, schema))
 }
 
 // Prints why there is no job, and returns the exit status.
@@ -109,30 +100,66 @@ fn draw_seed(rt: &HostRuntime) -> Seed {
     }
 }
 
-// Does the job, and returns the exit status. The line of a job that stops is one write.
-fn do_job(rt: &HostRuntime, job: Job, schema: Option<Device<Retry<File>>>) -> Result<u8, Usage>
-    requires { HasGoodSize job }
+// Prints why a call of a device failed, in the system's words, if the system gave a code.
+fn explain_device<W: Write>(alloc: Global, messages: &mut W, name: &str, code: Option<i32>) {
+    let Some(code) = code else {
+        return;
+    };
+    let error = io::Error::from_raw_os_error(code);
+    if let Ok(line) = format!(in alloc; "{name}: {error}\n") {
+        let _ = messages.write_all(line.as_bytes());
+    }
+}
+
+// Does the job, and returns the exit status. All that is printed of a job that stops is one write.
+fn do_job(rt: &HostRuntime, asked: Invocation, schema: SchemaFile) -> Result<u8, Usage>
+    requires { HasGoodSize asked.job }
 {
-    let Ok(stderr) = BufWriter::new(rt.alloc(), Retry::new(rt.stderr())) else {
+    let alloc = rt.alloc();
+    let Ok(stderr) = BufWriter::new(alloc, Retry::new(rt.stderr())) else {
         return Err(Usage::OutOfMemory);
     };
     let mut messages = Device::new(stderr);
-    let (status, _input, _output, _schema) = run_with_seed(
-        rt.alloc(),
+    let mut progress = ProgressLine::start(rt, asked.progress);
+    let explain = asked.explain;
+    let (status, input, output, file) = run_with_seed(
+        alloc,
         draw_seed(rt),
-        job,
-        schema,
+        asked,
+        schema.file,
         Device::new(Retry::new(rt.reader())),
         Device::new(Retry::new(io::writer(rt))),
+        &mut progress,
         &mut messages,
     );
+    progress.finish();
+    let mut messages = messages.into_inner();
+    if explain {
+        let code = match file {
+            Some(file) => file.into_inner().code(),
+            None => schema.code,
+        };
+        explain_device(alloc, &mut messages, schema.path.as_str(), code);
+        explain_device(
+            alloc,
+            &mut messages,
+            "standard input",
+            input.into_inner().code(),
+        );
+        explain_device(
+            alloc,
+            &mut messages,
+            "standard output",
+            output.into_inner().code(),
+        );
+    }
     let _ = messages.flush();
     Ok(status)
 }
 
 fn main(rt: HostRuntime) -> ExitCode {
-    let result = match read_job_and_schema(&rt) {
-        Ok((job, schema)) => do_job(&rt, job, schema),
+    let result = match read_invocation_and_schema(&rt) {
+        Ok((asked, schema)) => do_job(&rt, asked, schema),
         Err(usage) => Err(usage),
     };
     match result {

@@ -1,26 +1,46 @@
 //! Readers and writers that repeat an interrupted call.
-ghost use Rattle.std.specs.Prelude.{◌≡◌, ◌≢◌, ◌↔◌, IsTrue, IfErr};
+ghost use Rattle.std.specs.Prelude.{◌≡◌, ◌≢◌, ◌↔◌, IsTrue, IfErr, None};
 ghost use Rattle.std.specs.Io.{ReadsAtMost, WritesAtMost};
 ghost use Rattle.std.specs.Io.KnownBytes.{Keeps, ReadConsumes, WriteAppends};
-ghost use Rattle.std.specs.IoError.{error_kind};
+ghost use Rattle.std.specs.IoError.{error_kind, raw_os_error};
 
 use std::io::{Error, ErrorKind, Read, Result, Write};
 
 /// A reader or writer that repeats each call that a signal interrupts (`ErrorKind::Interrupted`).
 ///
 /// Everything else is answered as the inner reader or writer answers it. After 2^64 - 1 interrupted
-/// tries of one call the error is `ErrorKind::TimedOut`.
+/// tries of one call the error is `ErrorKind::TimedOut`. The system's code of the last error is
+/// kept.
 #[derive(Drop)]
 pub struct Retry<T> {
     inner: T,
+    code: Option<i32>,
 }
 
 impl<T> Retry<T> {
     /// Creates one from a reader or writer.
     pub fn new(inner: T) -> Self
-        ensures { result.inner ≡ inner }
+        ensures inner { result.inner ≡ inner }
+        ensures code { result.code ≡ None }
     {
-        Retry { inner }
+        Retry { inner, code: None }
+    }
+
+    /// Returns the system's code of the last error that a call returned, if it had one.
+    pub fn code(&self) -> Option<i32>
+        ensures { result ≡ self.now.code }
+    {
+        self.code
+    }
+
+    // Keeps the code of an error, which is returned.
+    fn note(&mut self, error: Error) -> Error
+        ensures same { result ≡ error }
+        ensures inner { self.new.inner ≡ self.old.inner }
+        ensures code { self.new.code ≡ raw_os_error error }
+    {
+        self.code = error.raw_os_error();
+        error
     }
 }
 
@@ -46,14 +66,16 @@ impl<T: Read> Read for Retry<T> {
         ensures bytes { ReadConsumes (T.remaining self.old.inner)
             (T.remaining self.new.inner) result into.new }
         ensures retried { IfErr result (λ e. error_kind e ≢ ErrorKind.Interrupted) }
+        ensures code { IfErr result (λ e. self.new.code ≡ raw_os_error e) }
     {
         for _ in 0..u64::MAX {
             match self.inner.read(into) {
                 Err(error) if is_interrupted(&error) => {}
+                Err(error) => return Err(self.note(error)),
                 result => return result,
             }
         }
-        Err(too_many_tries())
+        Err(self.note(too_many_tries()))
     }
 }
 
@@ -65,26 +87,30 @@ impl<T: Write> Write for Retry<T> {
         ensures bytes { WriteAppends (T.contents self.old.inner)
             (T.contents self.new.inner) result bytes.now }
         ensures retried { IfErr result (λ e. error_kind e ≢ ErrorKind.Interrupted) }
+        ensures code { IfErr result (λ e. self.new.code ≡ raw_os_error e) }
     {
         for _ in 0..u64::MAX {
             match self.inner.write(bytes) {
                 Err(error) if is_interrupted(&error) => {}
+                Err(error) => return Err(self.note(error)),
                 result => return result,
             }
         }
-        Err(too_many_tries())
+        Err(self.note(too_many_tries()))
     }
 
     fn flush(&mut self) -> Result<()>
         ensures bytes { Keeps (T.contents self.old.inner) (T.contents self.new.inner) }
         ensures retried { IfErr result (λ e. error_kind e ≢ ErrorKind.Interrupted) }
+        ensures code { IfErr result (λ e. self.new.code ≡ raw_os_error e) }
     {
         for _ in 0..u64::MAX {
             match self.inner.flush() {
                 Err(error) if is_interrupted(&error) => {}
+                Err(error) => return Err(self.note(error)),
                 result => return result,
             }
         }
-        Err(too_many_tries())
+        Err(self.note(too_many_tries()))
     }
 }

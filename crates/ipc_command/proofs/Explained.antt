@@ -14,5 +14,9 @@ pub field_explained : (number place line : ℕ) (columns : List Field) (texts : 
     → ExplainsRecord (BadField number place) columns texts out
 field_explained number place line columns texts f text out column field told g t e1 e2 =
     let same_column : f ≡ g = same_Some _ _ (sym column ∙ e1) in
-    let same_text : text ≡ t = same_Some _ _ (sym field ∙ e2) in
-    (line, told.0, subst (λ x. IsShown x told.0) same_text told.1, subst (λ x. out ≡ bad_field line told.0 (middle_words number) x) same_column told.2)
+    let same_text : text ≡ t = same_Some _ _ (sym field ∙ e2) in (
+      line,
+      told.0,
+      subst (λ x. IsShown x told.0) same_text told.1,
+      subst (λ x. out ≡ bad_field line told.0 (middle_words number) x) same_column told.2,
+    )

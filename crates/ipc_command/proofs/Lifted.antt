@@ -11,7 +11,8 @@ use Rattle.ipc_command.specs.Jobs.{AnswersCsv, IsSchemaOf, TellsSink, lifted, st
 
 -- what becomes of records of CSV by a schema is what becomes of the job
 pub csv_answers : (d : Dialect) (bytes input old new : Option (List ℕ)) (s : Schema) (failures size failures_old failures_new : ℕ)
-    (source_old source_new : ℕ) (p : Result ⊤ CsvStop) (r : Result ⊤ Stop) → IsSchemaOf bytes s → failures ≡ 0 → r ≡ lifted stop_of_csv p
+    (source_old source_new : ℕ) (p : Result ⊤ CsvStop) (r : Result ⊤ Stop) → IsSchemaOf bytes s → failures ≡ 0
+    → r ≡ lifted (stop_of_csv s) p
     → OnOk p (Converts d input s size old new failures_old failures_new)
     → IfErr p (StopsFor d input s size old new failures_old failures_new) → TellsSource source_old source_new p
     → TellsSink failures_old failures_new p

@@ -19,7 +19,8 @@ use Rattle.clap.specs.declared.parser.matches.ArgMatches.TheViews.{out-ArgMatche
 use Rattle.clap.proofs.WalkLemmas.{first_value-rows, one_text-rows}
 use Rattle.ipc_command.specs.CommandLine.{arrowstream}
 use Rattle.ipc_command.specs.Words.{Asks, AsksNoJob, HasFlag, HasNumber, HasWrongValue, IsCommand}
-use Rattle.ipc_command.specs.Words.{IsHint, IsJobFound, IsUsageOf, IsWrong, IsWrongFor, IsWrongFound, LacksNumber}
+use Rattle.ipc_command.specs.Words.{IsFound, IsHint, IsUsageOf, IsWrong, IsWrongFor, IsWrongFound, LacksNumber}
+use Rattle.ipc_command.specs.declared.words.Invocation.{Invocation}
 use Rattle.ipc_command.specs.declared.words.Job.{Job}
 use Rattle.ipc_command.specs.declared.words.Usage.{Usage}
 use Rattle.ipc_command.specs.declared.words.Usage.TheVariants as usage
@@ -108,10 +109,10 @@ wrong_words words found (usage.Wrong text) taken same some wrong = ⊎_elim
 wrong_words words found usage.OutOfMemory taken same some wrong = tt
 
 -- and where one does, they ask for that
-pub asked_words : (words : List Text) (found : Option (Text × List Row)) (j : Job) → fault_of arrowstream words ≡ []
-    → found ≡ subcommand_of arrowstream words → IsJobFound found j → Asks words j
-asked_words words found j taken same h =
-    record { taken = taken; name = h.0; rows = h.1; entered = sym same ∙ h.2; asked = h.3 }
+pub asked_words : (words : List Text) (found : Option (Text × List Row)) (asked : Invocation) → fault_of arrowstream words ≡ []
+    → found ≡ subcommand_of arrowstream words → IsFound found asked → Asks words asked
+asked_words words found asked taken same h =
+    record { taken = taken; name = h.0; rows = h.1; entered = sym same ∙ h.2; is = h.3 }
 
 -- the command line is one of which `clap` says what it takes
 pub line_is_simple : is_simple arrowstream ≡ true

@@ -32,17 +32,22 @@ needed name = record (option name) { required = true }
 abbrev pub count : Text → ℕ → ℕ → Rule
 count name least greatest = record (option name) { parser = Some (Unsigned least greatest) }
 
--- a subcommand with the options for limits and for the end of a stream
-abbrev pub with_limits : App → App
-with_limits a = with_rule (with_rule (with_rule (with_rule a
+-- the option to explain a refusal
+abbrev pub explain : Rule
+explain = flag (codes "explain")
+
+-- a subcommand with the options of those that read a stream: its limits, its end, and what is
+-- reported of it
+abbrev pub with_stream : App → App
+with_stream a = with_rule (with_rule (with_rule (with_rule (with_rule (with_rule a
     (number (codes "max-metadata") 0 (2 ^ 28) (codes "16777216")))
     (number (codes "max-body") 0 (2 ^ 42) (codes "1099511627776")))
     (number (codes "max-rows") 0 (2 ^ 31 - 1) (codes "2147483647")))
-    (flag (codes "require-mark"))
+    (flag (codes "require-mark"))) explain) (flag (codes "progress"))
 
 -- the subcommand that validates a stream
 abbrev pub check : App
-check = with_limits (with_rule (new_app (codes "check")) (flag (codes "schema")))
+check = with_stream (with_rule (new_app (codes "check")) (flag (codes "schema")))
 
 -- the option with the number of rows that are printed
 abbrev pub limit : Rule
@@ -50,7 +55,7 @@ limit = count (codes "limit") 0 (2 ^ 64 - 1)
 
 -- the subcommand that prints rows as JSON
 abbrev pub show : App
-show = with_limits (with_rule (with_rule (with_rule (new_app (codes "show"))
+show = with_stream (with_rule (with_rule (with_rule (new_app (codes "show"))
     (flag (codes "objects"))) (flag (codes "pairs"))) limit)
 
 -- a subcommand with the options for the dialect of CSV
@@ -60,7 +65,7 @@ with_dialect a = with_rule (with_rule a (text (codes "delimiter") (codes ",")))
 
 -- the subcommand that prints records of CSV
 abbrev pub to_csv : App
-to_csv = with_limits (with_rule (with_dialect (new_app (codes "to-csv"))) limit)
+to_csv = with_stream (with_rule (with_dialect (new_app (codes "to-csv"))) limit)
 
 -- the option with the number of rows of a batch
 abbrev pub batch : Rule
@@ -68,13 +73,12 @@ batch = number (codes "batch") 1 (2 ^ 31 - 1) (codes "65536")
 
 -- the subcommand that makes a stream of records of CSV
 abbrev pub from_csv : App
-from_csv =
-    with_dialect (with_rule (with_rule (new_app (codes "from-csv")) (needed (codes "schema")))
-    batch)
+from_csv = with_rule (with_dialect (with_rule (with_rule (new_app (codes "from-csv"))
+    (needed (codes "schema"))) batch)) explain
 
 -- the subcommand that writes a stream in canonical layout
 abbrev pub rewrite : App
-rewrite = with_limits (new_app (codes "rewrite"))
+rewrite = with_stream (new_app (codes "rewrite"))
 
 -- the program without its subcommands; it has a version, and needs a subcommand
 abbrev pub program : App

@@ -52,7 +52,7 @@ abbrev pub ExplainsRecord : TextFault → List Field → List (List ℕ) → Lis
 ExplainsRecord (WrongFieldCount number) columns texts out =
     (line : ℕ) × (out ≡ other_count line (length texts) (length columns))
 ExplainsRecord (BadField number place) columns texts out =
-    (f : Field) (text : List ℕ) → slice_get columns place ≡ Some f → field_at texts place ≡ Some text
-    → (line : ℕ) × (shown : List ℕ) × IsShown text shown
+    (f : Field) (text : List ℕ) → slice_get columns place ≡ Some f
+    → field_at texts place ≡ Some text → (line : ℕ) × (shown : List ℕ) × IsShown text shown
     × (out ≡ bad_field line shown (middle_words number) f)
 ExplainsRecord fault columns texts out = out ≡ []

@@ -51,6 +51,7 @@ stop_status stop.Input = fault_status f.Read
 stop_status stop.Schema = fault_status f.Read
 stop_status (stop.Write fault) = write_fault_status fault
 stop_status (stop.Text fault) = text_status fault
+stop_status (stop.Record fault refused s) = 1
 
 -- the exit status of a job
 abbrev pub exit_status : {T : Type 0} → Result T Stop → ℕ
@@ -68,12 +69,12 @@ abbrev pub stop_of_rewrite : RewriteStop → Stop
 stop_of_rewrite (rewrite.Read fault message) = stop.Read fault message
 stop_of_rewrite (rewrite.Write fault) = stop.Write fault
 
--- the reason why a conversion from CSV stopped, as the job's
-abbrev pub stop_of_csv : CsvStop → Stop
-stop_of_csv from_csv.Input = stop.Input
-stop_of_csv (from_csv.Write fault) = stop.Write fault
-stop_of_csv (from_csv.Text fault) = stop.Text fault
-stop_of_csv (from_csv.Record fault refused) = stop.Text fault
+-- the reason why a conversion from CSV by a schema stopped, as the job's
+abbrev pub stop_of_csv : Schema → CsvStop → Stop
+stop_of_csv s from_csv.Input = stop.Input
+stop_of_csv s (from_csv.Write fault) = stop.Write fault
+stop_of_csv s (from_csv.Text fault) = stop.Text fault
+stop_of_csv s (from_csv.Record fault refused) = stop.Record fault refused s
 
 -- a result with its reason for stopping as the job's
 abbrev pub lifted : {A : Type 0} → (A → Stop) → Result ⊤ A → Result ⊤ Stop
@@ -171,7 +172,7 @@ AnswersCsv d bytes failures size input written_old written_new source_old source
     r = ((why : Stop) × (r ≡ Err why) × HasNoSchema bytes failures why
     × (written_new ≡ written_old) × (source_new ≡ source_old) × (sink_new ≡ sink_old))
     ⊎ ((s : Schema) × IsSchemaOf bytes s × (failures ≡ 0) × (p : Result ⊤ CsvStop)
-    × (r ≡ lifted stop_of_csv p)
+    × (r ≡ lifted (stop_of_csv s) p)
     × csv.Answers d input s size written_old written_new sink_old sink_new p
     × TellsSource source_old source_new p × TellsSink sink_old sink_new p)
 

@@ -1,12 +1,16 @@
 -- The line that is printed for a job that stopped.
 use Rattle.std.specs.Prelude.{◌≡◌, ◌++◌, ◌∷◌, [], ℕ, List, MatchResult, Option, Result, Ok, Err, ⊤}
-use Rattle.std.specs.Prelude.{codes}
+use Rattle.std.specs.Prelude.{◌⊎◌, Bool, IsTrue, codes}
 use Rattle.std.specs.Io.KnownBytes.{Appends}
 use Rattle.ipc_model.specs.Texts.{fault_text, stop_line, write_fault_text}
 use Rattle.ipc_model.specs.declared.fault.Fault.TheVariants as f
 use Rattle.ipc_model.specs.declared.fault.WriteFault.{WriteFault}
 use Rattle.ipc_model.specs.declared.fault.WriteFault.TheVariants as w
 use Rattle.ipc_moments.specs.FaultLines.{text_fault_line}
+use Rattle.csv.specs.Records.{fields_of}
+use Rattle.ipc_explain.specs.Explained.{Explains as ExplainsMessage}
+use Rattle.ipc_explain.specs.declared.recorded.Recorded.{Recorded}
+use Rattle.ipc_command.specs.Explanations.{ExplainsRecord}
 use Rattle.ipc_command.specs.declared.stop.Stop.{Stop}
 use Rattle.ipc_command.specs.declared.stop.Stop.TheVariants as stop
 
@@ -22,12 +26,25 @@ stop_text stop.Input = fault_text f.Read
 stop_text stop.Schema = codes "cannot read schema"
 stop_text (stop.Write fault) = write_line fault
 stop_text (stop.Text fault) = text_fault_line fault
+stop_text (stop.Record fault refused s) = text_fault_line fault
+
+-- the lines that explain a job that stopped: those of the message of a stream or of the record of
+-- CSV that was refused, and else none
+abbrev pub Explains : Stop → List ℕ → Type 0
+Explains (stop.Read fault message) more =
+    (kept : Option Recorded) × ExplainsMessage kept fault message more
+Explains (stop.Record fault refused s) more =
+    ExplainsRecord fault s.fields (fields_of refused) more
+Explains why more = more ≡ []
 
 -- what is printed of a result to messages with this count of failures: nothing if the job is done;
--- if it stopped and no call failed, exactly its line
-abbrev pub TellsStop : Option (List ℕ) → Option (List ℕ) → ℕ → Result ⊤ Stop → Type 0
-TellsStop old new failures (Ok done) = new ≡ old
-TellsStop old new failures (Err why) = failures ≡ 0 → Appends old new (stop_text why ++ 10 ∷ [])
+-- if it stopped and no call failed, exactly its line, and after it, if that is asked for and memory
+-- does not run out, the lines that explain it
+abbrev pub TellsStop : Bool → Option (List ℕ) → Option (List ℕ) → ℕ → Result ⊤ Stop → Type 0
+TellsStop explain old new failures (Ok done) = new ≡ old
+TellsStop explain old new failures (Err why) = failures ≡ 0 → (more : List ℕ)
+    × ((more ≡ []) ⊎ (IsTrue explain × Explains why more))
+    × Appends old new (stop_text why ++ 10 ∷ more)
 
 -- a sink's count of failures before and after a part of a line: it stays, or a call failed and it
 -- is 1

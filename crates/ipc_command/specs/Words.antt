@@ -13,6 +13,7 @@ use Rattle.ipc_csv.specs.Dialects.{IsDialect}
 use Rattle.ipc_model.specs.declared.limits.Limits.{Limits}
 use Rattle.ipc_command.specs.CommandLine.{arrowstream}
 use Rattle.ipc_command.specs.declared.csv_dialect.CsvDialect.{CsvDialect}
+use Rattle.ipc_command.specs.declared.words.Invocation.{Invocation}
 use Rattle.ipc_command.specs.declared.words.Job.{Job}
 use Rattle.ipc_command.specs.declared.words.Job.TheVariants as job
 use Rattle.ipc_command.specs.declared.words.Usage.{Usage}
@@ -139,14 +140,21 @@ pub data HasWrongValue (name : Text) (rows : List Row) : Type 0 where
   -- there is no such subcommand
   other : IsNoSubcommand name → HasWrongValue name rows
 
--- the words ask for this job: `clap` finds no fault in them, and they name a subcommand that asks
--- for it
-pub record Asks (words : List Text) (job : Job) : Type 0 where
+-- the subcommand of this name, with what was found for its options, asks for this job, and for the
+-- reports of its flags
+abbrev pub IsInvocationOf : Text → List Row → Invocation → Type 0
+IsInvocationOf name rows asked =
+    IsJobOf name rows asked.job × HasFlag (codes "explain") rows asked.explain
+    × HasFlag (codes "progress") rows asked.progress
+
+-- the words ask for this: `clap` finds no fault in them, and they name a subcommand that asks for
+-- it
+pub record Asks (words : List Text) (asked : Invocation) : Type 0 where
   pub taken : fault_of arrowstream words ≡ []
   pub name : Text
   pub rows : List Row
   pub entered : subcommand_of arrowstream words ≡ Some (name, rows)
-  pub asked : IsJobOf name rows job
+  pub is : IsInvocationOf name rows asked
 
 -- `clap` finds no fault in the words, and the subcommand that they name has a value that is none of
 -- its option's
@@ -212,7 +220,8 @@ abbrev pub IsWrongFound : Option (Text × List Row) → Type 0
 IsWrongFound found = (found ≡ None)
     ⊎ ((name : Text) × (rows : List Row) × (found ≡ Some (name, rows)) × HasWrongValue name rows)
 
--- a subcommand was found that asks for this job
-abbrev pub IsJobFound : Option (Text × List Row) → Job → Type 0
-IsJobFound found job =
-    (name : Text) × (rows : List Row) × (found ≡ Some (name, rows)) × IsJobOf name rows job
+-- a subcommand was found that asks for this
+abbrev pub IsFound : Option (Text × List Row) → Invocation → Type 0
+IsFound found asked =
+    (name : Text) × (rows : List Row) × (found ≡ Some (name, rows))
+    × IsInvocationOf name rows asked

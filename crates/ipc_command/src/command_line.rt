@@ -128,10 +128,19 @@ fn flag<'a>(alloc: Global, name: &'a str, help: &'a str) -> Arg<'a>
     flag.action(ArgAction::SetTrue).help(help)
 }
 
-// The options that say how much a stream may hold, and how it must end.
-fn with_limits<'a>(alloc: Global, command: Command<'a>) -> Result<Command<'a>, AllocError>
+// The option to explain a refusal.
+fn explain<'a>(alloc: Global) -> Arg<'a>
+    ensures rule { rule_of result ≡ line.explain }
+    ensures own { result.global ≡ false }
+{
+    let help = "After the line of a refusal, print what is known about its cause";
+    flag(alloc, "explain", help)
+}
+
+// The options of a subcommand that reads a stream: its limits, its end, and what is reported of it.
+fn with_stream<'a>(alloc: Global, command: Command<'a>) -> Result<Command<'a>, AllocError>
     requires { IsCommand (app_of command) command }
-    ensures { IfOk result (IsCommand (line.with_limits (app_of command.entry))) }
+    ensures { IfOk result (IsCommand (line.with_stream (app_of command.entry))) }
 {
     command
         .arg(number(
@@ -162,6 +171,12 @@ fn with_limits<'a>(alloc: Global, command: Command<'a>) -> Result<Command<'a>, A
             alloc,
             "require-mark",
             "Refuse a stream that ends without the end-of-stream mark",
+        ))?
+        .arg(explain(alloc))?
+        .arg(flag(
+            alloc,
+            "progress",
+            "Print the bytes, batches and rows so far to standard error",
         ))
 }
 
@@ -192,7 +207,7 @@ fn check<'a>(alloc: Global) -> Result<Command<'a>, AllocError>
     let about = "Reads an Arrow IPC stream to its end, and prints its schema and counts";
     let check = described(alloc, "check", about, CHECK_EXAMPLES);
     let help = "Print the schema alone, and read nothing after its message";
-    with_limits(alloc, check.arg(flag(alloc, "schema", help))?)
+    with_stream(alloc, check.arg(flag(alloc, "schema", help))?)
 }
 
 // The subcommand that prints rows.
@@ -205,7 +220,7 @@ fn show<'a>(alloc: Global) -> Result<Command<'a>, AllocError>
     let show = show.arg(flag(alloc, "objects", help))?;
     let help = "Print the pairs of key and value of each batch on a line before its rows";
     let show = show.arg(flag(alloc, "pairs", help))?;
-    with_limits(alloc, show.arg(limit(alloc))?)
+    with_stream(alloc, show.arg(limit(alloc))?)
 }
 
 // The options for the dialect of CSV.
@@ -237,7 +252,7 @@ fn to_csv<'a>(alloc: Global) -> Result<Command<'a>, AllocError>
     let about = "Prints an Arrow IPC stream as CSV with a header";
     let to_csv = described(alloc, "to-csv", about, TO_CSV_EXAMPLES);
     let to_csv = with_dialect(alloc, to_csv)?;
-    with_limits(alloc, to_csv.arg(limit(alloc))?)
+    with_stream(alloc, to_csv.arg(limit(alloc))?)
 }
 
 // The option that names the file with the schema.
@@ -264,7 +279,8 @@ fn from_csv<'a>(alloc: Global) -> Result<Command<'a>, AllocError>
 {
     let about = "Converts CSV to an Arrow IPC stream";
     let from_csv = described(alloc, "from-csv", about, FROM_CSV_EXAMPLES);
-    with_dialect(alloc, from_csv.arg(schema(alloc))?.arg(batch(alloc))?)
+    let from_csv = from_csv.arg(schema(alloc))?.arg(batch(alloc))?;
+    with_dialect(alloc, from_csv)?.arg(explain(alloc))
 }
 
 // The subcommand that writes a stream anew.
@@ -272,7 +288,7 @@ fn rewrite<'a>(alloc: Global) -> Result<Command<'a>, AllocError>
     ensures { IfOk result (IsCommand line.rewrite) }
 {
     let about = "Rewrites an Arrow IPC stream in canonical layout, batch by batch";
-    with_limits(alloc, described(alloc, "rewrite", about, REWRITE_EXAMPLES))
+    with_stream(alloc, described(alloc, "rewrite", about, REWRITE_EXAMPLES))
 }
 
 // The program's words without its subcommands.

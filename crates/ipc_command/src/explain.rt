@@ -124,8 +124,8 @@ fn column_at(columns: &[Field], place: usize) -> Option<&Field>
 /// number of the input's line. At X4 it has the beginning of the field, and the column's name and
 /// type; at X5 the numbers of fields and columns. For another fault the result is empty.
 ///
-/// `refused` is the record, as `ipc_from_csv::Stop::Record` returns it. The line's number is that of
-/// its position, which no contract states.
+/// `refused` is the record, as `ipc_from_csv::Stop::Record` returns it. The line's number is that
+/// of its position, which no contract states.
 ///
 /// Errors: `OutOfMemory` only.
 pub(crate) fn explain_record(
@@ -146,7 +146,10 @@ pub(crate) fn explain_record(
         TextFault::WrongFieldCount { .. } => {
             explain_count(alloc, line, refused.len() as u64, columns.len() as u64)
         }
-        TextFault::BadField { record: number, column } => {
+        TextFault::BadField {
+            record: number,
+            column,
+        } => {
             let place = *column as usize;
             let Some(field) = refused.get(place) else {
                 return Ok(Vec::new(alloc));

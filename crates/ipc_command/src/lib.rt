@@ -13,4 +13,4 @@ mod words;
 pub use csv_dialect::CsvDialect;
 pub use running::{run, run_with_seed};
 pub use stop::Stop;
-pub use words::{Job, Usage, read_words};
+pub use words::{Invocation, Job, Usage, read_words};

@@ -19,7 +19,15 @@ pub fn send<E: Sink>(messages: &mut E, text: &str) -> Result<(), Failed>
         (Appends (E.written messages.old) (E.written messages.new) text.now) }
     ensures failures { Passes (E.failures messages.old) (E.failures messages.new) result }
 {
-    let bytes = text.as_bytes();
+    send_bytes(messages, text.as_bytes())
+}
+
+// Sends bytes.
+pub fn send_bytes<E: Sink>(messages: &mut E, bytes: &[u8]) -> Result<(), Failed>
+    ensures sent { OnOk result
+        (Appends (E.written messages.old) (E.written messages.new) bytes.now) }
+    ensures failures { Passes (E.failures messages.old) (E.failures messages.new) result }
+{
     let mut sent = 0;
     while sent < bytes.len() {
         match messages.write(&bytes[sent..]) {

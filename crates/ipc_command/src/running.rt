@@ -1,22 +1,28 @@
 //! Does jobs, each between an input and a sink.
-ghost use Rattle.std.specs.Prelude.{◌≡◌, ◌≢◌, ◌⊎◌, [], Result, Some, OnOk, is_some, ⊤};
+ghost use Rattle.std.specs.Io.KnownBytes.{Appends};
+ghost use Rattle.std.specs.Prelude.{◌≡◌, ◌≢◌, ◌⊎◌, ◌++◌, ◌∷◌, [], Result, Some, OnOk, is_some, ⊤};
+ghost use Rattle.std.specs.Prelude.{IsTrue};
+ghost use Rattle.ipc_stream.specs.Failures.{Counts};
 ghost use Rattle.ipc_command.specs.Jobs.{Answers, AnswersCsv, AnswersPrint, AnswersRewrite};
 ghost use Rattle.ipc_command.specs.Jobs.{AnswersSchema, shape_of};
 ghost use Rattle.ipc_command.specs.Jobs.{bytes_of, exit_status, failures_of, lifted, stop_of_csv};
-ghost use Rattle.ipc_command.specs.Lines.{TellsStop};
+ghost use Rattle.ipc_command.specs.Lines.{Explains, TellsStop, stop_text};
 ghost use Rattle.ipc_command.specs.Words.{HasGoodSize, IsBatchSize};
 ghost use Rattle.ipc_command.specs.declared.stop.Stop.{Stop};
 
+use crate::explain::explain_record;
+use crate::line::send_bytes;
 use crate::schema_file::read_schema;
 use crate::stop::Stop;
-use crate::words::Job;
+use crate::words::{Invocation, Job};
 use ipc_csv::Dialect;
+use ipc_explain::Recorder;
 use ipc_from_csv::from_csv_with_seed;
 use ipc_json::RowShape;
-use ipc_model::Limits;
+use ipc_model::{Limits, Schema};
 use ipc_print::{Form, PrintOptions, print, print_schema};
 use ipc_rewrite::rewrite_with_seed;
-use ipc_stream::{Seed, Sink, Source};
+use ipc_stream::{Failed, Progress, Seed, Sink, Source};
 use std::alloc::Global;
 
 // Prints the schema of a stream.
@@ -42,12 +48,13 @@ fn schema_job<S: Source, W: Sink>(
 }
 
 // Prints a stream by these options.
-fn print_job<S: Source, W: Sink>(
+fn print_job<S: Source, W: Sink, N: Progress>(
     alloc: Global,
     options: PrintOptions<'_>,
     limits: Limits,
     input: S,
     sink: W,
+    progress: &mut N,
 ) -> (Result<(), Stop>, S, W)
     ensures answers { AnswersPrint options.entry limits (S.remaining input) (S.remaining result.1)
         (W.written sink) (W.written result.2) (S.failures input) (S.failures result.1)
@@ -56,7 +63,7 @@ fn print_job<S: Source, W: Sink>(
     ensures works { exit_status result.0 ≢ 3 → W.failures sink ≡ 0 → W.failures result.2 ≡ 0 }
 {
     let mut sink = sink;
-    let (result, source) = print(alloc, limits, options, input, &mut sink, &mut ());
+    let (result, source) = print(alloc, limits, options, input, &mut sink, progress);
     let result = match result {
         Ok(()) => Ok(()),
         Err(why) => Err(why.into()),
@@ -65,13 +72,14 @@ fn print_job<S: Source, W: Sink>(
 }
 
 // Writes a stream anew.
-fn rewrite_job<S: Source, W: Sink>(
+fn rewrite_job<S: Source, W: Sink, N: Progress>(
     alloc: Global,
     seed: Seed,
     require_mark: bool,
     limits: Limits,
     input: S,
     sink: W,
+    progress: &mut N,
 ) -> (Result<(), Stop>, S, W)
     ensures answers { AnswersRewrite require_mark limits (S.remaining input) (S.remaining result.1)
         (W.written sink) (W.written result.2) (S.failures input) (S.failures result.1)
@@ -86,7 +94,7 @@ fn rewrite_job<S: Source, W: Sink>(
         limits,
         input,
         sink,
-        &mut (),
+        progress,
     );
     let result = match result {
         Ok(()) => Ok(()),
@@ -96,12 +104,12 @@ fn rewrite_job<S: Source, W: Sink>(
 }
 
 // What became of records of CSV, as what became of the job.
-fn csv_result(answer: Result<(), ipc_from_csv::Stop>) -> Result<(), Stop>
-    ensures { result ≡ lifted stop_of_csv answer }
+fn csv_result(answer: Result<(), ipc_from_csv::Stop>, schema: Schema) -> Result<(), Stop>
+    ensures { result ≡ lifted (stop_of_csv schema) answer }
 {
     match answer {
         Ok(()) => Ok(()),
-        Err(why) => Err(why.into()),
+        Err(why) => Err(Stop::of_csv(why, schema)),
     }
 }
 
@@ -132,7 +140,7 @@ fn csv_job<P: Source, S: Source, W: Sink>(
     let (result, input, sink) = from_csv_with_seed(
         alloc, seed, dialect, input, sink, &schema, batch,
     );
-    (csv_result(result), input, sink, file)
+    (csv_result(result, schema), input, sink, file)
 }
 
 // The shape of rows that are printed as objects, or not.
@@ -147,13 +155,14 @@ fn shape_of(objects: bool) -> RowShape
 }
 
 // Does a job, as `run`.
-fn do_job<P: Source, S: Source, W: Sink>(
+fn do_job<P: Source, S: Source, W: Sink, N: Progress>(
     alloc: Global,
     seed: Seed,
     job: Job,
     schema: Option<P>,
     input: S,
     sink: W,
+    progress: &mut N,
 ) -> (Result<(), Stop>, S, W, Option<P>)
     requires { HasGoodSize job }
     ensures answers { Answers job (bytes_of P.remaining schema) (failures_of P.failures result.3)
@@ -174,7 +183,7 @@ fn do_job<P: Source, S: Source, W: Sink>(
                 require_mark,
                 limit: None,
             };
-            print_job(alloc, options, limits, input, sink)
+            print_job(alloc, options, limits, input, sink, progress)
         }
         Job::Show {
             limits,
@@ -191,7 +200,7 @@ fn do_job<P: Source, S: Source, W: Sink>(
                 require_mark,
                 limit,
             };
-            print_job(alloc, options, limits, input, sink)
+            print_job(alloc, options, limits, input, sink, progress)
         }
         Job::ToCsv {
             limits,
@@ -204,12 +213,12 @@ fn do_job<P: Source, S: Source, W: Sink>(
                 require_mark,
                 limit,
             };
-            print_job(alloc, options, limits, input, sink)
+            print_job(alloc, options, limits, input, sink, progress)
         }
         Job::Rewrite {
             limits,
             require_mark,
-        } => rewrite_job(alloc, seed, require_mark, limits, input, sink),
+        } => rewrite_job(alloc, seed, require_mark, limits, input, sink, progress),
         Job::FromCsv {
             schema: _,
             batch,
@@ -217,6 +226,80 @@ fn do_job<P: Source, S: Source, W: Sink>(
         } => return csv_job(alloc, seed, dialect.dialect(), schema, batch, input, sink),
     };
     (result, input, sink, schema)
+}
+
+// An input whose messages are kept, if a refusal of a stream is to be explained.
+fn record<S: Source>(alloc: Global, job: &Job, explain: bool, input: S) -> Recorder<S>
+    ensures { result.source ≡ input }
+{
+    let limits = match job {
+        Job::Schema(limits) => limits,
+        Job::Check { limits, .. } => limits,
+        Job::Show { limits, .. } => limits,
+        Job::ToCsv { limits, .. } => limits,
+        Job::Rewrite { limits, .. } => limits,
+        Job::FromCsv { .. } => return Recorder::new(alloc, Limits::standard(), input, false),
+    };
+    Recorder::new(alloc, *limits, input, explain)
+}
+
+// The lines that explain a job that stopped, if that is asked for and memory does not run out.
+fn explanation_of<S: Source>(
+    alloc: Global,
+    explain: bool,
+    stop: &Stop,
+    input: &Recorder<S>,
+) -> Vec<u8>
+    ensures { (result.items ≡ []) ⊎ (IsTrue explain × Explains stop.now result.items) }
+{
+    if !explain {
+        return Vec::new(alloc);
+    }
+    let lines = match stop {
+        Stop::Read(fault, message) => input.explain(alloc, fault, *message).ok(),
+        Stop::Record {
+            fault,
+            refused,
+            schema,
+        } => explain_record(alloc, fault, schema, refused).ok(),
+        _ => None,
+    };
+    match lines {
+        Some(lines) => lines,
+        None => Vec::new(alloc),
+    }
+}
+
+// Prints the line of a job that stopped, and the lines that explain it.
+fn tell<E: Sink>(messages: &mut E, stop: &Stop, lines: &[u8]) -> Result<(), Failed>
+    ensures told { OnOk result (Appends (E.written messages.old) (E.written messages.new)
+        (stop_text stop.now ++ 10 ∷ lines.now)) }
+    ensures failures { Counts (E.failures messages.old) (E.failures messages.new) result }
+{
+    stop.write_line(messages)?;
+    send_bytes(messages, lines)
+}
+
+// Prints why a job stopped, if it did, and returns the exit status.
+fn report<S: Source, E: Sink>(
+    alloc: Global,
+    explain: bool,
+    outcome: &Result<(), Stop>,
+    input: &Recorder<S>,
+    messages: &mut E,
+) -> u8
+    ensures status { result ≡ exit_status outcome.now }
+    ensures told { TellsStop explain (E.written messages.old) (E.written messages.new)
+        (E.failures messages.new) outcome.now }
+{
+    match outcome {
+        Ok(()) => 0,
+        Err(stop) => {
+            let lines = explanation_of(alloc, explain, stop, input);
+            let _ = tell(messages, stop, lines.as_slice());
+            stop.exit_status()
+        }
+    }
 }
 
 /// Does a job: reads `input` batch by batch and writes the result to `sink`. After a refusal it
@@ -233,22 +316,25 @@ fn do_job<P: Source, S: Source, W: Sink>(
 /// - 1 if what was read is refused;
 /// - 3 if the input, the schema's file or the sink failed;
 /// - 4 if memory ran out.
-pub fn run<P: Source, S: Source, W: Sink, E: Sink>(
+pub fn run<P: Source, S: Source, W: Sink, N: Progress, E: Sink>(
     alloc: Global,
-    job: Job,
+    asked: Invocation,
     schema: Option<P>,
     input: S,
     sink: W,
+    progress: &mut N,
     messages: &mut E,
 ) -> (u8, S, W, Option<P>)
-    requires { HasGoodSize job }
+    requires { HasGoodSize asked.job }
     // The status is that of an answer, which says what was read, what went out and which device
-    // failed. Exactly its line was printed, and at success nothing.
+    // failed. Exactly its line was printed, and with `explain` the lines that explain it; at
+    // success nothing.
     ensures answers { (r : Result ⊤ Stop) × (result.0 ≡ exit_status r)
-        × Answers job (bytes_of P.remaining schema) (failures_of P.failures result.3)
+        × Answers asked.job (bytes_of P.remaining schema) (failures_of P.failures result.3)
         (S.remaining input) (S.remaining result.1) (W.written sink) (W.written result.2)
         (S.failures input) (S.failures result.1) (W.failures sink) (W.failures result.2) r
-        × TellsStop (E.written messages.old) (E.written messages.new) (E.failures messages.new) r }
+        × TellsStop asked.explain (E.written messages.old) (E.written messages.new)
+        (E.failures messages.new) r }
     // Where all was done the sink holds nothing back.
     ensures handed_on { result.0 ≡ 0 → W.held_back result.2 ≡ Some [] }
     // A sink fails only at 3.
@@ -258,28 +344,40 @@ pub fn run<P: Source, S: Source, W: Sink, E: Sink>(
     // A file that was opened comes back, and none is made up.
     ensures file { is_some result.3 ≡ is_some schema }
 {
-    run_with_seed(alloc, Seed::Fixed, job, schema, input, sink, messages)
+    run_with_seed(
+        alloc,
+        Seed::Fixed,
+        asked,
+        schema,
+        input,
+        sink,
+        progress,
+        messages,
+    )
 }
 
 /// Does a job as `run` does, but hashes the values of dictionaries that are written with this seed.
 /// Nobody who does not know a random seed can choose values whose hashes collide.
-pub fn run_with_seed<P: Source, S: Source, W: Sink, E: Sink>(
+pub fn run_with_seed<P: Source, S: Source, W: Sink, N: Progress, E: Sink>(
     alloc: Global,
     seed: Seed,
-    job: Job,
+    asked: Invocation,
     schema: Option<P>,
     input: S,
     sink: W,
+    progress: &mut N,
     messages: &mut E,
 ) -> (u8, S, W, Option<P>)
-    requires { HasGoodSize job }
+    requires { HasGoodSize asked.job }
     // The status is that of an answer, which says what was read, what went out and which device
-    // failed. Exactly its line was printed, and at success nothing.
+    // failed. Exactly its line was printed, and with `explain` the lines that explain it; at
+    // success nothing.
     ensures answers { (r : Result ⊤ Stop) × (result.0 ≡ exit_status r)
-        × Answers job (bytes_of P.remaining schema) (failures_of P.failures result.3)
+        × Answers asked.job (bytes_of P.remaining schema) (failures_of P.failures result.3)
         (S.remaining input) (S.remaining result.1) (W.written sink) (W.written result.2)
         (S.failures input) (S.failures result.1) (W.failures sink) (W.failures result.2) r
-        × TellsStop (E.written messages.old) (E.written messages.new) (E.failures messages.new) r }
+        × TellsStop asked.explain (E.written messages.old) (E.written messages.new)
+        (E.failures messages.new) r }
     // Where all was done the sink holds nothing back.
     ensures handed_on { result.0 ≡ 0 → W.held_back result.2 ≡ Some [] }
     // A sink fails only at 3.
@@ -289,12 +387,13 @@ pub fn run_with_seed<P: Source, S: Source, W: Sink, E: Sink>(
     // A file that was opened comes back, and none is made up.
     ensures file { is_some result.3 ≡ is_some schema }
 {
-    let (result, input, sink, schema) = do_job(alloc, seed, job, schema, input, sink);
-    match result {
-        Ok(()) => (0, input, sink, schema),
-        Err(stop) => {
-            let _ = stop.write_line(messages);
-            (stop.exit_status(), input, sink, schema)
-        }
-    }
+    let Invocation {
+        job,
+        explain,
+        progress: _,
+    } = asked;
+    let input = record(alloc, &job, explain, input);
+    let (result, input, sink, schema) = do_job(alloc, seed, job, schema, input, sink, progress);
+    let status = report(alloc, explain, &result, &input, messages);
+    (status, input.into_inner(), sink, schema)
 }

@@ -6,7 +6,8 @@ ghost use Rattle.ipc_command.specs.Lines.{Passes, stop_text};
 ghost use Rattle.ipc_stream.specs.Failures.{Counts};
 
 use crate::line::{end_line, send, send_fault, send_read_fault, send_text_fault, send_write_fault};
-use ipc_model::{Fault, WriteFault};
+use csv::ByteRecord;
+use ipc_model::{Fault, Schema, WriteFault};
 use ipc_moments::TextFault;
 use ipc_stream::{Failed, Sink};
 
@@ -23,6 +24,15 @@ pub enum Stop {
     Write(WriteFault),
     /// What was read has no text, or is not a valid text.
     Text(TextFault),
+    /// A record of CSV is another header than the schema's, or no row of the schema.
+    Record {
+        /// X4 or X5.
+        fault: TextFault,
+        /// The record that was refused.
+        refused: ByteRecord,
+        /// The schema.
+        schema: Schema,
+    },
 }
 
 impl From<TextFault> for Stop {
@@ -59,20 +69,23 @@ impl From<ipc_rewrite::Stop> for Stop {
     }
 }
 
-impl From<ipc_from_csv::Stop> for Stop {
-    ghost from_gives = { λ why stop. stop ≡ stop_of_csv why };
-
-    fn from(why: ipc_from_csv::Stop) -> Stop {
+impl Stop {
+    // Why a conversion from CSV by a schema stopped.
+    pub(crate) fn of_csv(why: ipc_from_csv::Stop, schema: Schema) -> Stop
+        ensures { result ≡ stop_of_csv schema why }
+    {
         match why {
             ipc_from_csv::Stop::Input => Stop::Input,
             ipc_from_csv::Stop::Write(fault) => Stop::Write(fault),
             ipc_from_csv::Stop::Text(fault) => Stop::Text(fault),
-            ipc_from_csv::Stop::Record { fault, refused: _refused } => Stop::Text(fault),
+            ipc_from_csv::Stop::Record { fault, refused } => Stop::Record {
+                fault,
+                refused,
+                schema,
+            },
         }
     }
-}
 
-impl Stop {
     /// Returns the exit status: 1 if what was read is refused, 3 if a device failed, 4 if memory
     /// ran out.
     pub fn exit_status(&self) -> u8
@@ -84,6 +97,7 @@ impl Stop {
             Stop::Write(fault) => fault.exit_status(),
             Stop::Text(TextFault::OutOfMemory) => WriteFault::OutOfMemory.exit_status(),
             Stop::Text(_) => 1,
+            Stop::Record { .. } => 1,
         }
     }
 
@@ -113,6 +127,7 @@ impl Stop {
             Stop::Schema => send(messages, "cannot read schema"),
             Stop::Write(fault) => send_write_fault(messages, fault),
             Stop::Text(fault) => send_text_fault(messages, fault),
+            Stop::Record { fault, .. } => send_text_fault(messages, fault),
         }
     }
 }

@@ -6,7 +6,8 @@ ghost use Rattle.clap.specs.Words.{subcommand_rows_of};
 ghost use Rattle.ipc_command.specs.Words.{AskForDialect, HasWrongDialect};
 ghost use Rattle.ipc_command.specs.Words.{AskForLimits, Asks, AsksNoJob, HasFlag, HasGoodSize};
 ghost use Rattle.ipc_command.specs.Words.{HasNumber, HasWrongLimit, HasWrongValue, IsCommand};
-ghost use Rattle.ipc_command.specs.Words.{IsHint, IsJobFound, IsJobOf, IsUsageOf, IsWrong};
+ghost use Rattle.ipc_command.specs.Words.{IsFound, IsHint, IsInvocationOf};
+ghost use Rattle.ipc_command.specs.Words.{IsJobOf, IsUsageOf, IsWrong};
 ghost use Rattle.ipc_command.specs.Words.{HasCount, IsWrongFor, IsWrongFound, LacksCount};
 ghost use Rattle.ipc_command.specs.Words.{LacksNumber};
 
@@ -69,6 +70,17 @@ pub enum Job {
         /// The dialect of CSV.
         dialect: CsvDialect,
     },
+}
+
+/// What a command line asks for.
+#[derive(Debug, Drop)]
+pub struct Invocation {
+    /// What to do.
+    pub job: Job,
+    /// Whether to explain a refusal, on lines after its own.
+    pub explain: bool,
+    /// Whether to report after each batch how far a stream is read.
+    pub progress: bool,
 }
 
 /// Why a command line contains no job.
@@ -338,45 +350,60 @@ fn read_job(alloc: Global, name: &str, options: &ArgMatches<'_>) -> Result<Job, 
     }
 }
 
-// The job of the subcommand that was asked for.
-fn job_of(alloc: Global, words: &ArgMatches<'_>) -> Result<Job, Usage>
-    ensures asked { IfOk result (IsJobFound (subcommand_rows_of words.now)) }
+// What a subcommand that is given these options asks for.
+fn read_invocation(alloc: Global, name: &str, options: &ArgMatches<'_>) -> Result<Invocation, Usage>
+    ensures asked { IfOk result (IsInvocationOf name.now (rows_of (found_of options.now))) }
+    ensures refused { IfErr result
+        (IsWrongFor (HasWrongValue name.now (rows_of (found_of options.now)))) }
+    ensures size { IfOk result (λ asked. HasGoodSize asked.job) }
+{
+    let job = read_job(alloc, name, options)?;
+    Ok(Invocation {
+        job,
+        explain: has_flag(options, "explain"),
+        progress: has_flag(options, "progress"),
+    })
+}
+
+// What the subcommand that was found asks for.
+fn invocation_of(alloc: Global, words: &ArgMatches<'_>) -> Result<Invocation, Usage>
+    ensures asked { IfOk result (IsFound (subcommand_rows_of words.now)) }
     ensures refused { IfErr result (IsWrongFor (IsWrongFound (subcommand_rows_of words.now))) }
-    ensures size { IfOk result HasGoodSize }
+    ensures size { IfOk result (λ asked. HasGoodSize asked.job) }
 {
     match words.subcommand() {
-        Some((name, options)) => read_job(alloc, name, options),
+        Some((name, options)) => read_invocation(alloc, name, options),
         None => Err(wrong(alloc, "error: no subcommand\n")),
     }
 }
 
-// The job of words that the command line outlives.
-fn read<'a>(alloc: Global, words: &'a [String]) -> Result<Job, Usage>
+// What words ask for that the command line outlives.
+fn read<'a>(alloc: Global, words: &'a [String]) -> Result<Invocation, Usage>
     ensures asked { IfOk result (Asks (map string_bytes words.entry.now)) }
     ensures refused { IfErr result (AsksNoJob (map string_bytes words.entry.now)) }
-    ensures size { IfOk result HasGoodSize }
+    ensures size { IfOk result (λ asked. HasGoodSize asked.job) }
 {
     let command: Command<'a> = command(alloc)?;
     match command.try_get_matches_from(words) {
-        Ok(matches) => job_of(alloc, &matches),
+        Ok(matches) => invocation_of(alloc, &matches),
         Err(error) => Err(usage_of(alloc, &error)),
     }
 }
 
-/// Reads the job from the arguments of a command line, of which the first is the program's name.
+/// Reads the arguments of a command line, of which the first is the program's name.
 ///
 /// Errors: `Help` if the arguments ask for help or the version; `Wrong` if they are invalid, for
 /// example a number out of its range; `OutOfMemory` if memory ran out.
-pub fn read_words(alloc: Global, words: Vec<String>) -> Result<Job, Usage>
+pub fn read_words(alloc: Global, words: Vec<String>) -> Result<Invocation, Usage>
     // The job is the one of the subcommand that the words name, with the values of its options in
-    // the words, or else their defaults.
+    // the words, or else their defaults. A flag is set exactly where the words have it.
     ensures asked { IfOk result (Asks (map string_bytes words.items)) }
     // Help is answered only if help or the version is asked for. `Wrong` is answered only if `clap`
     // refuses the words for another fault, or takes them and a value is none that its option takes.
     // For a word that is no argument and no option, its text ends with how a file is read.
     ensures refused { IfErr result (AsksNoJob (map string_bytes words.items)) }
     // A batch has from 1 to 2^31 - 1 rows.
-    ensures size { IfOk result HasGoodSize }
+    ensures size { IfOk result (λ asked. HasGoodSize asked.job) }
 {
     read(alloc, words.as_slice())
 }

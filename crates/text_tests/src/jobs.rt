@@ -2,7 +2,7 @@
 ghost use Rattle.std.specs.Prelude.{IfOk};
 ghost use Rattle.ipc_command.specs.Words.{HasGoodSize};
 
-use ipc_command::{CsvDialect, Job, run};
+use ipc_command::{CsvDialect, Invocation, Job, run};
 use ipc_model::Limits;
 use ipc_stream::{Limited, Memory};
 use std::alloc::{AllocError, Global};
@@ -141,7 +141,13 @@ fn done(
     let sink = limited(Vec::new(alloc), writes);
     let mut messages = Memory::new(Vec::new(alloc));
     let job = job_of(alloc, asked)?;
-    let (status, _, sink, _) = run(alloc, job, Some(schema), input, sink, &mut messages);
+    let asked = Invocation {
+        job,
+        explain: false,
+        progress: false,
+    };
+    let schema = Some(schema);
+    let (status, _, sink, _) = run(alloc, asked, schema, input, sink, &mut (), &mut messages);
     Ok((
         status,
         sink.into_inner().into_bytes(),

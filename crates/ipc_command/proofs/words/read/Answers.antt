@@ -9,7 +9,7 @@ returns-in-Ok-clause-asked c =
     let taken = failed_by words c.in_ok-command.command c.in_ok-command.ensures c.try_get_matches_from.result c.in-Ok.is
     c.try_get_matches_from.ensures.kinds in
     let same = found_by words c.in_ok-command.command c.in-Ok.matches c.in_ok-command.ensures c.in-Ok.ensures.matches in
-    IfOk-weaker c.job_of.result _ _ (λ j h. asked_words words _ j taken same h) c.job_of.ensures.asked
+    IfOk-weaker c.invocation_of.result _ _ (λ j h. asked_words words _ j taken same h) c.invocation_of.ensures.asked
 
 pub returns-in-Ok-clause-refused : goal.returns-in-Ok-clause-refused
 returns-in-Ok-clause-refused c =
@@ -18,7 +18,7 @@ returns-in-Ok-clause-refused c =
     c.try_get_matches_from.ensures.kinds in
     let same = found_by words c.in_ok-command.command c.in-Ok.matches c.in_ok-command.ensures c.in-Ok.ensures.matches in
     let some = some_found c.in_ok-command.command c.in-Ok.matches c.in_ok-command.ensures c.in-Ok.ensures.parsed in
-    IfErr-weaker c.job_of.result _ _ (λ why h. wrong_words words _ why taken same some h) c.job_of.ensures.refused
+    IfErr-weaker c.invocation_of.result _ _ (λ why h. wrong_words words _ why taken same some h) c.invocation_of.ensures.refused
 
 pub returns-in-Err-clause-refused : goal.returns-in-Err-clause-refused
 returns-in-Err-clause-refused c =

@@ -1,6 +1,6 @@
 use Rattle.std.proofs.Common.{◌-◌, length}
 use Rattle.ipc_stream.proofs.SentBytes.{SentSome}
-use Rattle.ipc_command.proofs.line.send.Given as goal
+use Rattle.ipc_command.proofs.line.send_bytes.Given as goal
 
 abbrev pub invariant-loop-sent : goal.invariant-loop-sent
 invariant-loop-sent g l = SentSome (g.E.Sink.written l.fn.messages) (g.E.Sink.written l.messages) (g.E.Sink.failures l.fn.messages)

@@ -1,0 +1,104 @@
+//! A line on standard error with how far a stream is read.
+ghost use Rattle.std.specs.Prelude.{None};
+
+use crate::retry::Retry;
+use ipc_stream::Progress;
+use std::io::Write;
+use std::time::{Duration, Instant};
+
+// The least time between two writes of the line, in milliseconds.
+const PAUSE: u64 = 500;
+
+// How far a stream is read.
+#[derive(Clone, Copy, Drop)]
+struct Counts {
+    bytes: u64,
+    batches: u64,
+    rows: u64,
+}
+
+// When the line was begun, and when it was last written.
+#[derive(Clone, Copy, Drop)]
+struct Times {
+    begun: Instant,
+    written: Instant,
+}
+
+/// Writes one line to standard error, each time over the one before: the bytes that were read, the
+/// batches, the rows, and the speed in MB/s.
+///
+/// It is written after a batch, and at most twice a second; `finish` writes the last state. An
+/// error of the clock or of standard error changes nothing else.
+#[derive(Drop)]
+pub struct ProgressLine<'a> {
+    rt: &'a HostRuntime,
+    times: Option<Times>,
+    counts: Option<Counts>,
+}
+
+impl<'a> ProgressLine<'a> {
+    /// Starts the clock, or writes nothing at all if `on` is false or there is no clock.
+    pub fn start(rt: &'a HostRuntime, on: bool) -> ProgressLine<'a> {
+        let times = match Instant::now(rt) {
+            Ok(now) if on => Some(Times {
+                begun: now,
+                written: now,
+            }),
+            _ => None,
+        };
+        ProgressLine {
+            rt,
+            times,
+            counts: None,
+        }
+    }
+
+    // Writes the line over the one before.
+    fn write(&self, elapsed: Duration, counts: Counts) {
+        let Counts {
+            bytes,
+            batches,
+            rows,
+        } = counts;
+        let speed = bytes as u128 / elapsed.as_micros().max(1);
+        let line = format!(in self.rt.alloc();
+            "\r{bytes} bytes, {batches} batches, {rows} rows, {speed} MB/s  "
+        );
+        if let Ok(line) = line {
+            let _ = Retry::new(self.rt.stderr()).write_all(line.as_bytes());
+        }
+    }
+
+    /// Writes the last state, and ends the line. Without a batch nothing is written.
+    pub fn finish(&self) {
+        let (Some(times), Some(counts)) = (self.times, self.counts) else {
+            return;
+        };
+        let now = Instant::now(self.rt).unwrap_or(times.written);
+        self.write(now.duration_since(times.begun), counts);
+        let _ = Retry::new(self.rt.stderr()).write_all(b"\n");
+    }
+}
+
+impl Progress for ProgressLine<'_> {
+    ghost told = { λ _. None };
+
+    fn batch_done(&mut self, bytes: u64, batches: u64, rows: u64) {
+        let counts = Counts {
+            bytes,
+            batches,
+            rows,
+        };
+        self.counts = Some(counts);
+        let (Some(times), Ok(now)) = (self.times, Instant::now(self.rt)) else {
+            return;
+        };
+        if now.duration_since(times.written) >= Duration::from_millis(PAUSE) {
+            self.times = Some(Times {
+                begun: times.begun,
+                written: now,
+            });
+            self.write(now.duration_since(times.begun), counts);
+        }
+    }
+}

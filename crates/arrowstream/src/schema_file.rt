@@ -1,0 +1,42 @@
+//! The file with the schema that a job names.
+use crate::retry::Retry;
+use ipc_command::{Job, Usage};
+use ipc_stream::Device;
+use std::fs::File;
+use std::io;
+
+/// The file with the schema, or why the system did not open it.
+#[derive(Drop)]
+pub struct SchemaFile {
+    /// Its path; empty if the job names none.
+    pub path: String,
+    /// The file, if it was opened.
+    pub file: Option<Device<Retry<File>>>,
+    /// The system's error code, if it was not opened.
+    pub code: Option<i32>,
+}
+
+/// Opens the file with the schema, if the job names one.
+pub fn open_schema(rt: &HostRuntime, job: &Job) -> Result<SchemaFile, Usage> {
+    let Job::FromCsv { schema, .. } = job else {
+        return Ok(SchemaFile {
+            path: String::new(rt.alloc()),
+            file: None,
+            code: None,
+        });
+    };
+    let path = String::from_str(rt.alloc(), schema.as_str())?;
+    match File::open(rt, schema.as_str()) {
+        Ok(file) => Ok(SchemaFile {
+            path,
+            file: Some(Device::new(Retry::new(file))),
+            code: None,
+        }),
+        Err(error) if error.kind() == io::ErrorKind::OutOfMemory => Err(Usage::OutOfMemory),
+        Err(error) => Ok(SchemaFile {
+            path,
+            file: None,
+            code: error.raw_os_error(),
+        }),
+    }
+}
