@@ -1,4 +1,6 @@
 pub mod FieldTokens
+pub mod Fields
+pub mod FirstBad
 pub mod Fronts
 pub mod JsonItems
 pub mod PairSteps

@@ -1,4 +1,6 @@
 pub mod RowJson
 pub mod RowTokens
+pub mod SchemaErrors
 pub mod SchemaJson
+pub mod SchemaMembers
 pub mod SchemaTexts

@@ -22,6 +22,7 @@ ghost use Rattle.ipc_model.specs.declared.schema.TimeUnit.{TimeUnit};
 ghost use Rattle.ipc_json.specs.SchemaJson.{unit_name, date_unit_name, named, type_json};
 ghost use Rattle.ipc_json.specs.SchemaJson.{own_json, text_or_null, pair_json, pairs_json};
 ghost use Rattle.ipc_json.specs.SchemaJson.{dictionary_json};
+ghost use Rattle.ipc_json.specs.SchemaMembers.{field_object, schema_object};
 ghost use Rattle.ipc_json.specs.SchemaTexts.{IsUnread, HasWideId, IsZoneless, IsReadable};
 ghost use Rattle.ipc_model.specs.Entries.{preorder, all_at, entries as spec_entries};
 ghost use Rattle.ipc_model.specs.Limits.{IsStandard};
@@ -139,7 +140,7 @@ fn united_type(name: &str, unit: &str) -> Option<DataType>
     }
 }
 
-fn text_in(value: &Value) -> Result<&str, TextFault>
+pub(crate) fn text_in(value: &Value) -> Result<&str, TextFault>
     ensures { MatchResult result (λ text. view value.now ≡ string text.now)
         (λ fault. (fault ≡ TextFault.BadSchemaJson)
         × ((text : List ℕ) → view value.now ≢ string text)) }
@@ -150,7 +151,7 @@ fn text_in(value: &Value) -> Result<&str, TextFault>
     }
 }
 
-fn truth_in(value: &Value) -> Result<bool, TextFault>
+pub(crate) fn truth_in(value: &Value) -> Result<bool, TextFault>
     ensures { MatchResult result (λ truth. view value.now ≡ boolean truth)
         (λ fault. (fault ≡ TextFault.BadSchemaJson)
         × ((truth : Bool) → view value.now ≢ boolean truth)) }
@@ -283,7 +284,7 @@ fn known_type(items: &[Value]) -> Option<DataType>
     plain_type(one_in(items)?.as_str()?)
 }
 
-fn read_type(alloc: Global, value: &Value) -> Result<DataType, TextFault>
+pub(crate) fn read_type(alloc: Global, value: &Value) -> Result<DataType, TextFault>
     ensures read { IfOk result (λ kind. view value.now ≡ type_json kind) }
     ensures all { (kind : DataType) → HasGoodType kind → view value.now ≡ type_json kind
         → MatchResult result (λ read. read ≡ kind) (λ fault. fault ≡ TextFault.OutOfMemory) }
@@ -327,7 +328,7 @@ fn dictionary_of(members: &[Value]) -> Option<Dictionary>
 }
 
 // A field's dictionary: null where there is none.
-fn read_dictionary(value: &Value) -> Result<Option<Dictionary>, TextFault>
+pub(crate) fn read_dictionary(value: &Value) -> Result<Option<Dictionary>, TextFault>
     ensures read { IfOk result (λ d. view value.now ≡ dictionary_json d) }
     ensures all { (d : Option Dictionary) → HasWideId d → view value.now ≡ dictionary_json d
         → result ≡ Ok d }
@@ -356,7 +357,7 @@ fn read_pair(alloc: Global, value: &Value) -> Result<(Text, Text), TextFault>
     Ok((key, value))
 }
 
-fn read_pairs(alloc: Global, value: &Value) -> Result<Vec<(Text, Text)>, TextFault>
+pub(crate) fn read_pairs(alloc: Global, value: &Value) -> Result<Vec<(Text, Text)>, TextFault>
     ensures read { IfOk result (λ pairs. view value.now ≡ pairs_json pairs.items) }
     ensures all { (pairs : List (List ℕ × List ℕ)) → view value.now ≡ pairs_json pairs
         → MatchResult result (λ read. read.items ≡ pairs)
@@ -400,42 +401,55 @@ fn members_in(value: &Value) -> Result<Iter<'_, String, Value>, TextFault>
     }
 }
 
-// The members after a field's pairs: its name, whether it is nullable, and its type.
+// The values of the six members of a field.
 #[derive(Drop)]
-struct LastMembers {
-    name: Text,
-    nullable: bool,
-    kind: DataType,
+pub(crate) struct FieldMembers<'a> {
+    pub(crate) children: &'a Value,
+    pub(crate) dictionary: &'a Value,
+    pub(crate) metadata: &'a Value,
+    pub(crate) name: &'a Value,
+    pub(crate) nullable: &'a Value,
+    pub(crate) kind: &'a Value,
 }
 
-fn read_last_members(
-    alloc: Global,
-    members: &mut Iter<'_, String, Value>,
-) -> Result<LastMembers, TextFault>
-    ensures read { IfOk result (λ last. members_view members.old
-        ≡ member (codes "name") (string last.name)
-        (member (codes "nullable") (boolean last.nullable)
-        (member (codes "type") (type_json last.kind) no_members))) }
-    ensures all { (name : List ℕ) (nullable : Bool) (kind : DataType) → HasGoodType kind
-        → members_view members.old ≡ member (codes "name") (string name)
-        (member (codes "nullable") (boolean nullable)
-        (member (codes "type") (type_json kind) no_members))
-        → MatchResult result
-        (λ last. (last.name ≡ name) × (last.nullable ≡ nullable) × (last.kind ≡ kind))
-        (λ fault. fault ≡ TextFault.OutOfMemory) }
-    ensures refused { IfErr result IsUnread }
+// The members of a field, if the value is an object of these alone.
+pub(crate) fn field_members(value: &Value) -> Result<FieldMembers<'_>, TextFault>
+    ensures only { IfOk result (λ m. view value.now
+        ≡ field_object (view m.children.now) (view m.dictionary.now) (view m.metadata.now)
+        (view m.name.now) (view m.nullable.now) (view m.kind.now)) }
+    ensures none { IfErr result (λ fault. (fault ≡ TextFault.BadSchemaJson)
+        × ((c d m n u k : Data) → view value.now ≢ field_object c d m n u k)) }
 {
-    let name = read_text(alloc, next_member(members, "name")?)?;
-    let nullable = truth_in(next_member(members, "nullable")?)?;
-    let kind = read_type(alloc, next_member(members, "type")?)?;
+    let mut members = members_in(value)?;
+    let children = next_member(&mut members, "children")?;
+    let dictionary = next_member(&mut members, "dictionary")?;
+    let metadata = next_member(&mut members, "metadata")?;
+    let name = next_member(&mut members, "name")?;
+    let nullable = next_member(&mut members, "nullable")?;
+    let kind = next_member(&mut members, "type")?;
     if members.next().is_some() {
         return Err(TextFault::BadSchemaJson);
     }
-    Ok(LastMembers {
+    Ok(FieldMembers {
+        children,
+        dictionary,
+        metadata,
         name,
         nullable,
         kind,
     })
+}
+
+// The number of a field's children.
+pub(crate) fn count_in(value: &Value) -> Result<u64, TextFault>
+    ensures { MatchResult result (λ count. view value.now ≡ number (unsigned count))
+        (λ fault. (fault ≡ TextFault.BadSchemaJson)
+        × ((count : ℕ) → view value.now ≢ number (unsigned count))) }
+{
+    match value.as_u64() {
+        Some(count) => Ok(count),
+        None => Err(TextFault::BadSchemaJson),
+    }
 }
 
 // A field by itself, and how many children it has.
@@ -455,17 +469,17 @@ fn read_own(alloc: Global, value: &Value) -> Result<OwnField, TextFault>
         (λ fault. fault ≡ TextFault.OutOfMemory) }
     ensures refused { IfErr result IsUnread }
 {
-    let mut members = members_in(value)?;
-    let Some(children) = next_member(&mut members, "children")?.as_u64() else {
-        return Err(TextFault::BadSchemaJson);
-    };
-    let dictionary = read_dictionary(next_member(&mut members, "dictionary")?)?;
-    let metadata = read_pairs(alloc, next_member(&mut members, "metadata")?)?;
-    let last = read_last_members(alloc, &mut members)?;
+    let members = field_members(value)?;
+    let children = count_in(members.children)?;
+    let dictionary = read_dictionary(members.dictionary)?;
+    let metadata = read_pairs(alloc, members.metadata)?;
+    let name = read_text(alloc, members.name)?;
+    let nullable = truth_in(members.nullable)?;
+    let kind = read_type(alloc, members.kind)?;
     let field = Field {
-        name: last.name,
-        nullable: last.nullable,
-        kind: last.kind,
+        name,
+        nullable,
+        kind,
         dictionary,
         children: Items::new(alloc),
         metadata: Items::from_vec(metadata),
@@ -545,19 +559,33 @@ fn read_columns(alloc: Global, entries: &[Value]) -> Result<Vec<Field>, TextFaul
     Ok(columns)
 }
 
-fn read_schema(alloc: Global, value: &Value) -> Result<Schema, TextFault>
+// The entries of "fields" and the value of "metadata", if the value is an object of these alone.
+pub(crate) fn schema_members(value: &Value) -> Result<(&[Value], &Value), TextFault>
+    ensures only { IfOk result
+        (λ m. view value.now ≡ schema_object (items_view m.0.now) (view m.1.now)) }
+    ensures none { IfErr result (λ fault. (fault ≡ TextFault.BadSchemaJson)
+        × ((fields : JsonItems) (metadata : Data)
+        → view value.now ≢ schema_object fields metadata)) }
+{
+    let mut members = members_in(value)?;
+    let entries = items_in(next_member(&mut members, "fields")?)?;
+    let metadata = next_member(&mut members, "metadata")?;
+    if members.next().is_some() {
+        return Err(TextFault::BadSchemaJson);
+    }
+    Ok((entries, metadata))
+}
+
+pub(crate) fn read_schema(alloc: Global, value: &Value) -> Result<Schema, TextFault>
     ensures read { IfOk result (λ s. view value.now ≡ schema_json s) }
     ensures all { (s : Schema) → AllByRecursion IsReadable (spec_entries s.fields)
         → view value.now ≡ schema_json s
         → MatchResult result (λ read. read ≡ s) (λ fault. fault ≡ TextFault.OutOfMemory) }
     ensures refused { IfErr result IsUnread }
 {
-    let mut members = members_in(value)?;
-    let fields = read_columns(alloc, items_in(next_member(&mut members, "fields")?)?)?;
-    let metadata = read_pairs(alloc, next_member(&mut members, "metadata")?)?;
-    if members.next().is_some() {
-        return Err(TextFault::BadSchemaJson);
-    }
+    let (entries, metadata) = schema_members(value)?;
+    let fields = read_columns(alloc, entries)?;
+    let metadata = read_pairs(alloc, metadata)?;
     Ok(Schema {
         fields: Items::from_vec(fields),
         metadata: Items::from_vec(metadata),

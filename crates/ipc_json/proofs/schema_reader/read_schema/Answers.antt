@@ -7,26 +7,17 @@ use Rattle.ipc_json.proofs.schema_reader.read_schema.Goals as goal
 
 pub returns-in_err-fields-clause-all : goal.returns-in_err-fields-clause-all
 returns-in_err-fields-clause-all c s r e =
-    let m0 = sym c.in_ok-next_member.ensures.only ∙ same_members (sym c.in_ok-members.ensures ∙ e) in
-    let f = same_list (map view c.in_ok-items_in.field-0.now) (joined (map field_json s.fields))
-    (same_items (sym c.in_ok-items_in.ensures ∙ first_of_members m0)) in
+    let m0 = same_members (sym c.in_ok-entries.ensures.only ∙ e) in
+    let f = same_list (map view c.in_ok-entries.entries.now) (joined (map field_json s.fields)) (same_items (first_of_members m0)) in
     let z : c.in_err-fields.field-0.0 ≡ OutOfMemory = c.in_err-fields.ensures.all s.fields r f in
     search (rules, z)
 
-pub returns-in_err-next_member-2-clause-all : goal.returns-in_err-next_member-2-clause-all
-returns-in_err-next_member-2-clause-all c s r e =
-    let m1 = rest_of (sym c.in_ok-next_member.ensures.only ∙ same_members (sym c.in_ok-members.ensures ∙ e)) in
-    let ok = c.in_err-next_member-2.ensures.all _ _ m1 in
-    absurd cc
-
 pub returns-clause-all : goal.returns-clause-all
 returns-clause-all c s r e =
-    let m0 = sym c.in_ok-next_member.ensures.only ∙ same_members (sym c.in_ok-members.ensures ∙ e) in
-    let f = same_list (map view c.in_ok-items_in.field-0.now) (joined (map field_json s.fields))
-    (same_items (sym c.in_ok-items_in.ensures ∙ first_of_members m0)) in
+    let m0 = same_members (sym c.in_ok-entries.ensures.only ∙ e) in
+    let f = same_list (map view c.in_ok-entries.entries.now) (joined (map field_json s.fields)) (same_items (first_of_members m0)) in
     let z = c.in_ok-fields.ensures.all s.fields r f in
-    let m1 = first_of_members (sym c.in_ok-next_member-2.ensures.only ∙ rest_of m0) in
-    let y = c.in_ok-metadata.ensures.all s.metadata m1 in
+    let y = c.in_ok-metadata.ensures.all s.metadata (first_of_members (rest_of m0)) in
     let p = c.from_vec.ensures ∙ z in
     let q = c.from_vec-2.ensures ∙ y in
     λ i. record { fields = p i; metadata = q i }
