@@ -8,7 +8,8 @@ pub use ipc_csv::{
     push_value, read_bool, read_bytes, read_int, read_text, read_uint, row_from_csv,
 };
 pub use ipc_json::{
-    RowShape, pairs_json, put_bytes, put_int, put_row_json, row_json, schema_from_json, schema_json,
+    FieldPart, RowShape, SchemaError, pairs_json, put_bytes, put_int, put_row_json, row_json,
+    schema_error, schema_from_json, schema_json,
 };
 pub use ipc_moments::{
     ShortText, TextFault, date_text, moment_text, read_date, read_time, read_timestamp, time_text,

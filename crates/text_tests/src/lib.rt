@@ -6,4 +6,6 @@ mod first_rows;
 #[cfg(test)]
 mod jobs;
 #[cfg(test)]
+mod schemas;
+#[cfg(test)]
 mod texts;
