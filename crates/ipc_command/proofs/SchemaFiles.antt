@@ -1,7 +1,7 @@
 -- What is read of a schema's file, and the schema of its text.
 use Rattle.std.proofs.Common.{◌≡◌, ◌∙◌, sym, ap, subst, ℕ, List, Option, Some, None, ◌⊎◌, ⊎_elim, inl, inr}
 use Rattle.std.proofs.Common.{Result, Ok, Err}
-use Rattle.std.specs.Prelude.{IfSome, IfOk, IfErr, MatchResult}
+use Rattle.std.specs.Prelude.{◌≢◌, IfSome, IfOk, IfErr, MatchResult}
 use Rattle.std.specs.List.{AllByRecursion}
 use Rattle.serde_json.specs.Read.{read}
 use Rattle.ipc_model.specs.Entries.{entries}
@@ -13,8 +13,7 @@ use Rattle.ipc_json.specs.SchemaJson.{schema_json}
 use Rattle.ipc_json.specs.SchemaTexts.{HasWideId, IsUnread}
 use Rattle.ipc_moments.specs.declared.fault.TextFault.{TextFault}
 use Rattle.ipc_moments.specs.declared.fault.TextFault.TheVariants.{OutOfMemory, BadSchemaJson}
-use Rattle.ipc_command.specs.declared.stop.Stop.TheVariants as stop
-use Rattle.ipc_command.specs.Jobs.{HasNoSchema, HoldsNoSchema, IsSchemaOf}
+use Rattle.ipc_command.specs.Jobs.{HoldsNoSchema, IsSchemaOf}
 
 -- what is read of a text is a schema of it
 pub given : (r : Result Schema TextFault) (text seen : List ℕ) → seen ≡ text
@@ -48,16 +47,10 @@ known (Some xs) text seen s held same is = record {
   formed = is.formed;
 }
 
--- where the bytes that were read are of no schema, the file's aren't
-known_none : (bytes : Option (List ℕ)) (text seen : List ℕ) → IfSome bytes (λ xs. text ≡ xs) → seen ≡ text → HoldsNoSchema seen
-    → IfSome bytes HoldsNoSchema
-known_none None text seen held same h = tt
-known_none (Some xs) text seen held same h = subst HoldsNoSchema (same ∙ held) h
-
 -- why the text of a file that was read to its end is that of no schema
 pub none_of : (bytes : Option (List ℕ)) (failures : ℕ) (text seen : List ℕ) (fault : TextFault) → failures ≡ 0
-    → IfSome bytes (λ xs. text ≡ xs) → seen ≡ text → (fault ≡ OutOfMemory) ⊎ ((fault ≡ BadSchemaJson) × HoldsNoSchema seen)
-    → HasNoSchema bytes failures (stop.Text fault)
-none_of bytes failures text seen fault works held same h = ⊎_elim
-    (λ e. subst (λ f. HasNoSchema bytes failures (stop.Text f)) (sym e) tt)
-    (λ b. subst (λ f. HasNoSchema bytes failures (stop.Text f)) (sym b.0) (works, known_none bytes text seen held same b.1)) h
+    → IfSome bytes (λ xs. text ≡ xs) → seen ≡ text → fault ≢ OutOfMemory
+    → (fault ≡ OutOfMemory) ⊎ ((fault ≡ BadSchemaJson) × HoldsNoSchema seen)
+    → (failures ≡ 0) × IfSome bytes (λ xs. text ≡ xs) × HoldsNoSchema text
+none_of bytes failures text seen fault works held same other h =
+    ⊎_elim (λ e. absurd (other e)) (λ b. (works, held, subst HoldsNoSchema same b.1)) h

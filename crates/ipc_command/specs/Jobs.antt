@@ -51,6 +51,7 @@ stop_status stop.Input = fault_status f.Read
 stop_status stop.Schema = fault_status f.Read
 stop_status (stop.Write fault) = write_fault_status fault
 stop_status (stop.Text fault) = text_status fault
+stop_status (stop.SchemaText text) = 1
 stop_status (stop.Record fault refused s) = 1
 
 -- the exit status of a job
@@ -148,11 +149,11 @@ IsUnreadable failures why =
     ((why ≡ stop.Schema) × (failures ≡ 1)) ⊎ (why ≡ stop.Text x.OutOfMemory)
 
 -- why there is no schema: the file was not opened or a call of it failed; or no call failed, and
--- its text, if known, is no schema's; or memory ran out
+-- its text is no schema's; or memory ran out
 abbrev pub HasNoSchema : Option (List ℕ) → ℕ → Stop → Type 0
 HasNoSchema bytes failures stop.Schema = failures ≡ 1
-HasNoSchema bytes failures (stop.Text x.BadSchemaJson) =
-    (failures ≡ 0) × IfSome bytes HoldsNoSchema
+HasNoSchema bytes failures (stop.SchemaText text) =
+    (failures ≡ 0) × IfSome bytes (λ xs. text.items ≡ xs) × HoldsNoSchema text.items
 HasNoSchema bytes failures (stop.Text x.OutOfMemory) = ⊤
 HasNoSchema bytes failures why = ⊥
 

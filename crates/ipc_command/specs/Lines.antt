@@ -10,7 +10,9 @@ use Rattle.ipc_moments.specs.FaultLines.{text_fault_line}
 use Rattle.csv.specs.Records.{fields_of}
 use Rattle.ipc_explain.specs.Explained.{Explains as ExplainsMessage}
 use Rattle.ipc_explain.specs.declared.recorded.Recorded.{Recorded}
+use Rattle.ipc_moments.specs.declared.fault.TextFault.TheVariants as x
 use Rattle.ipc_command.specs.Explanations.{ExplainsRecord}
+use Rattle.ipc_command.specs.SchemaExplanations.{ExplainsSchema}
 use Rattle.ipc_command.specs.declared.stop.Stop.{Stop}
 use Rattle.ipc_command.specs.declared.stop.Stop.TheVariants as stop
 
@@ -26,15 +28,17 @@ stop_text stop.Input = fault_text f.Read
 stop_text stop.Schema = codes "cannot read schema"
 stop_text (stop.Write fault) = write_line fault
 stop_text (stop.Text fault) = text_fault_line fault
+stop_text (stop.SchemaText text) = text_fault_line x.BadSchemaJson
 stop_text (stop.Record fault refused s) = text_fault_line fault
 
--- the lines that explain a job that stopped: those of the message of a stream or of the record of
--- CSV that was refused, and else none
+-- the lines that explain a job that stopped: those of the message of a stream, the record of CSV or
+-- the schema's file that was refused, and else none
 abbrev pub Explains : Stop → List ℕ → Type 0
 Explains (stop.Read fault message) more =
     (kept : Option Recorded) × ExplainsMessage kept fault message more
 Explains (stop.Record fault refused s) more =
     ExplainsRecord fault s.fields (fields_of refused) more
+Explains (stop.SchemaText text) more = ExplainsSchema text.items more
 Explains why more = more ≡ []
 
 -- what is printed of a result to messages with this count of failures: nothing if the job is done;

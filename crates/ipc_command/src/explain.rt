@@ -17,7 +17,7 @@ use std::alloc::Global;
 const SHOWN: usize = 40;
 
 // Appends the digits of a number.
-fn push_number(out: &mut Vec<u8>, number: u64) -> Result<(), TextFault>
+pub(crate) fn push_number(out: &mut Vec<u8>, number: u64) -> Result<(), TextFault>
     ensures { OnOk result (out.new.items ≡ out.old.items ++ decimal number) }
 {
     let mut digits = Buffer::new();

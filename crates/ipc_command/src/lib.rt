@@ -4,6 +4,7 @@
 mod command_line;
 mod csv_dialect;
 mod explain;
+mod explain_schema;
 mod line;
 mod running;
 mod schema_file;

@@ -11,6 +11,7 @@ ghost use Rattle.ipc_command.specs.Words.{HasGoodSize, IsBatchSize};
 ghost use Rattle.ipc_command.specs.declared.stop.Stop.{Stop};
 
 use crate::explain::explain_record;
+use crate::explain_schema::explain_schema;
 use crate::line::send_bytes;
 use crate::schema_file::read_schema;
 use crate::stop::Stop;
@@ -262,6 +263,7 @@ fn explanation_of<S: Source>(
             refused,
             schema,
         } => explain_record(alloc, fault, schema, refused).ok(),
+        Stop::SchemaText(text) => explain_schema(alloc, text.as_slice()).ok(),
         _ => None,
     };
     match lines {

@@ -70,7 +70,10 @@ fn read_open<P: Source>(alloc: Global, file: &mut P) -> Result<Schema, Stop>
     let text = read_whole(alloc, file)?;
     match schema_of(alloc, text.as_slice()) {
         Ok(schema) => Ok(schema),
-        Err(fault) => Err(Stop::Text(fault)),
+        Err(fault) => match fault {
+            TextFault::OutOfMemory => Err(Stop::Text(fault)),
+            _ => Err(Stop::SchemaText(text)),
+        },
     }
 }
 

@@ -20,6 +20,8 @@ pub enum Stop {
     Input,
     /// The file with the schema cannot be read.
     Schema,
+    /// The file with the schema is not the JSON text of a schema; its bytes.
+    SchemaText(Vec<u8>),
     /// What was read could not be written.
     Write(WriteFault),
     /// What was read has no text, or is not a valid text.
@@ -97,6 +99,7 @@ impl Stop {
             Stop::Write(fault) => fault.exit_status(),
             Stop::Text(TextFault::OutOfMemory) => WriteFault::OutOfMemory.exit_status(),
             Stop::Text(_) => 1,
+            Stop::SchemaText(_) => 1,
             Stop::Record { .. } => 1,
         }
     }
@@ -127,6 +130,7 @@ impl Stop {
             Stop::Schema => send(messages, "cannot read schema"),
             Stop::Write(fault) => send_write_fault(messages, fault),
             Stop::Text(fault) => send_text_fault(messages, fault),
+            Stop::SchemaText(_) => send_text_fault(messages, &TextFault::BadSchemaJson),
             Stop::Record { fault, .. } => send_text_fault(messages, fault),
         }
     }

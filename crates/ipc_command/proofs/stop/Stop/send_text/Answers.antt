@@ -18,6 +18,11 @@ returns-in-Write-clause-sent g c = sent_as _ _ _ _ c.send_write_fault.result (ap
 pub returns-in-Text-clause-sent : goal.returns-in-Text-clause-sent
 returns-in-Text-clause-sent g c = sent_as _ _ _ _ c.send_text_fault.result (ap stop_text c.in-Text.is) c.send_text_fault.ensures.sent
 
+pub returns-in-SchemaText-clause-sent : goal.returns-in-SchemaText-clause-sent
+returns-in-SchemaText-clause-sent g c =
+    sent_as _ _ _ _ c.send_text_fault-in-SchemaText.result (ap stop_text c.in-SchemaText.is)
+    c.send_text_fault-in-SchemaText.ensures.sent
+
 pub returns-in-Record-clause-sent : goal.returns-in-Record-clause-sent
 returns-in-Record-clause-sent g c =
     sent_as _ _ _ _ c.send_text_fault-in-Record.result (ap stop_text c.in-Record.is) c.send_text_fault-in-Record.ensures.sent
