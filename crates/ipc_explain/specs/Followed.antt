@@ -4,12 +4,13 @@ use Rattle.ipc_model.specs.declared.limits.Limits.{Limits}
 use Rattle.ipc_frame.specs.Pieces.{taking}
 use Rattle.ipc_explain.specs.declared.recorded.Recorded.{Recorded}
 use Rattle.ipc_explain.specs.Kept.{Keeps}
+use Rattle.ipc_explain.specs.Known.{Learns}
 
 -- a recorder that is on keeps messages from the beginning of a stream on; one that is off keeps
 -- nothing
 abbrev pub Starts : Limits → Bool → Option Recorded → Type 0
 Starts limits true (Some recorded) = (recorded.limits ≡ limits)
-    × (recorded.frames.progress ≡ taking []) × (recorded.last ≡ None)
+    × (recorded.frames.progress ≡ taking []) × (recorded.last ≡ None) × (recorded.known ≡ None)
 Starts limits true None = ⊥
 Starts limits false recorded = recorded ≡ None
 
@@ -19,5 +20,6 @@ abbrev pub Follows : Option Recorded → List ℕ → Option Recorded → Type 0
 Follows (Some old) piece (Some new) = (new.limits ≡ old.limits)
     × Keeps old.limits old.frames.progress old.front.items piece new.frames.progress
     new.front.items new.last
+    × Learns old.limits old.known old.last new.known
 Follows (Some old) piece None = Unit {0}
 Follows None piece new = new ≡ None

@@ -10,11 +10,11 @@ ghost use Rattle.ipc_explain.specs.FieldPaths.{alone, FirstWith, IsSchemaTable, 
 ghost use Rattle.ipc_explain.specs.FieldPaths.{NoneWith, RefusedAs};
 ghost use Rattle.ipc_explain.specs.FieldPaths.{NamesField, name_words, type_words};
 
+use crate::numbers::push_number;
 use ipc_flat::{Flat, TableRef, TableVec};
 use ipc_json::string_json;
 use ipc_meta::read_only_field;
 use ipc_model::{Fault, Limits};
-use itoa::Buffer;
 use std::alloc::Global;
 
 // Whether a fault has the number of another one. Errors: `OutOfMemory` only.
@@ -129,16 +129,6 @@ fn type_name(code: u8) -> &'static [u8]
         26 => b"LargeListView",
         _ => b"unknown",
     }
-}
-
-// Appends the digits of a number.
-fn push_number(out: &mut Vec<u8>, number: u64) -> Result<(), Fault>
-    ensures ok { OnOk result (out.new.items ≡ out.old.items ++ decimal number) }
-    ensures refused { IfErr result (λ f. f ≡ Fault.OutOfMemory) }
-{
-    let mut digits = Buffer::new();
-    out.extend_from_slice(digits.format(number).as_bytes())?;
-    Ok(())
 }
 
 // Appends the words for the name of a field.

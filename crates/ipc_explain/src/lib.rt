@@ -2,12 +2,19 @@
 //! it.
 #![tactic(auto)]
 
+mod column_lines;
+mod columns_alone;
 mod explained;
 mod field_paths;
 mod formats;
+mod known;
+mod learning;
+mod numbers;
 mod recorded;
 mod recorder;
 #[cfg(test)]
 mod tests;
+mod writes;
 
 pub use recorder::Recorder;
+pub use writes::explain_write;

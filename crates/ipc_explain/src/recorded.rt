@@ -2,19 +2,23 @@
 ghost use Rattle.std.specs.Prelude.{◌≡◌, ◌≤◌, ◌++◌, [], length, None, IfOk, IfSome};
 ghost use Rattle.ipc_frame.specs.Pieces.{taking};
 ghost use Rattle.ipc_explain.specs.Kept.{Keeps, KeepsFed, front_of, kept_of};
+ghost use Rattle.ipc_explain.specs.Known.{Learns};
 
+use crate::known::Known;
+use crate::learning::known_after;
 use ipc_frame::{Frame, Frames};
 use ipc_model::{Fault, Limits};
 use std::alloc::Global;
 
 /// What is kept of a stream: the first bytes of the message that is being read, or the message that
-/// was read last, if no byte of the next one has come.
+/// was read last, if no byte of the next one has come; and what the messages before it put in force.
 #[derive(Drop)]
 pub(crate) struct Recorded {
     pub(crate) limits: Limits,
     pub(crate) frames: Frames,
     pub(crate) front: Vec<u8>,
     pub(crate) last: Option<Frame>,
+    pub(crate) known: Option<Known>,
     pub(crate) ghost same_limits: { frames.limits ≡ limits },
     pub(crate) ghost front_kept: { front.items ≡ kept_of limits frames.progress front.items },
 }
@@ -62,27 +66,34 @@ impl Recorded {
         ensures limits { result.limits ≡ limits }
         ensures progress { result.frames.progress ≡ taking [] }
         ensures last { result.last ≡ None }
+        ensures known { result.known ≡ None }
     {
         Recorded {
             limits,
             frames: Frames::new(alloc, limits),
             front: Vec::new(alloc),
             last: None,
+            known: None,
         }
     }
 
-    /// Takes the bytes that were read next. Returns `None` if memory ran out.
+    /// Takes the bytes that were read next, after a message that the reader accepted. Returns `None`
+    /// if memory ran out.
     pub(crate) fn record(self, piece: &[u8]) -> Option<Recorded>
         ensures limits { IfSome result (λ next. next.limits ≡ self.limits) }
         ensures keeps { IfSome result (λ next. Keeps self.limits self.frames.progress
             self.front.items piece.now next.frames.progress next.front.items next.last) }
+        ensures learns { IfSome result
+            (λ next. Learns self.limits self.known self.last next.known) }
     {
         let Recorded {
             limits,
             mut frames,
             front,
-            last: _,
+            last,
+            known,
         } = self;
+        let known = known_after(*front.allocator(), limits, known, last).ok()?;
         let fed = frames.feed(piece);
         let (front, last) = kept_after(&limits, front, piece, fed)?;
         Some(Recorded {
@@ -90,6 +101,7 @@ impl Recorded {
             frames,
             front,
             last,
+            known,
         })
     }
 }

@@ -2,12 +2,13 @@
 ghost use Rattle.std.specs.Prelude.{◌≡◌, ◌≤◌, ◌<◌, ◌+◌, length, take, IfErr, IfOk};
 ghost use Rattle.std.specs.Io.KnownBytes.{ReadConsumes};
 ghost use Rattle.ipc_frame.specs.Failures.{Counts};
-ghost use Rattle.ipc_explain.specs.Explained.{Explains};
+ghost use Rattle.ipc_explain.specs.Explained.{Explains, ExplainsUnwritten};
 ghost use Rattle.ipc_explain.specs.Followed.{Follows, Starts};
 
 use crate::recorded::Recorded;
+use crate::writes::explain_write;
 use ipc_frame::{Failed, Source};
-use ipc_model::{Fault, Limits};
+use ipc_model::{Fault, Limits, WriteFault};
 use std::alloc::Global;
 use std::mem::replace;
 
@@ -41,6 +42,11 @@ impl<R: Source> Recorder<R> {
     /// - F13 to F22 at the first message: the field that has the fault, by the numbers and names of
     ///   the column and of the children on the way to it, and its type (Schema.fbs, union Type).
     ///   Nothing is said if no column alone has the fault, as mostly with F17 to F21.
+    /// - F26 and F27 at a later message: the numbers of nodes or buffers (Message.fbs, table
+    ///   RecordBatch), those of the batch and those that its fields need.
+    /// - F28 to F34 at a later message: the first column that alone has the fault, by its number,
+    ///   name and type, with its nodes and buffers. The column of a dictionary batch is that of the
+    ///   dictionary's values.
     ///
     /// Pass the fault of the message that was read last. No contract compares the two, because a
     /// reader that is generic in its source does not state which message it read last.
@@ -53,8 +59,31 @@ impl<R: Source> Recorder<R> {
     {
         match (&self.recorded, message) {
             (Some(recorded), 0) => recorded.explain(alloc, fault),
-            _ => Ok(Vec::new(alloc)),
+            (Some(recorded), _) => recorded.explain_later(alloc, fault),
+            (None, _) => Ok(Vec::new(alloc)),
         }
+    }
+
+    /// Returns lines that explain why rows of the stream are not written, as `explain_write` does
+    /// for the stream's schema. They are empty if nothing is kept, or if no byte was read after the
+    /// schema's message.
+    ///
+    /// Errors: `OutOfMemory` only.
+    pub fn explain_write(&self, alloc: Global, fault: &WriteFault) -> Result<Vec<u8>, Fault>
+        ensures lines { IfOk result
+            (λ lines. ExplainsUnwritten self.now.recorded fault.now lines.items) }
+        ensures refused { IfErr result (λ f. f ≡ Fault.OutOfMemory) }
+    {
+        let Some(
+            Recorded {
+                known: Some(known),
+                ..
+            },
+        ) = &self.recorded
+        else {
+            return Ok(Vec::new(alloc));
+        };
+        explain_write(alloc, &known.schema, fault)
     }
 
     /// Returns the source.
