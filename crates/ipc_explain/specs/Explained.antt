@@ -34,9 +34,9 @@ pub record ExplainsFirst (limits : Limits) (kept : List ℕ) (fault : Fault) (ou
   pub other : fault_number fault ≢ 1 → (fault_number fault < 13) ⊎ (22 < fault_number fault)
       → out ≡ []
 
--- the line for a batch of these fields, under these dictionaries, that was refused, by the number of
--- the fault: of F26 and F27 the numbers of nodes or buffers; of F28 to F34 the column that has the
--- fault; of any other nothing
+-- the line for a batch of these fields, under these dictionaries, that was refused, by the number
+-- of the fault: of F26 and F27 the numbers of nodes or buffers; of F28 to F34 the column that has
+-- the fault; of any other nothing
 pub record ExplainsBatch (limits : Limits) (fault : Fault) (m : Dictionaries) (fields : List Field)
     (head : BatchHead) (body front out : List ℕ) : Type 0 where
   pub nodes : fault_number fault ≡ 26

@@ -24,8 +24,8 @@ SetsDictionary limits old id head body new =
     Step limits (Some old) (h.Dictionary id head) body [] (Some new)
 
 -- what was known, and is known after a message with this head and body: a schema puts itself in
--- force without dictionaries, a dictionary's message sets the dictionary, and a record batch changes
--- nothing
+-- force without dictionaries, a dictionary's message sets the dictionary, and a record batch
+-- changes nothing
 abbrev pub LearnsMessage : Limits → Option Known → Head → List ℕ → Option Known → Type 0
 LearnsMessage limits old (h.Schema s) body (Some new) =
     (in_force new ≡ begun s) × (new.limits ≡ limits)

@@ -3,7 +3,8 @@ ghost use Rattle.std.specs.Prelude.{◌≡◌, ◌++◌, ◌∷◌, [], IfErr, O
 ghost use Rattle.std.specs.Fmt.{decimal, signed_decimal};
 ghost use Rattle.ipc_model.specs.declared.schema.Field.{out-Field};
 ghost use Rattle.ipc_explain.specs.ColumnLines.{column_line, column_words, count_line};
-ghost use Rattle.ipc_explain.specs.ColumnLines.{name_words, pair_words, pairs_words, title_words, type_words};
+ghost use Rattle.ipc_explain.specs.ColumnLines.{name_words, pair_words, pairs_words};
+ghost use Rattle.ipc_explain.specs.ColumnLines.{title_words, type_words};
 
 use crate::columns_alone::ColumnPart;
 use crate::numbers::{push_number, push_signed};

@@ -1,10 +1,10 @@
 //! The column of a refused record batch that alone has the fault.
-ghost use Rattle.std.specs.Prelude.{◌≡◌, ◌≤◌, ◌-◌, None, length, true, false, drop, take, IfErr, IfOk};
-ghost use Rattle.std.specs.Prelude.{IfSome, Some, slice_get, MatchOption};
+ghost use Rattle.std.specs.Prelude.{◌≡◌, ◌≤◌, None, Some, length, true, false, slice_get, IfErr};
+ghost use Rattle.std.specs.Prelude.{IfOk, IfSome, MatchOption};
 ghost use Rattle.ipc_model.specs.Entries.{entries};
 ghost use Rattle.ipc_column.specs.Dictionaries.{AreDictionaries, dictionaries_in};
-ghost use Rattle.ipc_explain.specs.ColumnsAlone.{FirstAlone, NoneAlone, Passes, IsRefusedAs, column_head};
-ghost use Rattle.ipc_explain.specs.ColumnsAlone.{part};
+ghost use Rattle.ipc_explain.specs.ColumnsAlone.{FirstAlone, IsRefusedAs, NoneAlone, Passes};
+ghost use Rattle.ipc_explain.specs.ColumnsAlone.{column_head, part};
 
 use ipc_column::{Batch, Cursor, count};
 use ipc_meta::BatchHead;
@@ -113,7 +113,8 @@ pub(crate) fn first_alone<'a>(
     requires dictionaries { AreDictionaries dictionaries.now }
     requires few { length (entries fields.now) ≤ limits.now.fields }
     ensures found { IfOk result (λ o. MatchOption o
-        (NoneAlone limits.now fault.now (dictionaries_in dictionaries.now) fields.now head.now body.now)
+        (NoneAlone limits.now fault.now (dictionaries_in dictionaries.now) fields.now head.now
+        body.now)
         (λ part. FirstAlone limits.now fault.now (dictionaries_in dictionaries.now) fields.now
         head.now body.now part.number
         × (slice_get fields.now part.number ≡ Some part.field.now)

@@ -13,6 +13,6 @@ pub(crate) struct Known {
     pub(crate) limits: Limits,
     pub(crate) schema: Schema,
     pub(crate) dictionaries: Dictionaries,
-    pub(crate) ghost few_fields: { length (entries schema.fields) ≤ limits.fields },
-    pub(crate) ghost columns: { HasColumnsOf schema dictionaries } by { Prim.hlevel (codes, the_row.coded) },
+    ghost few_fields: { length (entries schema.fields) ≤ limits.fields },
+    ghost columns: { HasColumnsOf schema dictionaries } by { Prim.hlevel (codes, the_row.coded) },
 }

@@ -11,7 +11,8 @@ use ipc_model::{Fault, Limits};
 use std::alloc::Global;
 
 /// What is kept of a stream: the first bytes of the message that is being read, or the message that
-/// was read last, if no byte of the next one has come; and what the messages before it put in force.
+/// was read last, if no byte of the next one has come. It also has what the messages before that
+/// one put in force.
 #[derive(Drop)]
 pub(crate) struct Recorded {
     pub(crate) limits: Limits,
@@ -77,8 +78,8 @@ impl Recorded {
         }
     }
 
-    /// Takes the bytes that were read next, after a message that the reader accepted. Returns `None`
-    /// if memory ran out.
+    /// Takes the bytes that were read next, after a message that the reader accepted. Returns
+    /// `None` if memory ran out.
     pub(crate) fn record(self, piece: &[u8]) -> Option<Recorded>
         ensures limits { IfSome result (λ next. next.limits ≡ self.limits) }
         ensures keeps { IfSome result (λ next. Keeps self.limits self.frames.progress

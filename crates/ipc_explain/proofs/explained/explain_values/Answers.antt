@@ -15,7 +15,8 @@ returns-clause-line c =
     let fields = c.in-Some.fields.now in
     let found : columns_for (columns_in c.args.known.now.schema.fields) c.args.id ≡ Some fields =
     ap (columns_for (columns_in c.args.known.now.schema.fields)) (sym (to_z-of_z w64 c.args.id c.ranges.id)) ∙ c.in-Some.ensures.some in
-    let none : dictionaries_in c.new-none.result ≡ [] = ap (λ es. map (λ e. (e.0, dictionary_values e.1.value)) es) c.new-none.ensures.empty in
+    let none : dictionaries_in c.new-none.result ≡ [] =
+    ap (λ es. map (λ e. (e.0, dictionary_values e.1.value)) es) c.new-none.ensures.empty in
     subst (λ o. IfOk c.explain_batch.result (λ line. MatchOption o (line.items ≡ [])
     (λ columns. ExplainsBatch limits fault [] columns head body (dictionary_words c.args.id) line.items))) (sym found)
     (subst (λ front. IfOk c.explain_batch.result (λ line. ExplainsBatch limits fault [] fields head body front line.items))

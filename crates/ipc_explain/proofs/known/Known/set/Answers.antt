@@ -1,5 +1,4 @@
 use Rattle.std.proofs.Common.{◌≡◌, Ok, subst, w64}
-use Rattle.std.specs.Prelude.{OnOk}
 use Rattle.std.proofs.lemmas.Int.{to_z-of_z}
 use Rattle.ipc_dictionaries.specs.InForce.{put}
 use Rattle.ipc_decode.specs.Courses.{GivesValues}
