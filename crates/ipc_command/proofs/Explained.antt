@@ -1,6 +1,7 @@
 -- The line for a field that is refused.
 use Rattle.std.proofs.Common.{◌≡◌, ◌∙◌, sym, subst, ℕ, List, Some}
-use Rattle.std.specs.Prelude.{slice_get}
+use Rattle.std.specs.Prelude.{Err, IfOk, IfSome, Ok, Result, slice_get}
+use Rattle.std.specs.Result.{result_ok}
 use Rattle.std.proofs.lemmas.Option.{same_Some}
 use Rattle.csv.specs.Records.{field_at}
 use Rattle.ipc_model.specs.declared.schema.Field.{Field}
@@ -20,3 +21,8 @@ field_explained number place line columns texts f text out column field told g t
       subst (λ x. IsShown x told.0) same_text told.1,
       subst (λ x. out ≡ bad_field line told.0 (middle_words number) x) same_column told.2,
     )
+
+-- what holds of the value of a result holds of the value that `ok` returns
+pub told_if_ok : {V F : Type 0} (r : Result V F) (P : V → Type 0) → IfOk r P → IfSome (result_ok r) P
+told_if_ok (Ok v) P h = h
+told_if_ok (Err e) P h = tt

@@ -1,12 +1,11 @@
 -- The line for people that is printed after the line of a refused record of CSV.
-use Rattle.std.specs.Prelude.{◌≡◌, ◌⊎◌, ◌≤◌, ℕ, zero, suc, Bool, true, false, List, [], ◌∷◌, ◌++◌}
+use Rattle.std.specs.Prelude.{◌≡◌, ◌⊎◌, ◌≤◌, ℕ, zero, suc, List, [], ◌++◌}
 use Rattle.std.specs.Prelude.{length, take, codes, decimal, slice_get, Some, if◌then◌else◌}
 use Rattle.std.specs.Str.{IsCharBoundary, IsUtf8}
 use Rattle.csv.specs.Records.{field_at}
 use Rattle.hex.specs.Hex.{encode_lower}
 use Rattle.serde_json.specs.Data.{string}
 use Rattle.serde_json.specs.Written.{compact_text}
-use Rattle.ipc_model.specs.declared.schema.DataType.{DataType}
 use Rattle.ipc_model.specs.declared.schema.Field.{Field, out-Field}
 use Rattle.ipc_json.specs.SchemaJson.{type_json}
 use Rattle.ipc_moments.specs.declared.fault.TextFault.{TextFault}

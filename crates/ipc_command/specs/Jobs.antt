@@ -50,6 +50,7 @@ stop_status (stop.Read fault message) = fault_status fault
 stop_status stop.Input = fault_status f.Read
 stop_status stop.Schema = fault_status f.Read
 stop_status (stop.Write fault) = write_fault_status fault
+stop_status (stop.Rows fault s) = write_fault_status fault
 stop_status (stop.Text fault) = text_status fault
 stop_status (stop.SchemaText text) = 1
 stop_status (stop.Record fault refused s) = 1
@@ -73,7 +74,7 @@ stop_of_rewrite (rewrite.Write fault) = stop.Write fault
 -- the reason why a conversion from CSV by a schema stopped, as the job's
 abbrev pub stop_of_csv : Schema → CsvStop → Stop
 stop_of_csv s from_csv.Input = stop.Input
-stop_of_csv s (from_csv.Write fault) = stop.Write fault
+stop_of_csv s (from_csv.Write fault) = stop.Rows fault s
 stop_of_csv s (from_csv.Text fault) = stop.Text fault
 stop_of_csv s (from_csv.Record fault refused) = stop.Record fault refused s
 

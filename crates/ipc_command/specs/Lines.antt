@@ -8,7 +8,8 @@ use Rattle.ipc_model.specs.declared.fault.WriteFault.{WriteFault}
 use Rattle.ipc_model.specs.declared.fault.WriteFault.TheVariants as w
 use Rattle.ipc_moments.specs.FaultLines.{text_fault_line}
 use Rattle.csv.specs.Records.{fields_of}
-use Rattle.ipc_explain.specs.Explained.{Explains as ExplainsMessage}
+use Rattle.ipc_explain.specs.Explained.{Explains as ExplainsMessage, ExplainsUnwritten}
+use Rattle.ipc_explain.specs.Writes.{ExplainsWrite}
 use Rattle.ipc_explain.specs.declared.recorded.Recorded.{Recorded}
 use Rattle.ipc_moments.specs.declared.fault.TextFault.TheVariants as x
 use Rattle.ipc_command.specs.Explanations.{ExplainsRecord}
@@ -27,15 +28,19 @@ stop_text (stop.Read fault message) = stop_line fault message
 stop_text stop.Input = fault_text f.Read
 stop_text stop.Schema = codes "cannot read schema"
 stop_text (stop.Write fault) = write_line fault
+stop_text (stop.Rows fault s) = write_line fault
 stop_text (stop.Text fault) = text_fault_line fault
 stop_text (stop.SchemaText text) = text_fault_line x.BadSchemaJson
 stop_text (stop.Record fault refused s) = text_fault_line fault
 
--- the lines that explain a job that stopped: those of the message of a stream, the record of CSV or
--- the schema's file that was refused, and else none
+-- the lines that explain a job that stopped: those of the message of a stream, the rows, the record
+-- of CSV or the schema's file that was refused, and else none
 abbrev pub Explains : Stop → List ℕ → Type 0
 Explains (stop.Read fault message) more =
     (kept : Option Recorded) × ExplainsMessage kept fault message more
+Explains (stop.Write fault) more =
+    (kept : Option Recorded) × ExplainsUnwritten kept fault more
+Explains (stop.Rows fault s) more = ExplainsWrite s.fields fault more
 Explains (stop.Record fault refused s) more =
     ExplainsRecord fault s.fields (fields_of refused) more
 Explains (stop.SchemaText text) more = ExplainsSchema text.items more

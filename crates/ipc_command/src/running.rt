@@ -1,7 +1,7 @@
 //! Does jobs, each between an input and a sink.
 ghost use Rattle.std.specs.Io.KnownBytes.{Appends};
 ghost use Rattle.std.specs.Prelude.{◌≡◌, ◌≢◌, ◌⊎◌, ◌++◌, ◌∷◌, [], Result, Some, OnOk, is_some, ⊤};
-ghost use Rattle.std.specs.Prelude.{IsTrue};
+ghost use Rattle.std.specs.Prelude.{IfSome, IsTrue};
 ghost use Rattle.ipc_stream.specs.Failures.{Counts};
 ghost use Rattle.ipc_command.specs.Jobs.{Answers, AnswersCsv, AnswersPrint, AnswersRewrite};
 ghost use Rattle.ipc_command.specs.Jobs.{AnswersSchema, shape_of};
@@ -17,7 +17,7 @@ use crate::schema_file::read_schema;
 use crate::stop::Stop;
 use crate::words::{Invocation, Job};
 use ipc_csv::Dialect;
-use ipc_explain::Recorder;
+use ipc_explain::{Recorder, explain_write};
 use ipc_from_csv::from_csv_with_seed;
 use ipc_json::RowShape;
 use ipc_model::{Limits, Schema};
@@ -244,6 +244,24 @@ fn record<S: Source>(alloc: Global, job: &Job, explain: bool, input: S) -> Recor
     Recorder::new(alloc, *limits, input, explain)
 }
 
+// The lines that explain a job that stopped, if memory does not run out; they may be empty.
+fn lines_of<S: Source>(alloc: Global, stop: &Stop, input: &Recorder<S>) -> Option<Vec<u8>>
+    ensures { IfSome result (λ lines. (lines.items ≡ []) ⊎ Explains stop.now lines.items) }
+{
+    match stop {
+        Stop::Read(fault, message) => input.explain(alloc, fault, *message).ok(),
+        Stop::Write(fault) => input.explain_write(alloc, fault).ok(),
+        Stop::Rows { fault, schema } => explain_write(alloc, schema, fault).ok(),
+        Stop::Record {
+            fault,
+            refused,
+            schema,
+        } => explain_record(alloc, fault, schema, refused).ok(),
+        Stop::SchemaText(text) => explain_schema(alloc, text.as_slice()).ok(),
+        _ => None,
+    }
+}
+
 // The lines that explain a job that stopped, if that is asked for and memory does not run out.
 fn explanation_of<S: Source>(
     alloc: Global,
@@ -256,17 +274,7 @@ fn explanation_of<S: Source>(
     if !explain {
         return Vec::new(alloc);
     }
-    let lines = match stop {
-        Stop::Read(fault, message) => input.explain(alloc, fault, *message).ok(),
-        Stop::Record {
-            fault,
-            refused,
-            schema,
-        } => explain_record(alloc, fault, schema, refused).ok(),
-        Stop::SchemaText(text) => explain_schema(alloc, text.as_slice()).ok(),
-        _ => None,
-    };
-    match lines {
+    match lines_of(alloc, stop, input) {
         Some(lines) => lines,
         None => Vec::new(alloc),
     }

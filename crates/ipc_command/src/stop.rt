@@ -24,6 +24,13 @@ pub enum Stop {
     SchemaText(Vec<u8>),
     /// What was read could not be written.
     Write(WriteFault),
+    /// Rows of CSV could not be written.
+    Rows {
+        /// Why they could not be written.
+        fault: WriteFault,
+        /// The schema.
+        schema: Schema,
+    },
     /// What was read has no text, or is not a valid text.
     Text(TextFault),
     /// A record of CSV is another header than the schema's, or no row of the schema.
@@ -78,7 +85,7 @@ impl Stop {
     {
         match why {
             ipc_from_csv::Stop::Input => Stop::Input,
-            ipc_from_csv::Stop::Write(fault) => Stop::Write(fault),
+            ipc_from_csv::Stop::Write(fault) => Stop::Rows { fault, schema },
             ipc_from_csv::Stop::Text(fault) => Stop::Text(fault),
             ipc_from_csv::Stop::Record { fault, refused } => Stop::Record {
                 fault,
@@ -97,6 +104,7 @@ impl Stop {
             Stop::Read(fault, _) => fault.exit_status(),
             Stop::Input | Stop::Schema => Fault::Read.exit_status(),
             Stop::Write(fault) => fault.exit_status(),
+            Stop::Rows { fault, .. } => fault.exit_status(),
             Stop::Text(TextFault::OutOfMemory) => WriteFault::OutOfMemory.exit_status(),
             Stop::Text(_) => 1,
             Stop::SchemaText(_) => 1,
@@ -129,6 +137,7 @@ impl Stop {
             Stop::Input => send_fault(messages, &Fault::Read),
             Stop::Schema => send(messages, "cannot read schema"),
             Stop::Write(fault) => send_write_fault(messages, fault),
+            Stop::Rows { fault, .. } => send_write_fault(messages, fault),
             Stop::Text(fault) => send_text_fault(messages, fault),
             Stop::SchemaText(_) => send_text_fault(messages, &TextFault::BadSchemaJson),
             Stop::Record { fault, .. } => send_text_fault(messages, fault),

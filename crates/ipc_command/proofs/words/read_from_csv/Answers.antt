@@ -1,4 +1,4 @@
-use Rattle.std.proofs.Common.{rules, refl, inl, inr}
+use Rattle.std.proofs.Common.{rules, refl}
 use Rattle.ipc_command.specs.Words.{HasWrongValue}
 use Rattle.ipc_command.proofs.LineWords.{no_text, text_found, wrong_for}
 use Rattle.ipc_command.proofs.words.read_from_csv.Goals as goal

@@ -1,4 +1,4 @@
-use Rattle.std.proofs.Common.{inl, inr}
+use Rattle.std.proofs.Common.{inr}
 use Rattle.ipc_command.specs.Words.{HasWrongValue}
 use Rattle.ipc_command.proofs.LineWords.{value_wrong}
 use Rattle.ipc_command.proofs.words.read_job.Goals as goal

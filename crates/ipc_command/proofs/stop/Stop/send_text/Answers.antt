@@ -15,6 +15,10 @@ returns-in-Schema-clause-sent g c = sent_as _ _ _ _ c.send.result (ap stop_text 
 pub returns-in-Write-clause-sent : goal.returns-in-Write-clause-sent
 returns-in-Write-clause-sent g c = sent_as _ _ _ _ c.send_write_fault.result (ap stop_text c.in-Write.is) c.send_write_fault.ensures.sent
 
+pub returns-in-Rows-clause-sent : goal.returns-in-Rows-clause-sent
+returns-in-Rows-clause-sent g c =
+    sent_as _ _ _ _ c.send_write_fault-in-Rows.result (ap stop_text c.in-Rows.is) c.send_write_fault-in-Rows.ensures.sent
+
 pub returns-in-Text-clause-sent : goal.returns-in-Text-clause-sent
 returns-in-Text-clause-sent g c = sent_as _ _ _ _ c.send_text_fault.result (ap stop_text c.in-Text.is) c.send_text_fault.ensures.sent
 
