@@ -8,7 +8,7 @@ mod progress;
 mod retry;
 mod schema_file;
 
-use ipc_command::{Invocation, Usage, read_words, run_with_seed};
+use ipc_command::{Invocation, Usage, read_words, run};
 use ipc_stream::{Device, Seed, Sink};
 use progress::ProgressLine;
 use retry::Retry;
@@ -122,7 +122,7 @@ fn do_job(rt: &HostRuntime, asked: Invocation, schema: SchemaFile) -> Result<u8,
     let mut messages = Device::new(stderr);
     let mut progress = ProgressLine::start(rt, asked.progress);
     let explain = asked.explain;
-    let (status, input, output, file) = run_with_seed(
+    let (status, input, output, file) = run(
         alloc,
         draw_seed(rt),
         asked,

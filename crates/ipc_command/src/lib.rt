@@ -12,6 +12,6 @@ mod stop;
 mod words;
 
 pub use csv_dialect::CsvDialect;
-pub use running::{run, run_with_seed};
+pub use running::run;
 pub use stop::Stop;
 pub use words::{Invocation, Job, Usage, read_words};

@@ -317,7 +317,9 @@ fn report<S: Source, E: Sink>(
 /// sent. Of a stream, no byte after its end-of-stream mark is read.
 ///
 /// `schema` is the file that the job names, or `None` if it cannot be opened. Only `FromCsv` reads
-/// it. The batch size must be from 1 to 2^31 - 1, as `read_words` returns it.
+/// it. The batch size must be from 1 to 2^31 - 1, as `read_words` returns it. The values of
+/// dictionaries that are written are hashed with `seed`: nobody who does not know a random seed can
+/// choose values whose hashes collide.
 ///
 /// Returns the exit status, the input, the sink and the schema's file. A failing `messages` changes
 /// nothing. The exit status is:
@@ -327,48 +329,6 @@ fn report<S: Source, E: Sink>(
 /// - 3 if the input, the schema's file or the sink failed;
 /// - 4 if memory ran out.
 pub fn run<P: Source, S: Source, W: Sink, N: Progress, E: Sink>(
-    alloc: Global,
-    asked: Invocation,
-    schema: Option<P>,
-    input: S,
-    sink: W,
-    progress: &mut N,
-    messages: &mut E,
-) -> (u8, S, W, Option<P>)
-    requires { HasGoodSize asked.job }
-    // The status is that of an answer, which says what was read, what went out and which device
-    // failed. Exactly its line was printed, and with `explain` the lines that explain it; at
-    // success nothing.
-    ensures answers { (r : Result ⊤ Stop) × (result.0 ≡ exit_status r)
-        × Answers asked.job (bytes_of P.remaining schema) (failures_of P.failures result.3)
-        (S.remaining input) (S.remaining result.1) (W.written sink) (W.written result.2)
-        (S.failures input) (S.failures result.1) (W.failures sink) (W.failures result.2) r
-        × TellsStop asked.explain (E.written messages.old) (E.written messages.new)
-        (E.failures messages.new) r }
-    // Where all was done the sink holds nothing back.
-    ensures handed_on { result.0 ≡ 0 → W.held_back result.2 ≡ Some [] }
-    // A sink fails only at 3.
-    ensures works { result.0 ≢ 3 → W.failures sink ≡ 0 → W.failures result.2 ≡ 0 }
-    // There is no other status.
-    ensures one { (result.0 ≡ 0) ⊎ (result.0 ≡ 1) ⊎ (result.0 ≡ 3) ⊎ (result.0 ≡ 4) }
-    // A file that was opened comes back, and none is made up.
-    ensures file { is_some result.3 ≡ is_some schema }
-{
-    run_with_seed(
-        alloc,
-        Seed::Fixed,
-        asked,
-        schema,
-        input,
-        sink,
-        progress,
-        messages,
-    )
-}
-
-/// Does a job as `run` does, but hashes the values of dictionaries that are written with this seed.
-/// Nobody who does not know a random seed can choose values whose hashes collide.
-pub fn run_with_seed<P: Source, S: Source, W: Sink, N: Progress, E: Sink>(
     alloc: Global,
     seed: Seed,
     asked: Invocation,

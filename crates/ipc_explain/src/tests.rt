@@ -2,8 +2,11 @@
 ghost use Rattle.std.specs.Prelude.{◌≤◌, ◌-◌, None, length, vec_len};
 
 use crate::recorder::Recorder;
+use crate::writes::explain_write;
 use ipc_frame::{Failed, Frames, Source};
-use ipc_model::{Fault, Limits};
+use ipc_model::{
+    DataType, Dictionary, Fault, Field, IndexType, IntBits, Limits, Schema, WriteFault,
+};
 use std::alloc::Global;
 use std::test::Fail;
 
@@ -83,5 +86,53 @@ fn names_formats(rt: HostRuntime) -> Result<(), Fail> {
 fn names_fields(rt: HostRuntime) -> Result<(), Fail> {
     let line = explained(rt.alloc(), &FLOATING_POINT, true)?;
     assert!(rt; is_line(&line, b"column 0 \"a\": type FloatingPoint (code 3)\n"));
+    Ok(())
+}
+
+// A schema with columns of numbers, texts, lists and texts of a dictionary.
+fn four_columns(alloc: Global) -> Result<Schema, Fault> {
+    let numbers = DataType::Int {
+        bits: IntBits::B32,
+        signed: true,
+    };
+    let dictionary = Dictionary {
+        id: 7,
+        index: IndexType {
+            bits: IntBits::B8,
+            signed: true,
+        },
+        ordered: false,
+    };
+    let mut items = Vec::new(alloc);
+    items.push(Field::new(alloc, "item", DataType::Bool)?)?;
+    let mut fields = Vec::new(alloc);
+    fields.push(Field::new(alloc, "a", numbers)?)?;
+    fields.push(Field::new(alloc, "b", DataType::Utf8)?)?;
+    fields.push(Field::new(alloc, "c", DataType::List)?.with_children(items))?;
+    fields.push(Field::new(alloc, "d", DataType::Utf8)?.with_dictionary(dictionary))?;
+    Ok(Schema::new(fields))
+}
+
+#[test]
+fn lists_columns_that_can_be_too_large(rt: HostRuntime) -> Result<(), Fail> {
+    let alloc = rt.alloc();
+    let schema = four_columns(alloc)?;
+    let long = explain_write(alloc, &schema, &WriteFault::TooLong)?;
+    assert!(rt;
+        is_line(
+            &long,
+            b"column 1 \"b\" of type [\"utf8\"]: texts of any length\n\
+              column 2 \"c\" of type [\"list\"]: lists of any length\n\
+              column 3 \"d\" of type [\"utf8\"]: texts of any length\n"
+        )
+    );
+    let many = explain_write(alloc, &schema, &WriteFault::TooManyRows)?;
+    assert!(rt;
+        is_line(
+            &many,
+            b"column 2 \"c\" of type [\"list\"]: lists of any length\n\
+              column 3 \"d\" of type [\"utf8\"]: dictionary 7 with indices of type [\"int\",8]\n"
+        )
+    );
     Ok(())
 }

@@ -3,7 +3,7 @@ ghost use Rattle.std.specs.Prelude.{◌≡◌, ◌++◌, ◌+◌, [], None, Some
 ghost use Rattle.std.specs.Prelude.{IfErr, IfOk, IfSome, OnOk};
 ghost use Rattle.ipc_explain.specs.Writes as spec;
 ghost use Rattle.ipc_explain.specs.Writes.{ExplainsWrite, dictionary_line, dictionary_lines};
-ghost use Rattle.ipc_explain.specs.Writes.{place_words, steps_words};
+ghost use Rattle.ipc_explain.specs.Writes.{growth_line, growth_lines, place_words, steps_words};
 
 use crate::column_lines::{push_name, push_title, push_type};
 use crate::numbers::{push_number, push_signed};
@@ -107,19 +107,72 @@ fn push_dictionary(
     Ok(())
 }
 
-// The lines for the columns that have a dictionary.
-fn list_dictionaries(alloc: Global, schema: &Schema) -> Result<Vec<u8>, Fault>
-    ensures lines { IfOk result (λ out. out.items ≡ dictionary_lines 0 schema.now.fields) }
+// Appends the lines for the columns that have a dictionary.
+fn list_dictionaries(alloc: Global, out: &mut Vec<u8>, fields: &[Field]) -> Result<(), Fault>
+    ensures ok { OnOk result
+        (out.new.items ≡ out.old.items ++ dictionary_lines 0 fields.now) }
     ensures refused { IfErr result (λ f. f ≡ Fault.OutOfMemory) }
 {
-    let mut out = Vec::new(alloc);
-    let fields = schema.fields.as_slice();
     for number in 0..fields.len() {
         if let Some(dictionary) = fields[number].dictionary {
-            push_dictionary(alloc, &mut out, number, &fields[number], dictionary)?;
+            push_dictionary(alloc, out, number, &fields[number], dictionary)?;
         }
     }
-    Ok(out)
+    Ok(())
+}
+
+// The words for what a value adds to a column beside its slot: more slots, or with `bytes` also
+// bytes.
+fn growth_words(bytes: bool, kind: &DataType) -> Option<&'static [u8]>
+    ensures some { IfSome result (λ words. spec.growth_words bytes kind.now ≡ Some words.now) }
+    ensures none { result ≡ None → spec.growth_words bytes kind.now ≡ None }
+{
+    match kind {
+        DataType::Binary if bytes => Some(b"bytes of any length"),
+        DataType::Utf8 if bytes => Some(b"texts of any length"),
+        DataType::List => Some(b"lists of any length"),
+        DataType::FixedSizeList(_) => Some(b"lists"),
+        DataType::Struct => Some(b"structs"),
+        _ => None,
+    }
+}
+
+// Appends the line for a column whose values add these words.
+fn push_growth(
+    alloc: Global,
+    out: &mut Vec<u8>,
+    number: usize,
+    field: &Field,
+    words: &[u8],
+) -> Result<(), Fault>
+    ensures ok { OnOk result (out.new.items
+        ≡ out.old.items ++ growth_line number field.now (Some words.now)) }
+    ensures refused { IfErr result (λ f. f ≡ Fault.OutOfMemory) }
+{
+    push_title(alloc, out, number, field)?;
+    out.extend_from_slice(b": ")?;
+    out.extend_from_slice(words)?;
+    out.extend_from_slice(b"\n")?;
+    Ok(())
+}
+
+// Appends the lines for the columns whose values add slots, or with `bytes` also bytes.
+fn list_growing(
+    alloc: Global,
+    out: &mut Vec<u8>,
+    bytes: bool,
+    fields: &[Field],
+) -> Result<(), Fault>
+    ensures ok { OnOk result
+        (out.new.items ≡ out.old.items ++ growth_lines bytes 0 fields.now) }
+    ensures refused { IfErr result (λ f. f ≡ Fault.OutOfMemory) }
+{
+    for number in 0..fields.len() {
+        if let Some(words) = growth_words(bytes, &fields[number].kind) {
+            push_growth(alloc, out, number, &fields[number], words)?;
+        }
+    }
+    Ok(())
 }
 
 /// Returns lines that explain why rows of a schema are not written, each with a line feed. They are
@@ -127,8 +180,13 @@ fn list_dictionaries(alloc: Global, schema: &Schema) -> Result<Vec<u8>, Fault>
 ///
 /// - W2 to W5: what is wrong with the value, and its column and the children on the way to it, by
 ///   their numbers and names, with the type of the last one.
+/// - W6: the columns that can make a batch too long: those of bytes, texts, lists and structs.
 /// - W7: the columns that have a dictionary, with the types of their indices. Dictionaries of
 ///   children are not listed.
+/// - W8: the columns that can have more slots than the batch has rows: those of lists and structs,
+///   and then those that have a dictionary.
+///
+/// Which column of W6, W7 and W8 was too large is not known: the rows are gone.
 ///
 /// Errors: `OutOfMemory` only.
 pub fn explain_write(alloc: Global, schema: &Schema, fault: &WriteFault) -> Result<Vec<u8>, Fault>
@@ -136,9 +194,17 @@ pub fn explain_write(alloc: Global, schema: &Schema, fault: &WriteFault) -> Resu
         (λ out. ExplainsWrite schema.now.fields fault.now out.items) }
     ensures refused { IfErr result (λ f. f ≡ Fault.OutOfMemory) }
 {
+    let mut out = Vec::new(alloc);
+    let fields = schema.fields.as_slice();
     match fault {
-        WriteFault::Row { row, fault } => row_line(alloc, schema, *row, fault),
-        WriteFault::DictionaryFull => list_dictionaries(alloc, schema),
-        _ => Ok(Vec::new(alloc)),
+        WriteFault::Row { row, fault } => return row_line(alloc, schema, *row, fault),
+        WriteFault::TooLong => list_growing(alloc, &mut out, true, fields)?,
+        WriteFault::DictionaryFull => list_dictionaries(alloc, &mut out, fields)?,
+        WriteFault::TooManyRows => {
+            list_growing(alloc, &mut out, false, fields)?;
+            list_dictionaries(alloc, &mut out, fields)?;
+        }
+        _ => {}
     }
+    Ok(out)
 }

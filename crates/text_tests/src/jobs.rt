@@ -4,7 +4,7 @@ ghost use Rattle.ipc_command.specs.Words.{HasGoodSize};
 
 use ipc_command::{CsvDialect, Invocation, Job, run};
 use ipc_model::Limits;
-use ipc_stream::{Limited, Memory};
+use ipc_stream::{Limited, Memory, Seed};
 use std::alloc::{AllocError, Global};
 use std::test::Fail;
 
@@ -147,7 +147,16 @@ fn done(
         progress: false,
     };
     let schema = Some(schema);
-    let (status, _, sink, _) = run(alloc, asked, schema, input, sink, &mut (), &mut messages);
+    let (status, _, sink, _) = run(
+        alloc,
+        Seed::Fixed,
+        asked,
+        schema,
+        input,
+        sink,
+        &mut (),
+        &mut messages,
+    );
     Ok((
         status,
         sink.into_inner().into_bytes(),
