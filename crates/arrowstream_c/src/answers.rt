@@ -1,10 +1,11 @@
 //! The structs that C passes and reads, and the numbers in them.
 ghost use Rattle.std.specs.Prelude.{◌≡◌};
+ghost use Rattle.ipc_model.specs.Numbering.{fault_number};
 ghost use Rattle.arrowstream_c.specs.Numbers.{AreCapped, AreStandard, Caps, IsLayout, Shows};
 ghost use Rattle.arrowstream_c.specs.Numbers.{arrival_number, end_number};
 
 use ipc_decode::End;
-use ipc_model::{Layout, Limits};
+use ipc_model::{Fault, Layout, Limits};
 use ipc_session::{Arrival, ColumnFacts};
 
 /// The status of a call that finds nothing: no refusal of the reader has this number.
@@ -116,6 +117,13 @@ pub(crate) fn set_standard(out: &mut ReadLimits)
     out.depth = standard.depth;
     out.text = standard.text;
     out.pairs = standard.pairs;
+}
+
+// The status of a refusal: the number after its letter F.
+pub(crate) fn status_of(fault: &Fault) -> u32
+    ensures { result ≡ fault_number fault.now }
+{
+    u32::from(fault.number())
 }
 
 // The number of what came.

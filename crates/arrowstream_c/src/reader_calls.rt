@@ -2,7 +2,7 @@
 ghost use Rattle.arrowstream_c.specs.Calls.{Closes, CopiesLine, CopiesSchema, Feeds, GivesText};
 ghost use Rattle.arrowstream_c.specs.Calls.{IsAt, Takes};
 
-use crate::answers::{ABSENT, Progress, arrival_number, end_number};
+use crate::answers::{ABSENT, Progress, arrival_number, end_number, status_of};
 use crate::batch::BatchHandle;
 use crate::parts::Parts;
 use ipc_model::Fault;
@@ -33,7 +33,7 @@ pub(crate) fn feed(reader: &mut ReadSession, bytes: &[u8], out: &mut Progress) -
         }
         Err(fault) => {
             report(reader, 0, 0, out);
-            u32::from(fault.number())
+            status_of(&fault)
         }
     }
 }
@@ -48,7 +48,7 @@ pub(crate) fn close(reader: &mut ReadSession, out: &mut Progress) -> u32
         }
         Err(fault) => {
             report(reader, 0, 0, out);
-            u32::from(fault.number())
+            status_of(&fault)
         }
     }
 }
@@ -72,7 +72,7 @@ pub(crate) fn give(
         }
         Err(fault) => {
             *wanted = 0;
-            u32::from(fault.number())
+            status_of(&fault)
         }
     }
 }

@@ -1,8 +1,10 @@
 -- How a path of numbers leads to a column of a batch, or to one below it (Arrow Columnar Format,
 -- "Physical Memory Layout" and "Dictionary-encoded Layout").
 use Rattle.std.specs.Prelude.{◌≡◌, ◌≢◌, ◌⊎◌, ◌<◌, ◌≤◌, ℕ, List, [], ◌∷◌, length, slice_get}
-use Rattle.std.specs.Prelude.{Option, Some, None, ⊤}
+use Rattle.std.specs.Prelude.{Bool, true, false, Option, Some, None, ⊤}
 use Rattle.ipc_scalar.specs.Bytes.{clear}
+use Rattle.ipc_model.specs.declared.layout.Layout.{Layout}
+use Rattle.ipc_model.specs.declared.layout.Layout.TheVariants as l
 use Rattle.ipc_column.specs.declared.buffers.Buffers.{Buffers}
 use Rattle.ipc_column.specs.Contents.{Contents}
 use Rattle.ipc_column.specs.Lent.{AreOfColumn}
@@ -17,15 +19,22 @@ use Rattle.ipc_session.specs.declared.column.ColumnFacts.{ColumnFacts}
 abbrev pub dictionary_step : ℕ
 dictionary_step = 18446744073709551615
 
+-- the slots are indices into a dictionary
+abbrev pub are_indices : Layout → Bool
+are_indices (l.Indices bits signed id) = true
+are_indices layout = false
+
 -- a step leads from a column to its child of this number, or to the values of its dictionary
 pub record StepsTo (from : Nested) (step : ℕ) (to : Nested) : Type 0 where
   pub child : step ≢ dictionary_step → slice_get (nested_in from) step ≡ Some to
+  pub indices : step ≡ dictionary_step → are_indices from.column.layout ≡ true
   pub dictionary : step ≡ dictionary_step → slot_values to ≡ from.column.dictionary
 
--- there is no such child, or no dictionary value
+-- there is no such child; or there are no indices, or no value of their dictionary
 pub record StopsAt (from : Nested) (step : ℕ) : Type 0 where
   pub child : step ≢ dictionary_step → length from.children ≤ step
-  pub dictionary : step ≡ dictionary_step → from.column.dictionary ≡ []
+  pub dictionary : step ≡ dictionary_step → are_indices from.column.layout ≡ true
+      → from.column.dictionary ≡ []
 
 -- the steps lead, one after the other, from a column to another
 abbrev pub LeadsBelow : Nested → List ℕ → Nested → Type 0

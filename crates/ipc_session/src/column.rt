@@ -51,7 +51,10 @@ fn step_down<'a>(view: &SlotView<'a>, step: u64) -> Option<SlotView<'a>>
     ensures none { IfNone result (StopsAt view.now step) }
 {
     if step == DICTIONARY_STEP {
-        return view.entries();
+        return match view.layout() {
+            Layout::Indices { .. } => view.entries(),
+            _ => None,
+        };
     }
     if step >= view.children() as u64 {
         return None;

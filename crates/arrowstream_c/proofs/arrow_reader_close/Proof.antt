@@ -15,7 +15,8 @@ use contract.Running.{tables}
 use prog.Wp.{WpFn}
 use types.Logic.{sem}
 use types.SemTy.{Body}
-use types.Kit.{‵, raw, ◌⊛◌, some, later, prop, ◌$◌, ◌∵◌, !, qed, done, move, keep, drop, use1, use2, use3, split, join, fsplit, fjoin, fpick, fpack, pick, await, regoal, suffices, group, frame, show}
+use types.Kit.{‵, raw, ◌⊛◌, some, later, prop, ◌$◌, ◌∵◌, !, qed, done, move, keep, drop, use1, use2, use3, split, join, fsplit}
+use types.Kit.{fjoin, fpick, fpack, pick, await, regoal, suffices, group, frame, show}
 use types.Run.{enter, of_opd, addr, no_more, and_then, stop, returns}
 use types.ByLocal.{alloc_all, pass_all, free_all, look_at, get, through, sets, lands_as}
 use types.Tokens.{lft_new, lft_end}

@@ -15,7 +15,8 @@ use mir.Val.{Val, vunit, has_ty, WT}
 use contract.Monad.{fact}
 use contract.Running.{tables}
 use types.Logic.{sem}
-use types.Kit.{‵, raw, ◌⊛◌, some, later, ◌$◌, ◌∵◌, !, qed, done, move, keep, drop, use1, use2, split, join, fsplit, fsplit3, fjoin3, feq_i, feq_l, pick, await, rewrite, suffices, group, frame, show}
+use types.Kit.{‵, raw, ◌⊛◌, some, later, ◌$◌, ◌∵◌, !, qed, done, move, keep, drop, use1, use2, split, join, fsplit, fsplit3}
+use types.Kit.{fjoin3, feq_i, feq_l, pick, await, rewrite, suffices, group, frame, show}
 use types.Part.{whole, sub}
 use types.Run.{enter, of_opd, unit_lit, fld, store, assigns, no_more, and_then, stop, returns}
 use types.ByLocal.{alloc_all, pass_all, free_all, look_at, get, get_in, through, sets, lands_as}

@@ -20,7 +20,8 @@ use contract.Running.{tables}
 use prog.Wp.{WpFn}
 use types.Logic.{sem}
 use types.SemTy.{Body}
-use types.Kit.{‵, raw, ◌⊛◌, some, later, prop, ◌$◌, ◌∵◌, !, qed, done, move, keep, drop, use1, use2, use3, split, join, fsplit, fsplit3, fjoin, fjoin3, fpick, fpack, feq_i, feq_l, pick, await, rewrite, regoal, suffices, group, frame, show}
+use types.Kit.{‵, raw, ◌⊛◌, some, later, prop, ◌$◌, ◌∵◌, !, qed, done, move, keep, drop, use1, use2, use3, split, join, fsplit}
+use types.Kit.{fsplit3, fjoin, fjoin3, fpick, fpack, feq_i, feq_l, pick, await, rewrite, regoal, suffices, group, frame, show}
 use types.Part.{whole, sub}
 use types.Run.{enter, of_opd, unit_lit, addr, fld, store, assigns, no_more, and_then, stop, returns}
 use types.ByLocal.{alloc_all, pass_all, free_all, look_at, get, get_in, through, sets, lands_as}
