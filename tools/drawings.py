@@ -33,12 +33,14 @@ GROUPS = {
 CRATES = {
     "arrowstream": ("jobs", 9, 350, "the command"),
     "ipc_command": ("jobs", 8, 350, "arguments and jobs"),
-    "ipc_rewrite": ("jobs", 7, 120, "stream to stream"),
-    "ipc_from_csv": ("jobs", 7, 350, "CSV to stream"),
-    "ipc_print": ("jobs", 7, 580, "stream to JSON, CSV"),
-    "ipc_text": ("text", 7, 880, "re-exports for users"),
+    "ipc_rewrite": ("jobs", 7, 110, "stream to stream"),
+    "ipc_from_csv": ("jobs", 7, 300, "CSV to stream"),
+    "ipc_print": ("jobs", 7, 490, "stream to JSON, CSV"),
+    "arrowstream_c": ("streams", 7, 690, "the library for C"),
+    "ipc_text": ("text", 7, 886, "re-exports for users"),
     "ipc_stream": ("streams", 6, 300, "writer, sinks, devices"),
     "ipc_explain": ("jobs", 6, 490, "why it is refused"),
+    "ipc_session": ("streams", 6, 690, "readers as values"),
     "ipc_decode": ("streams", 5, 190, "reader and decoder"),
     "ipc_dict": ("streams", 5, 410, "dictionaries to send"),
     "ipc_csv": ("text", 5, 680, "CSV both ways"),
@@ -78,8 +80,8 @@ def read_edges():
     """Each crate of crates.txt with the crates that it uses, without those that others imply."""
     lines = (TOP / "crates.txt").read_text(encoding="utf-8").splitlines()
     pairs = [line.split(":") for line in lines if line and not line.startswith("#")]
-    names = [name for name, _ in pairs]
-    uses = {name: [it for it in used.split() if it in names] for name, used in pairs}
+    names = [head.split()[0] for head, _ in pairs]
+    uses = {head.split()[0]: [it for it in used.split() if it in names] for head, used in pairs}
 
     def below(name):
         return set(uses[name]).union(*map(below, uses[name]))

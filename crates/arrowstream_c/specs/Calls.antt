@@ -1,0 +1,135 @@
+-- What each export answers, and which state it leaves.
+use Rattle.std.specs.Prelude.{◌≡◌, ⊤, ℕ, List, length, Option, Some, None, Result, Ok, Err}
+use Rattle.std.specs.Prelude.{string_bytes}
+use Rattle.std.specs.declared.alloc.Global.{Global}
+use Rattle.std.specs.declared.string.String.{String}
+use Rattle.ipc_model.specs.declared.fault.Fault.{Fault}
+use Rattle.ipc_model.specs.declared.fault.Fault.TheVariants.{OutOfMemory}
+use Rattle.ipc_model.specs.Numbering.{fault_number}
+use Rattle.ipc_json.specs.SchemaJson.{pairs_text}
+use Rattle.ipc_decode.specs.Decoding.{Wants}
+use Rattle.ipc_decode.specs.declared.end.End.{End}
+use Rattle.ipc_session.specs.declared.arrival.Arrival.{Arrival}
+use Rattle.ipc_session.specs.declared.batch.ReadBatch.{ReadBatch}
+use Rattle.ipc_session.specs.declared.buffer.BufferKind.{BufferKind}
+use Rattle.ipc_session.specs.declared.column.ColumnFacts.{ColumnFacts}
+use Rattle.ipc_session.specs.declared.session.ReadSession.{ReadSession}
+use Rattle.ipc_session.specs.Copies.{Copies}
+use Rattle.ipc_session.specs.Paths.{FindsBuffer, FindsColumn}
+use Rattle.ipc_session.specs.Sessions as s
+use Rattle.arrowstream_c.specs.declared.answers.Column.{Column}
+use Rattle.arrowstream_c.specs.declared.answers.Progress.{Progress}
+use Rattle.arrowstream_c.specs.declared.answers.ReadLimits.{ReadLimits}
+use Rattle.arrowstream_c.specs.Numbers.{absent, AreCapped, Shows}
+use Rattle.arrowstream_c.specs.Numbers.{arrival_number, end_number, IsBuffer}
+
+-- a new reader within the limits that were asked for, or none because memory ran out
+abbrev pub Opens : ReadLimits → Option ReadSession → Type 0
+Opens asked None = ⊤
+Opens asked (Some made) =
+    AreCapped asked made.decoder.limits × s.IsNew made.decoder.limits made
+
+-- what C is told of a reader, the bytes that it took and the number of what came
+pub record IsAt (reader : ReadSession) (taken event : ℕ) (out : Progress) : Type 0 where
+  pub taken_is : out.taken ≡ taken
+  pub wanted : Wants reader.decoder.limits reader.decoder.stage out.wanted
+  pub messages : out.messages ≡ reader.decoder.messages
+  pub event_is : out.event ≡ event
+
+-- the status is 0 with what came, or the number of the refusal
+abbrev pub IsFed : Result (ℕ × Arrival) Fault → ReadSession → Progress → ℕ → Type 0
+IsFed (Ok r) is out status = (status ≡ 0) × IsAt is r.0 (arrival_number r.1) out
+IsFed (Err fault) is out status = (status ≡ fault_number fault) × IsAt is 0 0 out
+
+-- the session takes the piece, and C is told what it answers
+abbrev pub Feeds : ReadSession → List ℕ → ReadSession → Progress → ℕ → Type 0
+Feeds was piece is out status = (answer : Result (ℕ × Arrival) Fault)
+    × s.Feeds was piece is answer × IsFed answer is out status
+
+-- the status is 0 with the end, or the number of the refusal
+abbrev pub IsClosed : Result End Fault → ReadSession → Progress → ℕ → Type 0
+IsClosed (Ok end) is out status = (status ≡ 0) × IsAt is 0 (end_number end) out
+IsClosed (Err fault) is out status = (status ≡ fault_number fault) × IsAt is 0 0 out
+
+-- the session ends the input, and C is told what it answers
+abbrev pub Closes : ReadSession → ReadSession → Progress → ℕ → Type 0
+Closes was is out status = (answer : Result End Fault)
+    × s.Closes was is answer × IsClosed answer is out status
+
+-- a text is copied; without a text nothing is copied
+abbrev pub GivesText : Result (Option (String Global)) Fault → List ℕ → List ℕ → ℕ → ℕ → Type 0
+GivesText (Ok (Some text)) old new wanted status =
+    (status ≡ 0) × Copies (string_bytes text) old new wanted
+GivesText (Ok None) old new wanted status = (status ≡ absent) × (new ≡ old) × (wanted ≡ 0)
+GivesText (Err fault) old new wanted status =
+    (status ≡ fault_number fault) × (new ≡ old) × (wanted ≡ 0)
+
+-- the schema's text is copied; the reader stays
+abbrev pub CopiesSchema : ReadSession → ReadSession → List ℕ → List ℕ → ℕ → ℕ → Type 0
+CopiesSchema was is old new wanted status = (is ≡ was)
+    × ((answer : Result (Option (String Global)) Fault)
+    × s.GivesSchema was.decoder.state answer × GivesText answer old new wanted status)
+
+-- the line of the first refusal is copied; the reader stays
+abbrev pub CopiesLine : ReadSession → ReadSession → List ℕ → List ℕ → ℕ → ℕ → Type 0
+CopiesLine was is old new wanted status = (is ≡ was)
+    × ((answer : Result (Option (String Global)) Fault)
+    × s.GivesLine was.refusal answer × GivesText answer old new wanted status)
+
+-- the batch is held, or memory ran out
+abbrev pub MayHold : ReadBatch → Option ReadBatch → Type 0
+MayHold batch None = ⊤
+MayHold batch (Some held) = held ≡ batch
+
+-- the batch that came last leaves the reader; C has it, unless memory ran out
+abbrev pub Takes : ReadSession → ReadSession → Option ReadBatch → Type 0
+Takes was is None = is ≡ record was { batch = None }
+Takes was is (Some found) = (was.batch ≡ Some found) × (is ≡ record was { batch = None })
+
+-- the number of rows; the batch stays
+abbrev pub AreRows : ReadBatch → ReadBatch → ℕ → Type 0
+AreRows was is rows = (is ≡ was) × (rows ≡ length was.batch.rows)
+
+-- the number of columns; the batch stays
+abbrev pub AreColumns : ReadBatch → ReadBatch → ℕ → Type 0
+AreColumns was is columns = (is ≡ was) × (columns ≡ was.batch.columns)
+
+-- the text of a batch's pairs, or memory ran out
+abbrev pub GivesPairs : ReadBatch → Result (Option (String Global)) Fault → Type 0
+GivesPairs b (Ok (Some text)) = string_bytes text ≡ pairs_text b.pairs
+GivesPairs b (Ok None) = ⊥
+GivesPairs b (Err fault) = fault ≡ OutOfMemory
+
+-- the text of the pairs is copied; the batch stays
+abbrev pub CopiesPairs : ReadBatch → ReadBatch → List ℕ → List ℕ → ℕ → ℕ → Type 0
+CopiesPairs was is old new wanted status = (is ≡ was)
+    × ((answer : Result (Option (String Global)) Fault)
+    × GivesPairs was answer × GivesText answer old new wanted status)
+
+-- the numbers of the column that was found, if there is one
+abbrev pub IsShown : Option ColumnFacts → Column → Column → ℕ → Type 0
+IsShown None old new status = (status ≡ absent) × (new ≡ old)
+IsShown (Some facts) old new status = (status ≡ 0) × Shows facts new
+
+-- C is told of the column to which the path leads; the batch stays
+abbrev pub DescribesColumn : ReadBatch → List ℕ → ReadBatch → Column → Column → ℕ → Type 0
+DescribesColumn was path is old new status = (is ≡ was) × ((answer : Option ColumnFacts)
+    × FindsColumn was.batch path answer × IsShown answer old new status)
+
+-- the number of bytes of the buffer that was found, if there is one
+abbrev pub IsCounted : Option ℕ → ℕ → ℕ → Type 0
+IsCounted None wanted status = (status ≡ absent) × (wanted ≡ 0)
+IsCounted (Some count) wanted status = (status ≡ 0) × (wanted ≡ count)
+
+-- a buffer of the column to which the path leads is copied, if there is such a buffer
+abbrev pub GivesBuffer : ReadBatch → List ℕ → Option BufferKind → List ℕ → List ℕ → ℕ → ℕ → Type 0
+GivesBuffer b path None old new wanted status =
+    (status ≡ absent) × (new ≡ old) × (wanted ≡ 0)
+GivesBuffer b path (Some kind) old new wanted status = (answer : Option ℕ)
+    × FindsBuffer b.batch path kind old new answer × IsCounted answer wanted status
+
+-- the buffer of this number is copied; the batch stays
+abbrev pub CopiesBuffer : ReadBatch → List ℕ → ℕ → ReadBatch → List ℕ → List ℕ → ℕ → ℕ → Type 0
+CopiesBuffer was path number is old new wanted status = (is ≡ was)
+    × ((kind : Option BufferKind) × IsBuffer number kind
+    × GivesBuffer was path kind old new wanted status)

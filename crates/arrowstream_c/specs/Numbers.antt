@@ -1,0 +1,101 @@
+-- The numbers by which C sees limits, events, layouts and buffers.
+use Rattle.std.specs.Prelude.{◌≡◌, ◌<◌, ◌≤◌, ℕ, ℤ, pos, Bool, true, false, Option, Some, None}
+use Rattle.ipc_model.specs.declared.layout.Layout.{Layout}
+use Rattle.ipc_model.specs.declared.layout.Layout.TheVariants as l
+use Rattle.ipc_model.specs.declared.limits.Limits.{Limits}
+use Rattle.ipc_model.specs.Greatest.{greatest_metadata, greatest_body, greatest_slots}
+use Rattle.ipc_model.specs.Greatest.{greatest_fields, greatest_depth, greatest_text, greatest_pairs}
+use Rattle.ipc_model.specs.Ranges.{width}
+use Rattle.ipc_model.specs.Limits.{IsStandard, HaveValues}
+use Rattle.ipc_decode.specs.declared.end.End.{End}
+use Rattle.ipc_decode.specs.declared.end.End.TheVariants as end
+use Rattle.ipc_session.specs.declared.arrival.Arrival.{Arrival}
+use Rattle.ipc_session.specs.declared.arrival.Arrival.TheVariants as arrival
+use Rattle.ipc_session.specs.declared.buffer.BufferKind.{BufferKind}
+use Rattle.ipc_session.specs.declared.buffer.BufferKind.TheVariants as kind
+use Rattle.ipc_session.specs.declared.column.ColumnFacts.{ColumnFacts}
+use Rattle.arrowstream_c.specs.declared.answers.Column.{Column}
+use Rattle.arrowstream_c.specs.declared.answers.LayoutNumbers.{LayoutNumbers}
+use Rattle.arrowstream_c.specs.declared.answers.ReadLimits.{ReadLimits}
+
+-- the status of a call that finds nothing
+abbrev pub absent : ℕ
+absent = 64
+
+-- the value, or the most that it may be
+pub record Caps (value most result : ℕ) : Type 0 where
+  pub kept : value ≤ most → result ≡ value
+  pub cut : most ≤ value → result ≡ most
+
+-- each limit is the one that was asked for, or its maximum
+pub record AreCapped (asked : ReadLimits) (limits : Limits) : Type 0 where
+  pub metadata : Caps asked.metadata greatest_metadata limits.metadata
+  pub body : Caps asked.body greatest_body limits.body
+  pub slots : Caps asked.slots greatest_slots limits.slots
+  pub fields : Caps asked.fields greatest_fields limits.fields
+  pub depth : Caps asked.depth greatest_depth limits.depth
+  pub text : Caps asked.text greatest_text limits.text
+  pub pairs : Caps asked.pairs greatest_pairs limits.pairs
+
+-- the numbers are the standard limits
+pub record AreStandard (out : ReadLimits) : Type 0 where
+  pub limits : Limits
+  pub standard : IsStandard limits
+  pub values : HaveValues limits out.metadata out.body out.slots out.fields out.depth out.text
+      out.pairs
+
+-- the number of what came
+abbrev pub arrival_number : Arrival → ℕ
+arrival_number arrival.Nothing = 0
+arrival_number arrival.Schema = 1
+arrival_number arrival.Batch = 2
+arrival_number arrival.End = 3
+
+-- the number of an end: of the end-of-stream mark, and of the end of the input
+abbrev pub end_number : End → ℕ
+end_number end.Mark = 3
+end_number end.Closed = 4
+
+-- the buffer of a number: of 0, 1 and 2 alone
+pub record IsBuffer (number : ℕ) (found : Option BufferKind) : Type 0 where
+  pub validity : number ≡ 0 → found ≡ Some kind.Validity
+  pub offsets : number ≡ 1 → found ≡ Some kind.Offsets
+  pub values : number ≡ 2 → found ≡ Some kind.Values
+  pub none : 2 < number → found ≡ None
+
+-- 1 for what holds, else 0
+abbrev pub bit_of : Bool → ℕ
+bit_of true = 1
+bit_of false = 0
+
+-- a layout has these numbers
+pub record HasNumbers (n : LayoutNumbers) (kind bits is_signed size : ℕ) (dictionary : ℤ) :
+    Type 0 where
+  pub kind_is : n.kind ≡ kind
+  pub bits_is : n.bits ≡ bits
+  pub is_signed_is : n.is_signed ≡ is_signed
+  pub size_is : n.size ≡ size
+  pub dictionary_is : n.dictionary ≡ dictionary
+
+-- these are the numbers of a layout
+abbrev pub IsLayout : Layout → LayoutNumbers → Type 0
+IsLayout l.Null n = HasNumbers n 0 0 0 0 (pos 0)
+IsLayout l.Bits n = HasNumbers n 1 0 0 0 (pos 0)
+IsLayout (l.Numbers bits signed) n = HasNumbers n 2 (width bits) (bit_of signed) 0 (pos 0)
+IsLayout (l.FixedBytes size) n = HasNumbers n 3 0 0 size (pos 0)
+IsLayout (l.VariableBytes false) n = HasNumbers n 4 0 0 0 (pos 0)
+IsLayout (l.VariableBytes true) n = HasNumbers n 5 0 0 0 (pos 0)
+IsLayout l.Lists n = HasNumbers n 6 0 0 0 (pos 0)
+IsLayout (l.FixedLists size) n = HasNumbers n 7 0 0 size (pos 0)
+IsLayout l.Structs n = HasNumbers n 8 0 0 0 (pos 0)
+IsLayout (l.Indices bits signed id) n = HasNumbers n 9 (width bits) (bit_of signed) 0 id
+
+-- the numbers of a column are these facts
+pub record Shows (facts : ColumnFacts) (c : Column) : Type 0 where
+  pub layout : IsLayout facts.layout c.layout
+  pub slots : c.slots ≡ facts.slots
+  pub nulls : c.nulls ≡ facts.nulls
+  pub children : c.children ≡ facts.children
+  pub validity : c.validity ≡ facts.validity
+  pub offsets : c.offsets ≡ facts.offsets
+  pub values : c.values ≡ facts.values

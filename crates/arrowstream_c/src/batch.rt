@@ -1,0 +1,51 @@
+//! A batch that C holds, or null.
+ghost use Rattle.std.specs.Coded.{coded_option};
+ghost use Rattle.std.specs.Prelude.{◌≡◌, None, Option, Some};
+ghost use Rattle.ipc_session.specs.contracts.batch.ReadBatch as batch;
+ghost use Rattle.ipc_session.specs.declared.batch.ReadBatch.{ReadBatch};
+ghost use Rattle.arrowstream_c.specs.Calls.{MayHold};
+
+use crate::parts::Parts;
+use ipc_session::ReadBatch;
+use std::alloc::Global;
+use std::marker::Model;
+use std::ptr::null_mut;
+
+/// The pointer to a batch, or null.
+pub(crate) struct BatchHandle {
+    pub(crate) at: *mut u8,
+    pub(crate) ghost held: { Option ReadBatch } by { coded_option batch.the_row.coded },
+}
+
+impl Model for BatchHandle {
+    ghost use Rattle.arrowstream_c.specs.Handles.{batch_or_null};
+
+    ghost also_owns = { λ h. batch_or_null h.at h.held };
+}
+
+impl BatchHandle {
+    // Moves a batch to memory of its own, or drops it and is null if memory ran out.
+    pub(crate) fn holding(alloc: Global, batch: ReadBatch) -> BatchHandle
+        ensures { MayHold batch result.held }
+    {
+        match Box::new(alloc, batch) {
+            Ok(whole) => BatchHandle::of(Parts::of(whole)),
+            Err(_) => BatchHandle::none(),
+        }
+    }
+
+    // Null.
+    pub(crate) fn none() -> BatchHandle
+        ensures { result.held ≡ None }
+    {
+        BatchHandle { at: null_mut() }
+    }
+
+    // The pointer of these parts.
+    fn of(whole: Parts<ReadBatch, Global>) -> BatchHandle
+        ensures { result.held ≡ Some whole.value }
+    {
+        let Parts { ptr, alloc: _ } = whole;
+        BatchHandle { at: ptr as *mut u8 }
+    }
+}

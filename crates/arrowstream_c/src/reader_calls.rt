@@ -1,0 +1,99 @@
+//! What each export of a reader does with it.
+ghost use Rattle.arrowstream_c.specs.Calls.{Closes, CopiesLine, CopiesSchema, Feeds, GivesText};
+ghost use Rattle.arrowstream_c.specs.Calls.{IsAt, Takes};
+
+use crate::answers::{ABSENT, Progress, arrival_number, end_number, status_of};
+use crate::batch::BatchHandle;
+use crate::parts::Parts;
+use ipc_model::Fault;
+use ipc_session::{ReadSession, copy_into};
+use std::alloc::Global;
+
+pub(crate) fn free_reader(reader: Parts<ReadSession, Global>) {
+    reader.into_box().drop();
+}
+
+// Says how far a reader has come.
+fn report(reader: &ReadSession, taken: usize, event: u64, out: &mut Progress)
+    ensures { IsAt reader.now taken event out.new }
+{
+    out.taken = taken;
+    out.wanted = reader.wants();
+    out.messages = reader.messages();
+    out.event = event;
+}
+
+pub(crate) fn feed(reader: &mut ReadSession, bytes: &[u8], out: &mut Progress) -> u32
+    ensures { Feeds reader.old bytes.now reader.new out.new result }
+{
+    match reader.feed(bytes) {
+        Ok((taken, arrival)) => {
+            report(reader, taken, arrival_number(arrival), out);
+            0
+        }
+        Err(fault) => {
+            report(reader, 0, 0, out);
+            status_of(&fault)
+        }
+    }
+}
+
+pub(crate) fn close(reader: &mut ReadSession, out: &mut Progress) -> u32
+    ensures { Closes reader.old reader.new out.new result }
+{
+    match reader.close() {
+        Ok(end) => {
+            report(reader, 0, end_number(end), out);
+            0
+        }
+        Err(fault) => {
+            report(reader, 0, 0, out);
+            status_of(&fault)
+        }
+    }
+}
+
+// Copies a text that there may be. Without one, nothing is copied, and none of its bytes is wanted.
+pub(crate) fn give(
+    answer: Result<Option<String>, Fault>,
+    target: &mut [u8],
+    wanted: &mut usize,
+) -> u32
+    ensures { GivesText answer target.old target.new wanted.new result }
+{
+    match answer {
+        Ok(Some(text)) => {
+            *wanted = copy_into(text.as_bytes(), target);
+            0
+        }
+        Ok(None) => {
+            *wanted = 0;
+            ABSENT
+        }
+        Err(fault) => {
+            *wanted = 0;
+            status_of(&fault)
+        }
+    }
+}
+
+pub(crate) fn schema(reader: &mut ReadSession, text: &mut [u8], wanted: &mut usize) -> u32
+    ensures { CopiesSchema reader.old reader.new text.old text.new wanted.new result }
+{
+    give(reader.schema_text(), text, wanted)
+}
+
+pub(crate) fn line(reader: &mut ReadSession, text: &mut [u8], wanted: &mut usize) -> u32
+    ensures { CopiesLine reader.old reader.new text.old text.new wanted.new result }
+{
+    give(reader.refusal_text(), text, wanted)
+}
+
+pub(crate) fn take(alloc: Global, reader: &mut ReadSession) -> BatchHandle
+    ensures { Takes reader.old reader.new result.held }
+{
+    match reader.take_batch() {
+        Some(batch) => BatchHandle::holding(alloc, batch),
+        None => BatchHandle::none(),
+    }
+}

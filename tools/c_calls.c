@@ -1,0 +1,268 @@
+/* Test equipment: makes every call of include/arrowstream.h for streams that come as lines of
+ * hexadecimal digits on standard input.
+ *
+ *     c_calls answers PIECE    prints what the calls answer for each stream
+ *     c_calls growths PIECE    refuses each growth of memory of each stream in turn
+ *
+ * A stream is fed PIECE bytes at a time. The line of an accepted stream is `0`, how it ended, its
+ * bytes, batches and rows, a digest of all columns and their buffers, and its schema. That of a
+ * refused stream is the status and the line of the refusal. With a refused growth each call answers
+ * as without it, or that memory ran out. The program is linked with --wrap=malloc and
+ * --wrap=realloc. */
+#include "arrowstream.h"
+
+#include <inttypes.h>
+#include <stdio.h>
+#include <stdlib.h>
+#include <string.h>
+
+enum { MOST = 1 << 20, MOST_STEPS = 80, FILL = 0xa5 };
+
+void *__real_malloc(size_t count);
+void *__real_realloc(void *block, size_t count);
+void *__wrap_malloc(size_t count);
+void *__wrap_realloc(void *block, size_t count);
+
+/* The growths that were asked for, the one that is refused, and the answers of out of memory. */
+static unsigned long asked, refused, told;
+
+static int is_refused(void) { return ++asked == refused; }
+
+void *__wrap_malloc(size_t count) { return is_refused() ? NULL : __real_malloc(count); }
+
+void *__wrap_realloc(void *block, size_t count) {
+    return is_refused() ? NULL : __real_realloc(block, count);
+}
+
+static void stop(const char *why) {
+    fprintf(stderr, "c_calls: %s, growth %lu\n", why, refused);
+    exit(1);
+}
+
+/* Whether a call has the answer that is expected. It may also say that memory ran out. */
+static int is_done(uint32_t status, uint32_t expected) {
+    told += status == ARROW_OUT_OF_MEMORY;
+    if (status != expected && status != ARROW_OUT_OF_MEMORY) stop("another status");
+    return status == expected;
+}
+
+/* What a stream was read as. */
+typedef struct {
+    uint64_t event, digest;
+    size_t bytes, batches, rows;
+} answer;
+
+static void mix(answer *all, const void *bytes, size_t count) {
+    for (size_t i = 0; i < count; i++)
+        all->digest = (all->digest ^ ((const uint8_t *)bytes)[i]) * UINT64_C(0x100000001b3);
+}
+
+/* The bytes that one call copies, in memory of exactly their number. The caller frees them. */
+typedef struct {
+    uint8_t *bytes;
+    size_t count;
+} copied;
+
+static copied room_for(size_t count) {
+    copied room = {__real_malloc(count + 1), count};
+    if (!room.bytes) stop("no memory");
+    memset(room.bytes, FILL, count + 1);
+    return room;
+}
+
+static void check_room(const copied *room) {
+    if (room->bytes[room->count] != FILL) stop("a byte past the end");
+}
+
+typedef uint32_t reader_text(arrow_reader *, uint8_t *, size_t, size_t *);
+typedef uint32_t batch_text(arrow_batch *, uint8_t *, size_t, size_t *);
+
+/* Calls first with no room, and then with as much as is wanted. */
+static copied text_of(arrow_reader *reader, reader_text *of_reader, arrow_batch *batch,
+                      batch_text *of_batch, uint32_t expected) {
+    size_t wanted = 0, again = 0;
+    copied none = room_for(0);
+    uint32_t status = reader ? of_reader(reader, none.bytes, 0, &wanted)
+                             : of_batch(batch, none.bytes, 0, &wanted);
+    check_room(&none);
+    free(none.bytes);
+    if (!is_done(status, expected) && wanted != 0) stop("a text without memory");
+    copied text = room_for(wanted);
+    status = reader ? of_reader(reader, text.bytes, wanted, &again)
+                    : of_batch(batch, text.bytes, wanted, &again);
+    check_room(&text);
+    if (is_done(status, expected) && again != wanted && wanted != 0) stop("another size");
+    return text;
+}
+
+static void read_buffer(arrow_batch *batch, const uint64_t *path, size_t steps, uint32_t buffer,
+                        size_t count, answer *all) {
+    size_t wanted = 0;
+    copied room = room_for(count);
+    if (count > 0) {
+        copied less = room_for(count - 1);
+        is_done(arrow_batch_buffer(batch, path, steps, buffer, less.bytes, count - 1, &wanted), 0);
+        if (wanted != count || less.bytes[0] != FILL) stop("a buffer that is cut");
+        free(less.bytes);
+    }
+    is_done(arrow_batch_buffer(batch, path, steps, buffer, room.bytes, count, &wanted), ARROW_OK);
+    if (wanted != count) stop("another size of a buffer");
+    check_room(&room);
+    mix(all, room.bytes, count);
+    free(room.bytes);
+}
+
+static void read_column(arrow_batch *batch, uint64_t *path, size_t steps, answer *all) {
+    arrow_column column, none;
+    uint8_t byte = 0;
+    size_t wanted = 1;
+    memset(&column, 0, sizeof column);
+    is_done(arrow_batch_column(batch, path, steps, &column), ARROW_OK);
+    mix(all, &column, sizeof column);
+    read_buffer(batch, path, steps, ARROW_BUFFER_VALIDITY, column.validity, all);
+    read_buffer(batch, path, steps, ARROW_BUFFER_OFFSETS, column.offsets, all);
+    read_buffer(batch, path, steps, ARROW_BUFFER_VALUES, column.values, all);
+    is_done(arrow_batch_buffer(batch, path, steps, 3, &byte, 1, &wanted), ARROW_ABSENT);
+    if (wanted != 0) stop("a fourth buffer");
+    for (size_t child = 0; child < column.children; child++) {
+        path[steps] = child;
+        read_column(batch, path, steps + 1, all);
+    }
+    path[steps] = column.children;
+    is_done(arrow_batch_column(batch, path, steps + 1, &none), ARROW_ABSENT);
+    path[steps] = ARROW_DICTIONARY;
+    if (arrow_batch_column(batch, path, steps + 1, &none) == ARROW_OK) {
+        if (column.layout.kind != ARROW_LAYOUT_INDICES) stop("a dictionary of no indices");
+        read_column(batch, path, steps + 1, all);
+    }
+}
+
+static void read_batch(arrow_batch *batch, answer *all) {
+    uint64_t path[MOST_STEPS];
+    arrow_column column;
+    copied pairs = text_of(NULL, NULL, batch, arrow_batch_pairs, ARROW_OK);
+    mix(all, pairs.bytes, pairs.count);
+    free(pairs.bytes);
+    for (path[0] = 0; path[0] < arrow_batch_columns(batch); path[0]++)
+        read_column(batch, path, 1, all);
+    is_done(arrow_batch_column(batch, path, 1, &column), ARROW_ABSENT);
+    is_done(arrow_batch_column(batch, path, 0, &column), ARROW_ABSENT);
+    all->rows += arrow_batch_rows(batch);
+}
+
+/* Takes the batch that came. Each batch is read when the next one has come. */
+static arrow_batch *take(arrow_reader *reader, arrow_batch *last, answer *all) {
+    arrow_batch *batch = NULL, *none = NULL;
+    arrow_reader_take(reader, &batch);
+    arrow_reader_take(reader, &none);
+    if (none) stop("a batch twice");
+    told += !batch;
+    if (last) {
+        read_batch(last, all);
+        arrow_batch_free(last);
+    }
+    all->batches++;
+    return batch;
+}
+
+static uint32_t feed(arrow_reader *reader, const uint8_t *bytes, size_t count, size_t piece,
+                     answer *all, arrow_batch **last) {
+    arrow_progress now = {0, 0, 0, ARROW_NOTHING};
+    while (count > 0 && now.event != ARROW_END) {
+        size_t length = count < piece ? count : piece;
+        uint32_t status = arrow_reader_feed(reader, bytes, length, &now);
+        if (status != ARROW_OK) {
+            if (now.taken != 0 || now.wanted != 0) stop("a refusal that takes bytes");
+            if (arrow_reader_feed(reader, bytes, 1, &now) != ARROW_FAILED) stop("it goes on");
+            return status;
+        }
+        if (now.taken > length || (now.event == ARROW_NOTHING && now.taken != length))
+            stop("another count of bytes");
+        bytes += now.taken;
+        count -= now.taken;
+        all->bytes += now.taken;
+        if (now.event == ARROW_BATCH) *last = take(reader, *last, all);
+    }
+    uint32_t status = arrow_reader_close(reader, &now);
+    all->event = now.event;
+    return status;
+}
+
+static void print(const answer *all, uint32_t status, const copied *text) {
+    printf("%u ", status);
+    if (status == ARROW_OK)
+        printf("%s %zu bytes %zu batches %zu rows %016" PRIx64 " ",
+               all->event == ARROW_END ? "mark" : "closed", all->bytes, all->batches, all->rows,
+               all->digest);
+    printf("%.*s\n", (int)text->count, (const char *)text->bytes);
+}
+
+/* Reads a stream once. Returns the status of its end or of its refusal. */
+static uint32_t read_stream(const uint8_t *bytes, size_t count, size_t piece, int prints) {
+    answer all = {0, UINT64_C(0xcbf29ce484222325), 0, 0, 0};
+    arrow_limits limits;
+    arrow_reader *reader = NULL;
+    arrow_batch *last = NULL;
+    arrow_limits_standard(&limits);
+    arrow_reader_open(&limits, &reader);
+    if (!reader) {
+        told++;
+        return ARROW_OUT_OF_MEMORY;
+    }
+    uint32_t status = feed(reader, bytes, count, piece, &all, &last);
+    told += status == ARROW_OUT_OF_MEMORY;
+    copied line = text_of(reader, arrow_reader_line, NULL, NULL,
+                          status == ARROW_OK ? ARROW_ABSENT : ARROW_OK);
+    copied schema = {NULL, 0};
+    if (status == ARROW_OK) schema = text_of(reader, arrow_reader_schema, NULL, NULL, ARROW_OK);
+    arrow_reader_free(reader);
+    if (last) {
+        read_batch(last, &all);
+        arrow_batch_free(last);
+    }
+    if (prints) print(&all, status, status == ARROW_OK ? &schema : &line);
+    free(line.bytes);
+    free(schema.bytes);
+    return status;
+}
+
+static void refuse_growths(const uint8_t *bytes, size_t count, size_t piece) {
+    asked = refused = told = 0;
+    uint32_t expected = read_stream(bytes, count, piece, 0);
+    unsigned long all = asked;
+    if (told != 0) stop("out of memory without a refusal");
+    for (refused = 1; refused <= all; refused++) {
+        asked = told = 0;
+        uint32_t status = read_stream(bytes, count, piece, 0);
+        if (told == 0) stop("a refused growth that no call reports");
+        if (status != expected && status != ARROW_OUT_OF_MEMORY) stop("another end");
+    }
+    refused = 0;
+    printf("%lu growths\n", all);
+}
+
+/* The bytes of a line of hexadecimal digits. They replace the digits. */
+static size_t decode(char *line) {
+    size_t count = strcspn(line, "\n") / 2;
+    for (size_t i = 0; i < count; i++) {
+        char digits[3] = {line[2 * i], line[2 * i + 1], 0};
+        ((uint8_t *)line)[i] = (uint8_t)strtoul(digits, NULL, 16);
+    }
+    return count;
+}
+
+int main(int count, char **words) {
+    static char line[2 * MOST + 2];
+    if (count != 3) return 2;
+    size_t piece = strtoull(words[2], NULL, 10);
+    while (fgets(line, sizeof line, stdin)) {
+        size_t bytes = decode(line);
+        uint8_t *stream = __real_malloc(bytes + 1);
+        if (!stream) stop("no memory");
+        memcpy(stream, line, bytes);
+        if (strcmp(words[1], "growths") == 0) refuse_growths(stream, bytes, piece);
+        else read_stream(stream, bytes, piece, 1);
+        free(stream);
+    }
+    return 0;
+}
