@@ -1,0 +1,197 @@
+"""Values of a column as Python objects, from its buffers (Arrow Columnar Format, "Physical Memory
+Layout")."""
+
+from __future__ import annotations
+
+import datetime
+import re
+import zoneinfo
+from typing import TYPE_CHECKING, Any, Callable, Iterable
+
+if TYPE_CHECKING:
+    from .reader import Column
+
+_EPOCH = datetime.datetime(1970, 1, 1)
+_EPOCH_DAY = datetime.date(1970, 1, 1).toordinal()
+_PER_DAY_MS = 86_400_000
+_PER_SECOND = {"s": 1, "ms": 1_000, "us": 1_000_000, "ns": 1_000_000_000}
+_SIGNED = {8: "b", 16: "h", 32: "i", 64: "q"}
+_UNSIGNED = {8: "B", 16: "H", 32: "I", 64: "Q"}
+_OFFSET = re.compile(r"([+-])(\d\d):(\d\d)")
+
+
+def _bits(buffer: memoryview, count: int) -> str:
+    """The first `count` bits of a bitmap, as the digits "0" and "1"."""
+    used = (count + 7) // 8
+    number = int.from_bytes(buffer[:used], "little") | 1 << 8 * used
+    return bin(number)[:2:-1][:count]
+
+
+def _with_nulls(column: Column, values: Iterable[Any]) -> list[Any]:
+    """The values, with None for each slot that is null."""
+    if not column.null_count or not len(column.validity):
+        return list(values)
+    valid = _bits(column.validity, len(column))
+    return [value if bit == "1" else None for value, bit in zip(values, valid)]
+
+
+def _numbers(column: Column, kind: tuple[Any, ...]) -> list[int]:
+    codes = _UNSIGNED if kind[0] == "uint" else _SIGNED
+    return column.values.cast(codes[kind[1]])[: len(column)].tolist()
+
+
+def _spans(column: Column) -> Iterable[tuple[int, int]]:
+    """Where each slot begins and ends, by the offsets."""
+    offsets = column.offsets.cast("i").tolist()
+    return zip(offsets, offsets[1 : len(column) + 1])
+
+
+def _texts(column: Column) -> list[str | None]:
+    data = column.values.tobytes()
+    if data.isascii():
+        text = data.decode("ascii")
+        return _with_nulls(column, (text[start:end] for start, end in _spans(column)))
+    slots = _with_nulls(column, _spans(column))
+    return [None if slot is None else data[slot[0] : slot[1]].decode() for slot in slots]
+
+
+def _binaries(column: Column) -> list[bytes | None]:
+    data = column.values.tobytes()
+    return _with_nulls(column, (data[start:end] for start, end in _spans(column)))
+
+
+def _fixed_binaries(column: Column) -> list[bytes | None]:
+    data, width = column.values.tobytes(), column.type[1]
+    starts = (width * slot for slot in range(len(column)))
+    return _with_nulls(column, (data[start : start + width] for start in starts))
+
+
+def _lists(column: Column, as_stored: bool) -> list[list[Any] | None]:
+    items = column.child(0).to_list(as_stored=as_stored)
+    return _with_nulls(column, (items[start:end] for start, end in _spans(column)))
+
+
+def _fixed_lists(column: Column, as_stored: bool) -> list[list[Any] | None]:
+    items, size = column.child(0).to_list(as_stored=as_stored), column.type[1]
+    starts = (size * slot for slot in range(len(column)))
+    return _with_nulls(column, (items[start : start + size] for start in starts))
+
+
+def _structs(column: Column, as_stored: bool) -> list[Any]:
+    names = [child.name for child in column.field.children]
+    members = [
+        column.child(number).to_list(as_stored=as_stored)[: len(column)]
+        for number in range(len(names))
+    ]
+    rows = zip(*members) if members else (() for _ in range(len(column)))
+    if len(set(names)) == len(names):
+        return _with_nulls(column, (dict(zip(names, row)) for row in rows))
+    return _with_nulls(column, (list(zip(names, row)) for row in rows))
+
+
+def _microseconds(number: int, unit: str) -> int:
+    """A number of the unit in microseconds. Nanoseconds have to be whole microseconds."""
+    if unit != "ns":
+        return number * (1_000_000 // _PER_SECOND[unit])
+    whole, part = divmod(number, 1_000)
+    if part:
+        raise ValueError(f"{number} ns is not a whole number of microseconds")
+    return whole
+
+
+def _date(number: int, unit: str) -> datetime.date:
+    days, part = (number, 0) if unit == "day" else divmod(number, _PER_DAY_MS)
+    if part:
+        raise ValueError(f"{number} ms is not a whole number of days")
+    return datetime.date.fromordinal(_EPOCH_DAY + days)
+
+
+def _time(number: int, unit: str) -> datetime.time:
+    passed = datetime.timedelta(microseconds=_microseconds(number, unit))
+    if not datetime.timedelta() <= passed < datetime.timedelta(days=1):
+        raise ValueError(f"{number} {unit} is no time of a day")
+    return (_EPOCH + passed).time()
+
+
+def _zone(name: str) -> datetime.tzinfo:
+    """The time zone of this name: an offset such as +02:00, or a name of the tz database."""
+    offset = _OFFSET.fullmatch(name)
+    if offset:
+        sign, hours, minutes = offset.groups()
+        passed = datetime.timedelta(hours=int(hours), minutes=int(minutes))
+        return datetime.timezone(-passed if sign == "-" else passed)
+    return datetime.timezone.utc if name == "UTC" else zoneinfo.ZoneInfo(name)
+
+
+def _moment_reader(unit: str, zone: str | None) -> Callable[[int], datetime.datetime]:
+    place = None if zone is None else _zone(zone)
+
+    def moment(number: int) -> datetime.datetime:
+        naive = _EPOCH + datetime.timedelta(microseconds=_microseconds(number, unit))
+        if place is None:
+            return naive
+        return naive.replace(tzinfo=datetime.timezone.utc).astimezone(place)
+
+    return moment
+
+
+def _temporal(column: Column) -> list[Any]:
+    name, unit = column.type[:2]
+    readers: dict[str, Callable[[int], Any]] = {
+        "date": lambda number: _date(number, unit),
+        "time": lambda number: _time(number, unit),
+        "duration": lambda number: datetime.timedelta(microseconds=_microseconds(number, unit)),
+    }
+    if name == "timestamp":
+        readers[name] = _moment_reader(unit, column.type[2])
+    reader = readers[name]
+    try:
+        return [None if it is None else reader(it) for it in _stored(column)]
+    except OverflowError as fault:
+        raise ValueError(f"a value of {column.name!r} does not fit {name} of datetime") from fault
+
+
+def _stored(column: Column) -> list[int | None]:
+    """The numbers of a column of dates, times, timestamps or durations."""
+    is_short = column.type in (("date", "day"), ("time", "s"), ("time", "ms"))
+    return _with_nulls(column, _numbers(column, ("int", 32 if is_short else 64)))
+
+
+def _encoded(column: Column, as_stored: bool) -> list[Any]:
+    """The dictionary's value of each slot."""
+    dictionary = column.dictionary
+    if dictionary is None:
+        return [None] * len(column)
+    values = dictionary.to_list(as_stored=as_stored)
+    slots = _with_nulls(column, _numbers(column, column.field.dictionary.index_type))
+    return [None if slot is None else values[slot] for slot in slots]
+
+
+_FLAT: dict[str, Callable[[Column], list[Any]]] = {
+    "null": lambda column: [None] * len(column),
+    "bool": lambda column: _with_nulls(
+        column, (bit == "1" for bit in _bits(column.values, len(column)))
+    ),
+    "int": lambda column: _with_nulls(column, _numbers(column, column.type)),
+    "uint": lambda column: _with_nulls(column, _numbers(column, column.type)),
+    "binary": _binaries,
+    "utf8": _texts,
+    "fixed_size_binary": _fixed_binaries,
+}
+_NESTED: dict[str, Callable[[Column, bool], list[Any]]] = {
+    "list": _lists,
+    "fixed_size_list": _fixed_lists,
+    "struct": _structs,
+}
+
+
+def to_list(column: Column, as_stored: bool) -> list[Any]:
+    """The values of a column as Python objects (see `Column.to_list`)."""
+    name = column.type[0]
+    if column.is_encoded:
+        return _encoded(column, as_stored)
+    if name in _NESTED:
+        return _NESTED[name](column, as_stored)
+    if name in _FLAT:
+        return _FLAT[name](column)
+    return _stored(column) if as_stored else _temporal(column)
