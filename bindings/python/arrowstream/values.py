@@ -37,13 +37,13 @@ def _with_nulls(column: Column, values: Iterable[Any]) -> list[Any]:
 
 def _numbers(column: Column, kind: tuple[Any, ...]) -> list[int]:
     codes = _UNSIGNED if kind[0] == "uint" else _SIGNED
-    return column.values.cast(codes[kind[1]])[: len(column)].tolist()
+    return column.values[: kind[1] // 8 * len(column)].cast(codes[kind[1]]).tolist()
 
 
 def _spans(column: Column) -> Iterable[tuple[int, int]]:
     """Where each slot begins and ends, by the offsets."""
-    offsets = column.offsets.cast("i").tolist()
-    return zip(offsets, offsets[1 : len(column) + 1])
+    offsets = column.offsets[: 4 * len(column) + 4].cast("i").tolist()
+    return zip(offsets, offsets[1:])
 
 
 def _texts(column: Column) -> list[str | None]:
