@@ -22,8 +22,16 @@ class Column:
     more slots than its parent uses.
     """
 
-    def __init__(self, batch: Batch, path: tuple[int, ...], field: Field, is_encoded: bool):
+    def __init__(
+        self,
+        batch: Batch,
+        path: tuple[int, ...],
+        field: Field,
+        is_encoded: bool,
+        parent: Column | None = None,
+    ):
         self._batch = batch
+        self.parent = parent
         self._path = path
         self._facts = batch._facts(path)
         self._buffers: dict[int, memoryview] = {}
@@ -74,7 +82,8 @@ class Column:
         if not 0 <= number < self._facts.children:
             raise IndexError(f"column {self.name!r} has {self._facts.children} children")
         field = self.field.children[number]
-        return Column(self._batch, (*self._path, number), field, field.dictionary is not None)
+        path = (*self._path, number)
+        return Column(self._batch, path, field, field.dictionary is not None, self)
 
     @property
     def dictionary(self) -> Column | None:
@@ -86,12 +95,13 @@ class Column:
         return Column(self._batch, path, self.field, False)
 
     def to_list(self, *, as_stored: bool = False) -> list[Any]:
-        """The values as Python objects, one for each slot.
+        """The values as Python objects, one for each slot: bool, int, str or bytes; `date`,
+        `time`, `datetime` or `timedelta` of `datetime`; a list for a list; a dict for a struct, or a
+        list of (name, value) if names repeat. None for null, and for a slot of a child that its
+        parent does not use.
 
-        None for null, bool, int, str, bytes; `datetime.date`, `time`, `datetime` and `timedelta`;
-        a list for lists, and a dict for structs, or a list of (name, value) if names repeat. With
-        a dictionary the values are those to which the indices lead. A timestamp with a time zone
-        is a `datetime` in that zone.
+        With a dictionary the values are those to which the indices lead. A timestamp with a time
+        zone is a `datetime` in that zone.
 
         With `as_stored`, dates, times, timestamps and durations are the numbers that are stored, in
         the unit of their type.

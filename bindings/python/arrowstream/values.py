@@ -6,7 +6,7 @@ from __future__ import annotations
 import datetime
 import re
 import zoneinfo
-from typing import TYPE_CHECKING, Any, Callable, Iterable
+from typing import TYPE_CHECKING, Any, Callable, Iterable, Sequence
 
 if TYPE_CHECKING:
     from .reader import Column
@@ -27,12 +27,51 @@ def _bits(buffer: memoryview, count: int) -> str:
     return bin(number)[:2:-1][:count]
 
 
-def _with_nulls(column: Column, values: Iterable[Any]) -> list[Any]:
-    """The values, with None for each slot that is null."""
+def _used_slots(column: Column) -> Sequence[int] | None:
+    """For each slot of a child whether its parent uses it, or None if the parent uses each."""
+    parent = column.parent
+    if parent is None:
+        return None
+    live = _live_slots(parent)
+    if parent.type[0] == "struct":
+        more = len(column) - len(parent)
+        return live if not more else [*(live or [True] * len(parent)), *[False] * more]
+    if parent.type[0] == "list":
+        spans = list(_spans(parent))
+    else:
+        size = parent.type[1]
+        spans = [(size * slot, size * slot + size) for slot in range(len(parent))]
+    used = bytearray(len(column))
+    for slot, (start, end) in enumerate(spans):
+        if live is None or live[slot]:
+            used[start:end] = b"\1" * (end - start)
+    return None if all(used) else used
+
+
+def _live_slots(column: Column) -> Sequence[int] | None:
+    """For each slot whether it has a value and is used, or None if each is. Bytes of other slots
+    have no meaning: they need not even be a text or an index."""
+    used = _used_slots(column)
     if not column.null_count or not len(column.validity):
+        return used
+    valid = [bit == "1" for bit in _bits(column.validity, len(column))]
+    return valid if used is None else [one and other for one, other in zip(valid, used)]
+
+
+def _each(column: Column, slots: Iterable[Any], read: Callable[[Any], Any]) -> list[Any]:
+    """What `read` makes of each slot, and None for each that is null or not used."""
+    live = _live_slots(column)
+    if live is None:
+        return [read(slot) for slot in slots]
+    return [read(slot) if is_live else None for slot, is_live in zip(slots, live)]
+
+
+def _with_nulls(column: Column, values: Iterable[Any]) -> list[Any]:
+    """The values, with None for each slot that is null or not used."""
+    live = _live_slots(column)
+    if live is None:
         return list(values)
-    valid = _bits(column.validity, len(column))
-    return [value if bit == "1" else None for value, bit in zip(values, valid)]
+    return [value if is_live else None for value, is_live in zip(values, live)]
 
 
 def _numbers(column: Column, kind: tuple[Any, ...]) -> list[int]:
@@ -41,7 +80,9 @@ def _numbers(column: Column, kind: tuple[Any, ...]) -> list[int]:
 
 
 def _spans(column: Column) -> Iterable[tuple[int, int]]:
-    """Where each slot begins and ends, by the offsets."""
+    """Where each slot begins and ends, by the offsets. Without slots there need be none."""
+    if not len(column):
+        return ()
     offsets = column.offsets[: 4 * len(column) + 4].cast("i").tolist()
     return zip(offsets, offsets[1:])
 
@@ -51,8 +92,7 @@ def _texts(column: Column) -> list[str | None]:
     if data.isascii():
         text = data.decode("ascii")
         return _with_nulls(column, (text[start:end] for start, end in _spans(column)))
-    slots = _with_nulls(column, _spans(column))
-    return [None if slot is None else data[slot[0] : slot[1]].decode() for slot in slots]
+    return _each(column, _spans(column), lambda span: data[span[0] : span[1]].decode())
 
 
 def _binaries(column: Column) -> list[bytes | None]:
@@ -144,17 +184,16 @@ def _temporal(column: Column) -> list[Any]:
     }
     if name == "timestamp":
         readers[name] = _moment_reader(unit, column.type[2])
-    reader = readers[name]
     try:
-        return [None if it is None else reader(it) for it in _stored(column)]
+        return _each(column, _numbers(column, _width_of(column)), readers[name])
     except OverflowError as fault:
         raise ValueError(f"a value of {column.name!r} does not fit {name} of datetime") from fault
 
 
-def _stored(column: Column) -> list[int | None]:
-    """The numbers of a column of dates, times, timestamps or durations."""
+def _width_of(column: Column) -> tuple[str, int]:
+    """The type of the numbers that dates, times, timestamps and durations store."""
     is_short = column.type in (("date", "day"), ("time", "s"), ("time", "ms"))
-    return _with_nulls(column, _numbers(column, ("int", 32 if is_short else 64)))
+    return ("int", 32 if is_short else 64)
 
 
 def _encoded(column: Column, as_stored: bool) -> list[Any]:
@@ -163,8 +202,8 @@ def _encoded(column: Column, as_stored: bool) -> list[Any]:
     if dictionary is None:
         return [None] * len(column)
     values = dictionary.to_list(as_stored=as_stored)
-    slots = _with_nulls(column, _numbers(column, column.field.dictionary.index_type))
-    return [None if slot is None else values[slot] for slot in slots]
+    indices = _numbers(column, column.field.dictionary.index_type)
+    return _each(column, indices, lambda index: values[index])
 
 
 _FLAT: dict[str, Callable[[Column], list[Any]]] = {
@@ -194,4 +233,6 @@ def to_list(column: Column, as_stored: bool) -> list[Any]:
         return _NESTED[name](column, as_stored)
     if name in _FLAT:
         return _FLAT[name](column)
-    return _stored(column) if as_stored else _temporal(column)
+    if as_stored:
+        return _with_nulls(column, _numbers(column, _width_of(column)))
+    return _temporal(column)
