@@ -32,6 +32,8 @@ class Column:
     ):
         self._batch = batch
         self.parent = parent
+        # What `values.live_slots` returns, or NotImplemented before it was asked for.
+        self.live: Any = NotImplemented
         self._path = path
         self._facts = batch._facts(path)
         self._buffers: dict[int, memoryview] = {}

@@ -14,7 +14,7 @@ if TYPE_CHECKING:
 _EPOCH = datetime.datetime(1970, 1, 1)
 _EPOCH_DAY = datetime.date(1970, 1, 1).toordinal()
 _PER_DAY_MS = 86_400_000
-_PER_SECOND = {"s": 1, "ms": 1_000, "us": 1_000_000, "ns": 1_000_000_000}
+_MICROSECONDS = {"s": 1_000_000, "ms": 1_000, "us": 1}
 _SIGNED = {8: "b", 16: "h", 32: "i", 64: "q"}
 _UNSIGNED = {8: "B", 16: "H", 32: "I", 64: "Q"}
 _OFFSET = re.compile(r"([+-])(\d\d):(\d\d)")
@@ -32,35 +32,37 @@ def _used_slots(column: Column) -> Sequence[int] | None:
     parent = column.parent
     if parent is None:
         return None
-    live = _live_slots(parent)
+    live, count = live_slots(parent), len(column)
     if parent.type[0] == "struct":
-        more = len(column) - len(parent)
+        more = count - len(parent)
         return live if not more else [*(live or [True] * len(parent)), *[False] * more]
-    if parent.type[0] == "list":
-        spans = list(_spans(parent))
-    else:
-        size = parent.type[1]
-        spans = [(size * slot, size * slot + size) for slot in range(len(parent))]
-    used = bytearray(len(column))
-    for slot, (start, end) in enumerate(spans):
-        if live is None or live[slot]:
-            used[start:end] = b"\1" * (end - start)
-    return None if all(used) else used
+    spans = _spans(parent) if parent.type[0] == "list" else _blocks(parent)
+    if live is not None:
+        spans = [span for span, is_live in zip(spans, live) if is_live]
+    # The spans are in order, so together they have each slot if they have as many.
+    if sum(end - start for start, end in spans) == count:
+        return None
+    used = bytearray(count)
+    for start, end in spans:
+        used[start:end] = b"\1" * (end - start)
+    return used
 
 
-def _live_slots(column: Column) -> Sequence[int] | None:
+def live_slots(column: Column) -> Sequence[int] | None:
     """For each slot whether it has a value and is used, or None if each is. Bytes of other slots
     have no meaning: they need not even be a text or an index."""
-    used = _used_slots(column)
-    if not column.null_count or not len(column.validity):
-        return used
-    valid = [bit == "1" for bit in _bits(column.validity, len(column))]
-    return valid if used is None else [one and other for one, other in zip(valid, used)]
+    if column.live is NotImplemented:
+        column.live = _used_slots(column)
+        if column.null_count and len(column.validity):
+            valid = [bit == "1" for bit in _bits(column.validity, len(column))]
+            pairs = zip(valid, column.live or valid)
+            column.live = [one and other for one, other in pairs]
+    return column.live
 
 
 def _each(column: Column, slots: Iterable[Any], read: Callable[[Any], Any]) -> list[Any]:
     """What `read` makes of each slot, and None for each that is null or not used."""
-    live = _live_slots(column)
+    live = live_slots(column)
     if live is None:
         return [read(slot) for slot in slots]
     return [read(slot) if is_live else None for slot, is_live in zip(slots, live)]
@@ -68,7 +70,7 @@ def _each(column: Column, slots: Iterable[Any], read: Callable[[Any], Any]) -> l
 
 def _with_nulls(column: Column, values: Iterable[Any]) -> list[Any]:
     """The values, with None for each slot that is null or not used."""
-    live = _live_slots(column)
+    live = live_slots(column)
     if live is None:
         return list(values)
     return [value if is_live else None for value, is_live in zip(values, live)]
@@ -79,12 +81,18 @@ def _numbers(column: Column, kind: tuple[Any, ...]) -> list[int]:
     return column.values[: kind[1] // 8 * len(column)].cast(codes[kind[1]]).tolist()
 
 
-def _spans(column: Column) -> Iterable[tuple[int, int]]:
+def _spans(column: Column) -> list[tuple[int, int]]:
     """Where each slot begins and ends, by the offsets. Without slots there need be none."""
     if not len(column):
-        return ()
+        return []
     offsets = column.offsets[: 4 * len(column) + 4].cast("i").tolist()
-    return zip(offsets, offsets[1:])
+    return list(zip(offsets, offsets[1:]))
+
+
+def _blocks(column: Column) -> list[tuple[int, int]]:
+    """Where each slot of lists of a fixed size begins and ends."""
+    size = column.type[1]
+    return [(size * slot, size * slot + size) for slot in range(len(column))]
 
 
 def _texts(column: Column) -> list[str | None]:
@@ -112,9 +120,8 @@ def _lists(column: Column, as_stored: bool) -> list[list[Any] | None]:
 
 
 def _fixed_lists(column: Column, as_stored: bool) -> list[list[Any] | None]:
-    items, size = column.child(0).to_list(as_stored=as_stored), column.type[1]
-    starts = (size * slot for slot in range(len(column)))
-    return _with_nulls(column, (items[start : start + size] for start in starts))
+    items = column.child(0).to_list(as_stored=as_stored)
+    return _with_nulls(column, (items[start:end] for start, end in _blocks(column)))
 
 
 def _structs(column: Column, as_stored: bool) -> list[Any]:
@@ -132,7 +139,7 @@ def _structs(column: Column, as_stored: bool) -> list[Any]:
 def _microseconds(number: int, unit: str) -> int:
     """A number of the unit in microseconds. Nanoseconds have to be whole microseconds."""
     if unit != "ns":
-        return number * (1_000_000 // _PER_SECOND[unit])
+        return number * _MICROSECONDS[unit]
     whole, part = divmod(number, 1_000)
     if part:
         raise ValueError(f"{number} ns is not a whole number of microseconds")
@@ -147,7 +154,7 @@ def _date(number: int, unit: str) -> datetime.date:
 
 
 def _time(number: int, unit: str) -> datetime.time:
-    passed = datetime.timedelta(microseconds=_microseconds(number, unit))
+    passed = datetime.timedelta(0, 0, _microseconds(number, unit))
     if not datetime.timedelta() <= passed < datetime.timedelta(days=1):
         raise ValueError(f"{number} {unit} is no time of a day")
     return (_EPOCH + passed).time()
@@ -167,7 +174,7 @@ def _moment_reader(unit: str, zone: str | None) -> Callable[[int], datetime.date
     place = None if zone is None else _zone(zone)
 
     def moment(number: int) -> datetime.datetime:
-        naive = _EPOCH + datetime.timedelta(microseconds=_microseconds(number, unit))
+        naive = _EPOCH + datetime.timedelta(0, 0, _microseconds(number, unit))
         if place is None:
             return naive
         return naive.replace(tzinfo=datetime.timezone.utc).astimezone(place)
@@ -180,7 +187,7 @@ def _temporal(column: Column) -> list[Any]:
     readers: dict[str, Callable[[int], Any]] = {
         "date": lambda number: _date(number, unit),
         "time": lambda number: _time(number, unit),
-        "duration": lambda number: datetime.timedelta(microseconds=_microseconds(number, unit)),
+        "duration": lambda number: datetime.timedelta(0, 0, _microseconds(number, unit)),
     }
     if name == "timestamp":
         readers[name] = _moment_reader(unit, column.type[2])
