@@ -1,0 +1,127 @@
+"""The calls of `include/arrowstream.h`, by ctypes."""
+
+from __future__ import annotations
+
+import ctypes
+import os
+import pathlib
+from typing import Callable
+
+OK = 0
+OUT_OF_MEMORY = 37
+ABSENT = 64
+VERSION = 1
+
+NOTHING, SCHEMA, BATCH, END, CLOSED = range(5)
+VALIDITY, OFFSETS, VALUES = range(3)
+DICTIONARY = 2**64 - 1
+
+
+class Limits(ctypes.Structure):
+    """`arrow_limits`."""
+
+    _fields_ = [
+        (name, ctypes.c_uint64)
+        for name in ("metadata", "body", "slots", "fields", "depth", "text", "pairs")
+    ]
+
+
+class Progress(ctypes.Structure):
+    """`arrow_progress`."""
+
+    _fields_ = [
+        ("taken", ctypes.c_size_t),
+        ("wanted", ctypes.c_size_t),
+        ("messages", ctypes.c_uint64),
+        ("event", ctypes.c_uint64),
+    ]
+
+
+class Layout(ctypes.Structure):
+    """`arrow_layout`."""
+
+    _fields_ = [
+        ("kind", ctypes.c_uint32),
+        ("bits", ctypes.c_uint32),
+        ("is_signed", ctypes.c_uint32),
+        ("size", ctypes.c_uint32),
+        ("dictionary", ctypes.c_int64),
+    ]
+
+
+class ColumnFacts(ctypes.Structure):
+    """`arrow_column`."""
+
+    _fields_ = [
+        ("layout", Layout),
+        ("slots", ctypes.c_size_t),
+        ("nulls", ctypes.c_uint64),
+        ("children", ctypes.c_size_t),
+        ("validity", ctypes.c_size_t),
+        ("offsets", ctypes.c_size_t),
+        ("values", ctypes.c_size_t),
+    ]
+
+
+_HANDLE = ctypes.c_void_p
+_SIZE = ctypes.c_size_t
+_STATUS = ctypes.c_uint32
+_TEXT = [_HANDLE, ctypes.c_void_p, _SIZE, ctypes.POINTER(_SIZE)]
+_PATH = [_HANDLE, ctypes.POINTER(ctypes.c_uint64), _SIZE]
+_CALLS = {
+    "arrow_version": (_STATUS, []),
+    "arrow_limits_standard": (None, [ctypes.POINTER(Limits)]),
+    "arrow_reader_open": (None, [ctypes.POINTER(Limits), ctypes.POINTER(_HANDLE)]),
+    "arrow_reader_feed": (_STATUS, [_HANDLE, _HANDLE, _SIZE, ctypes.POINTER(Progress)]),
+    "arrow_reader_close": (_STATUS, [_HANDLE, ctypes.POINTER(Progress)]),
+    "arrow_reader_schema": (_STATUS, _TEXT),
+    "arrow_reader_line": (_STATUS, _TEXT),
+    "arrow_reader_take": (None, [_HANDLE, ctypes.POINTER(_HANDLE)]),
+    "arrow_reader_free": (None, [_HANDLE]),
+    "arrow_batch_rows": (_SIZE, [_HANDLE]),
+    "arrow_batch_columns": (_SIZE, [_HANDLE]),
+    "arrow_batch_pairs": (_STATUS, _TEXT),
+    "arrow_batch_column": (_STATUS, [*_PATH, ctypes.POINTER(ColumnFacts)]),
+    "arrow_batch_buffer": (
+        _STATUS,
+        [*_PATH, ctypes.c_uint32, ctypes.c_void_p, _SIZE, ctypes.POINTER(_SIZE)],
+    ),
+    "arrow_batch_free": (None, [_HANDLE]),
+}
+
+
+def _load() -> ctypes.PyDLL:
+    """The shared library: the file that ARROWSTREAM_LIBRARY names, or the one of this package.
+
+    PyDLL keeps Python's lock during a call. So a batch that another thread drops is not freed while
+    a call uses its reader.
+    """
+    beside = pathlib.Path(__file__).with_name("libarrowstream.so")
+    loaded = ctypes.PyDLL(os.environ.get("ARROWSTREAM_LIBRARY") or str(beside))
+    for name, (result, arguments) in _CALLS.items():
+        call = getattr(loaded, name)
+        call.restype, call.argtypes = result, arguments
+    found = loaded.arrow_version()
+    if found != VERSION:
+        raise ImportError(f"libarrowstream has version {found}, and {VERSION} is needed")
+    return loaded
+
+
+library = _load()
+
+
+def text_of(call: Callable[..., int], handle: ctypes.c_void_p) -> str | None:
+    """The text that a call copies, or None if there is none. Raises MemoryError."""
+    room, wanted = ctypes.create_string_buffer(256), _SIZE()
+    status = call(handle, room, len(room), wanted)
+    if status == OK and wanted.value > len(room):
+        room = ctypes.create_string_buffer(wanted.value)
+        status = call(handle, room, len(room), wanted)
+    if status == OUT_OF_MEMORY:
+        raise MemoryError
+    return room.raw[: wanted.value].decode() if status == OK else None
+
+
+def path_of(steps: tuple[int, ...]) -> ctypes.Array[ctypes.c_uint64]:
+    """The steps to a column as an array."""
+    return (ctypes.c_uint64 * len(steps))(*steps)

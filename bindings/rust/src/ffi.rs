@@ -1,0 +1,104 @@
+//! The declarations of `include/arrowstream.h` that this crate uses.
+#![allow(missing_docs)]
+
+use std::marker::{PhantomData, PhantomPinned};
+
+pub(crate) const OK: u32 = 0;
+pub(crate) const OUT_OF_MEMORY: u32 = 37;
+
+pub(crate) const SCHEMA: u64 = 1;
+pub(crate) const BATCH: u64 = 2;
+pub(crate) const END: u64 = 3;
+
+#[repr(C)]
+pub(crate) struct Reader {
+    _opaque: [u8; 0],
+    _marker: PhantomData<(*mut u8, PhantomPinned)>,
+}
+
+#[repr(C)]
+pub(crate) struct Batch {
+    _opaque: [u8; 0],
+    _marker: PhantomData<(*mut u8, PhantomPinned)>,
+}
+
+#[repr(C)]
+#[derive(Default)]
+pub(crate) struct Progress {
+    pub(crate) taken: usize,
+    pub(crate) wanted: usize,
+    pub(crate) messages: u64,
+    pub(crate) event: u64,
+}
+
+#[repr(C)]
+#[derive(Clone, Copy, Default)]
+pub(crate) struct Layout {
+    pub(crate) kind: u32,
+    pub(crate) bits: u32,
+    pub(crate) is_signed: u32,
+    pub(crate) size: u32,
+    pub(crate) dictionary: i64,
+}
+
+#[repr(C)]
+#[derive(Default)]
+pub(crate) struct Column {
+    pub(crate) layout: Layout,
+    pub(crate) slots: usize,
+    pub(crate) nulls: u64,
+    pub(crate) children: usize,
+    pub(crate) validity: usize,
+    pub(crate) offsets: usize,
+    pub(crate) values: usize,
+}
+
+extern "C" {
+    pub(crate) fn arrow_limits_standard(out: *mut crate::Limits);
+    pub(crate) fn arrow_reader_open(limits: *const crate::Limits, out: *mut *mut Reader);
+    pub(crate) fn arrow_reader_feed(
+        reader: *mut Reader,
+        bytes: *const u8,
+        length: usize,
+        out: *mut Progress,
+    ) -> u32;
+    pub(crate) fn arrow_reader_close(reader: *mut Reader, out: *mut Progress) -> u32;
+    pub(crate) fn arrow_reader_schema(
+        reader: *mut Reader,
+        text: *mut u8,
+        length: usize,
+        wanted: *mut usize,
+    ) -> u32;
+    pub(crate) fn arrow_reader_line(
+        reader: *mut Reader,
+        text: *mut u8,
+        length: usize,
+        wanted: *mut usize,
+    ) -> u32;
+    pub(crate) fn arrow_reader_take(reader: *mut Reader, out: *mut *mut Batch);
+    pub(crate) fn arrow_reader_free(reader: *mut Reader);
+    pub(crate) fn arrow_batch_rows(batch: *mut Batch) -> usize;
+    pub(crate) fn arrow_batch_columns(batch: *mut Batch) -> usize;
+    pub(crate) fn arrow_batch_pairs(
+        batch: *mut Batch,
+        text: *mut u8,
+        length: usize,
+        wanted: *mut usize,
+    ) -> u32;
+    pub(crate) fn arrow_batch_column(
+        batch: *mut Batch,
+        path: *const u64,
+        steps: usize,
+        out: *mut Column,
+    ) -> u32;
+    pub(crate) fn arrow_batch_buffer(
+        batch: *mut Batch,
+        path: *const u64,
+        steps: usize,
+        buffer: u32,
+        bytes: *mut u8,
+        length: usize,
+        wanted: *mut usize,
+    ) -> u32;
+    pub(crate) fn arrow_batch_free(batch: *mut Batch);
+}

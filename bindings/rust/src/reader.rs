@@ -1,0 +1,213 @@
+//! Streams that are read batch by batch.
+
+use crate::{ffi, Batch, Error};
+use std::io::{ErrorKind, Read};
+use std::marker::PhantomData;
+use std::ptr::{null_mut, NonNull};
+
+const PIECE: usize = 1 << 16;
+
+/// The most that a reader accepts. A value above its maximum counts as the maximum.
+#[repr(C)]
+#[derive(Clone, Copy, Debug, PartialEq, Eq)]
+pub struct Limits {
+    /// Bytes of a message's metadata: at most 2^28.
+    pub metadata: u64,
+    /// Bytes of a message's body: at most 2^42.
+    pub body: u64,
+    /// Rows of a batch, and slots of a column: at most 2^31 - 1.
+    pub slots: u64,
+    /// Fields of a schema with their descendants: at most 2^20.
+    pub fields: u64,
+    /// Nesting of fields: at most 64.
+    pub depth: u64,
+    /// Bytes of a schema's names, keys, values and timezones: at most 2^30.
+    pub text: u64,
+    /// Pairs of key and value of a schema, and of a batch: at most 2^24.
+    pub pairs: u64,
+}
+
+impl Limits {
+    /// Returns limits that fit what is written in practice.
+    pub fn standard() -> Limits {
+        let mut limits =
+            Limits { metadata: 0, body: 0, slots: 0, fields: 0, depth: 0, text: 0, pairs: 0 };
+        // SAFETY: `limits` may be written.
+        unsafe { ffi::arrow_limits_standard(&mut limits) };
+        limits
+    }
+}
+
+/// How a stream ended.
+#[derive(Clone, Copy, Debug, PartialEq, Eq)]
+pub enum End {
+    /// With the end-of-stream mark.
+    Mark,
+    /// With the end of the source between two messages.
+    Closed,
+}
+
+/// A stream that is read: an iterator over its batches. It stays on one thread.
+///
+/// After an error, and after the end, the iterator returns `None`.
+#[derive(Debug)]
+pub struct Reader<R> {
+    source: R,
+    reader: NonNull<ffi::Reader>,
+    room: Vec<u8>,
+    unread: std::ops::Range<usize>,
+    schema: Option<String>,
+    end: Option<End>,
+    failed: bool,
+    // A reader shares counts with its batches that are not atomic: neither `Send` nor `Sync`.
+    _thread: PhantomData<*mut u8>,
+}
+
+/// Returns the text that a call copies, or `None` if there is none.
+pub(crate) fn text_of(
+    call: impl Fn(*mut u8, usize, *mut usize) -> u32,
+) -> Result<Option<String>, Error> {
+    let mut text = vec![0; 256];
+    let mut wanted = 0;
+    let mut status = call(text.as_mut_ptr(), text.len(), &mut wanted);
+    if status == ffi::OK && wanted > text.len() {
+        text.resize(wanted, 0);
+        status = call(text.as_mut_ptr(), text.len(), &mut wanted);
+    }
+    if status == ffi::OUT_OF_MEMORY {
+        return Err(Error::OutOfMemory);
+    }
+    text.truncate(wanted);
+    Ok((status == ffi::OK).then(|| String::from_utf8_lossy(&text).into_owned()))
+}
+
+impl<R: Read> Reader<R> {
+    /// Reads the schema of a stream from `source`, such as a file or a socket. Bytes after the
+    /// end-of-stream mark may be read from it, and are ignored.
+    pub fn open(source: R, limits: &Limits) -> Result<Reader<R>, Error> {
+        let mut reader = null_mut();
+        // SAFETY: `limits` may be read, and `reader` be written.
+        unsafe { ffi::arrow_reader_open(limits, &mut reader) };
+        let reader = NonNull::new(reader).ok_or(Error::OutOfMemory)?;
+        let mut stream = Reader {
+            source,
+            reader,
+            room: vec![0; PIECE],
+            unread: 0..0,
+            schema: None,
+            end: None,
+            failed: false,
+            _thread: PhantomData,
+        };
+        stream.advance()?;
+        Ok(stream)
+    }
+
+    /// Returns the schema as JSON, in the form of `docs/SCHEMA.md`.
+    pub fn schema(&self) -> &str {
+        self.schema.as_deref().unwrap_or_default()
+    }
+
+    /// Returns how the stream ended, or `None` before its end.
+    pub fn end(&self) -> Option<End> {
+        self.end
+    }
+
+    // Reads up to the next event, and returns it.
+    fn advance(&mut self) -> Result<u64, Error> {
+        loop {
+            if self.unread.is_empty() {
+                match self.source.read(&mut self.room) {
+                    Ok(0) => return self.close(),
+                    Ok(count) => self.unread = 0..count,
+                    Err(error) if error.kind() == ErrorKind::Interrupted => continue,
+                    Err(error) => return Err(Error::Read(error)),
+                }
+            }
+            let piece = &self.room[self.unread.clone()];
+            let mut progress = ffi::Progress::default();
+            // SAFETY: the reader was not freed; `piece` has this length.
+            let status = unsafe {
+                ffi::arrow_reader_feed(
+                    self.reader.as_ptr(),
+                    piece.as_ptr(),
+                    piece.len(),
+                    &mut progress,
+                )
+            };
+            self.check(status)?;
+            self.unread.start += progress.taken;
+            match progress.event {
+                ffi::SCHEMA => self.schema = self.text(ffi::arrow_reader_schema)?,
+                ffi::END => self.end = Some(End::Mark),
+                ffi::BATCH => {}
+                _ => continue,
+            }
+            return Ok(progress.event);
+        }
+    }
+
+    // Ends the input.
+    fn close(&mut self) -> Result<u64, Error> {
+        let mut progress = ffi::Progress::default();
+        // SAFETY: the reader was not freed.
+        let status = unsafe { ffi::arrow_reader_close(self.reader.as_ptr(), &mut progress) };
+        self.check(status)?;
+        let is_mark = progress.event == ffi::END;
+        self.end = Some(if is_mark { End::Mark } else { End::Closed });
+        Ok(progress.event)
+    }
+
+    // The batch that was reported.
+    fn take(&mut self) -> Result<Batch, Error> {
+        let mut batch = null_mut();
+        // SAFETY: the reader was not freed, and `batch` may be written.
+        unsafe { ffi::arrow_reader_take(self.reader.as_ptr(), &mut batch) };
+        NonNull::new(batch).map(Batch::new).ok_or(Error::OutOfMemory)
+    }
+
+    // A text of the reader.
+    fn text(
+        &self,
+        call: unsafe extern "C" fn(*mut ffi::Reader, *mut u8, usize, *mut usize) -> u32,
+    ) -> Result<Option<String>, Error> {
+        // SAFETY: the reader was not freed; `text` has `length` bytes.
+        text_of(|text, length, wanted| unsafe { call(self.reader.as_ptr(), text, length, wanted) })
+    }
+
+    // The error of a status.
+    fn check(&mut self, status: u32) -> Result<(), Error> {
+        match status {
+            ffi::OK => Ok(()),
+            ffi::OUT_OF_MEMORY => Err(Error::OutOfMemory),
+            number => {
+                let line = self.text(ffi::arrow_reader_line)?.unwrap_or_default();
+                Err(Error::Refused { number, line })
+            }
+        }
+    }
+}
+
+impl<R: Read> Iterator for Reader<R> {
+    type Item = Result<Batch, Error>;
+
+    fn next(&mut self) -> Option<Result<Batch, Error>> {
+        if self.failed || self.end.is_some() {
+            return None;
+        }
+        let batch = match self.advance() {
+            Ok(ffi::BATCH) => self.take(),
+            Ok(_) => return None,
+            Err(error) => Err(error),
+        };
+        self.failed = batch.is_err();
+        Some(batch)
+    }
+}
+
+impl<R> Drop for Reader<R> {
+    fn drop(&mut self) {
+        // SAFETY: the reader was not freed, and is not used after.
+        unsafe { ffi::arrow_reader_free(self.reader.as_ptr()) }
+    }
+}
