@@ -75,6 +75,15 @@ def streams_of(words, stream):
     raise ValueError(f"an unknown section: {words}")
 
 
+def is_answered(want, line):
+    """Whether a line is the wanted one, or names one of several causes that stand in a message."""
+    causes, message, number = want.partition(" at message ")
+    if not want.startswith("refused ") or not message:
+        return line == want
+    causes = causes.removeprefix("refused ").split(" or ")
+    return line in [f"refused {cause}{message}{number}" for cause in causes]
+
+
 def tries():
     """The name of each section of the cases, with each stream that it speaks of, its limits and the
     wanted lines."""
