@@ -98,14 +98,5 @@ def tries():
             sys.exit(f"{name}: {error}")
 
 
-def is_answered(want, line):
-    """Whether a line is the wanted one, or names one of several causes that a message has."""
-    causes, message, number = want.partition(" at message ")
-    if not want.startswith("refused ") or not message:
-        return line == want
-    causes = causes.removeprefix("refused ").split(" or ")
-    return line in [f"refused {cause}{message}{number}" for cause in causes]
-
-
 if __name__ == "__main__":
     sys.stdout.buffer.write(stream_of(sys.argv[1]))
