@@ -4,9 +4,9 @@
  * that was taken from its reader stays valid until it is freed. Every accepted stream and every
  * refusal is that of the program `arrowstream` (docs/FAULTS.md lists the refusals F1 to F37).
  *
- * PROVED, by machine, for each call below: it is memory safe and returns on every input. Its result,
- * what it writes and the state that it leaves are as its comment says (docs/PROVED.md names the
- * clauses). Only tested: that memory ran out where a call says so, and that no memory leaks.
+ * PROVED, by machine, for each call below: it is memory safe and returns on every input. Its
+ * result, what it writes and the state that it leaves are as its comment says (docs/PROVED.md names
+ * the clauses). Only tested: that memory ran out where a call says so, and that no memory leaks.
  *
  * THE CALLER OWES, and nothing checks:
  *   - a reader or batch is one that a call set, not NULL, and not freed yet;
