@@ -13,7 +13,7 @@ pub(crate) struct Block<T, A: Allocator> {
 }
 
 impl<T, A: Allocator> Model for Block<T, A> {
-    ghost also_owns = { λ block. box_owns (A.dealloc_token block.alloc) T.row block.ptr block.value };
+    ghost also_owns = { λ b. box_owns (A.dealloc_token b.alloc) T.row b.ptr b.value };
 }
 
 impl<T, A: Allocator> Block<T, A> {
