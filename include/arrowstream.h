@@ -4,8 +4,9 @@
  * that was taken from its reader stays valid until it is freed. Every accepted stream and every
  * refusal is that of the program `arrowstream` (docs/FAULTS.md lists the refusals F1 to F37).
  *
- * PROVED, by machine, for each call below: it is memory safe and returns on every input; its result,
- * what it writes and the state that it leaves are as its comment says. docs/C.md names the contracts.
+ * PROVED, by machine, for each call below: it is memory safe and returns on every input. Its
+ * result, what it writes and the state that it leaves are as its comment says (docs/PROVED.md names
+ * the clauses). Only tested: that memory ran out where a call says so, and that no memory leaks.
  *
  * THE CALLER OWES, and nothing checks:
  *   - a reader or batch is one that a call set, not NULL, and not freed yet;
@@ -107,7 +108,7 @@ uint32_t arrow_reader_schema(arrow_reader *reader, uint8_t *text, size_t length,
 
 /* Copies the line of the first refusal, such as "F4 Truncated at message 2", as the program prints
  * it, without a line feed. `text`, `length`, `wanted` and the result are as in arrow_reader_schema;
- * ARROW_ABSENT before a refusal. A line has at most 80 bytes. */
+ * ARROW_ABSENT before a refusal. */
 uint32_t arrow_reader_line(arrow_reader *reader, uint8_t *text, size_t length, size_t *wanted);
 
 /* Takes the batch that the last call of arrow_reader_feed reported, and sets `out` to it. It is
@@ -126,7 +127,8 @@ size_t arrow_batch_rows(arrow_batch *batch);
 size_t arrow_batch_columns(arrow_batch *batch);
 
 /* Copies the metadata of the batch's message as JSON text: an array of pairs of a key and a value.
- * `text`, `length`, `wanted` and the result are as in arrow_reader_schema, but never ARROW_ABSENT. */
+ * `text`, `length`, `wanted` and the result are as in arrow_reader_schema, but ARROW_ABSENT never
+ * comes. */
 uint32_t arrow_batch_pairs(arrow_batch *batch, uint8_t *text, size_t length, size_t *wanted);
 
 enum {
@@ -155,7 +157,7 @@ typedef struct {
     size_t slots;    /* a column of a batch has a slot for each row */
     uint64_t nulls;  /* slots that the validity bitmap marks as null, or 0 without a bitmap */
     size_t children; /* 1 for lists, the number of members of structs, else 0 */
-    size_t validity; /* bytes of the validity bitmap: 0 if the column has none, and no slot is null */
+    size_t validity; /* bytes of the validity bitmap, or 0 if the column has none */
     size_t offsets;  /* bytes of the offsets */
     size_t values;   /* bytes of the values */
 } arrow_column;

@@ -50,13 +50,15 @@ def broken_links(path):
 
 
 def code_files():
-    """The files of the crates, and the tools."""
+    """The files of the crates, the tools, and what is for C."""
     for folder in ("src", "specs", "proofs"):
         for path in TOP.glob(f"crates/*/{folder}/**/*"):
             if path.suffix in (".rt", ".antt"):
                 yield path
     for folder in ("bin", "tests", "tools", "bench"):
         yield from (path for path in TOP.glob(f"{folder}/*") if path.suffix != ".md")
+    for pattern in ("include/*.h", "examples/*/*.c"):
+        yield from TOP.glob(pattern)
 
 
 def main():

@@ -111,7 +111,8 @@ static int print_column(arrow_batch *batch, uint64_t *path, size_t steps) {
         if (path[i] == ARROW_DICTIONARY) printf(" dictionary");
         else printf(" %" PRIu64, path[i]);
     }
-    printf(", layout %u, %zu slots, %" PRIu64 " nulls:", facts->layout.kind, facts->slots, facts->nulls);
+    printf(", layout %u, %zu slots, %" PRIu64 " nulls:", facts->layout.kind, facts->slots,
+           facts->nulls);
     for (size_t slot = 0; slot < facts->slots; slot++) {
         putchar(' ');
         print_slot(&column, slot);
@@ -151,7 +152,8 @@ static int print_batch(arrow_reader *reader, size_t *rows) {
     arrow_reader_take(reader, &batch);
     if (!batch) return NO_MEMORY;
     *rows += arrow_batch_rows(batch);
-    printf("batch, %zu rows, %zu columns, pairs ", arrow_batch_rows(batch), arrow_batch_columns(batch));
+    printf("batch, %zu rows, %zu columns, pairs ", arrow_batch_rows(batch),
+           arrow_batch_columns(batch));
     PRINT_TEXT(stdout, arrow_batch_pairs, batch);
     for (size_t column = 0; column < arrow_batch_columns(batch) && status == DONE; column++) {
         path[0] = column;

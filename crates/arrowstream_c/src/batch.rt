@@ -5,7 +5,7 @@ ghost use Rattle.ipc_session.specs.contracts.batch.ReadBatch as batch;
 ghost use Rattle.ipc_session.specs.declared.batch.ReadBatch.{ReadBatch};
 ghost use Rattle.arrowstream_c.specs.Calls.{MayHold};
 
-use crate::parts::Parts;
+use crate::block::Block;
 use ipc_session::ReadBatch;
 use std::alloc::Global;
 use std::marker::Model;
@@ -29,7 +29,7 @@ impl BatchHandle {
         ensures { MayHold batch result.held }
     {
         match Box::new(alloc, batch) {
-            Ok(whole) => BatchHandle::of(Parts::of(whole)),
+            Ok(whole) => BatchHandle::of(Block::out_of(whole)),
             Err(_) => BatchHandle::none(),
         }
     }
@@ -41,11 +41,11 @@ impl BatchHandle {
         BatchHandle { at: null_mut() }
     }
 
-    // The pointer of these parts.
-    fn of(whole: Parts<ReadBatch, Global>) -> BatchHandle
+    // The pointer of this block.
+    fn of(whole: Block<ReadBatch, Global>) -> BatchHandle
         ensures { result.held ≡ Some whole.value }
     {
-        let Parts { ptr, alloc: _ } = whole;
+        let Block { ptr, alloc: _ } = whole;
         BatchHandle { at: ptr as *mut u8 }
     }
 }

@@ -5,13 +5,13 @@ ghost use Rattle.arrowstream_c.specs.Calls.{DescribesColumn, GivesPairs};
 ghost use Rattle.arrowstream_c.specs.Numbers.{IsBuffer};
 
 use crate::answers::{ABSENT, Column};
-use crate::parts::Parts;
+use crate::block::Block;
 use crate::reader_calls::give;
 use ipc_model::Fault;
 use ipc_session::{BufferKind, ReadBatch};
 use std::alloc::Global;
 
-pub(crate) fn free_batch(batch: Parts<ReadBatch, Global>) {
+pub(crate) fn free_batch(batch: Block<ReadBatch, Global>) {
     batch.into_box().drop();
 }
 

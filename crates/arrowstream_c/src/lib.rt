@@ -19,14 +19,14 @@ ghost use Rattle.arrowstream_c.specs.Numbers.{AreStandard};
 mod answers;
 mod batch;
 mod batch_calls;
-mod parts;
+mod block;
 mod reader;
 mod reader_calls;
 
 use answers::{Column, Progress, ReadLimits};
 use batch::BatchHandle;
+use block::Block;
 use ipc_session::{ReadBatch, ReadSession};
-use parts::Parts;
 use reader::ReaderHandle;
 use std::alloc::Global;
 
@@ -62,7 +62,7 @@ pub extern "C" fn arrow_reader_open(alloc: Global, limits: &ReadLimits, out: &mu
 pub unsafe extern "C" fn arrow_reader_free(alloc: Global, reader: *mut u8)
     requires* { sem 𝓛 (is_reader reader) }
 {
-    reader_calls::free_reader(Parts {
+    reader_calls::free_reader(Block {
         ptr: reader as *mut ReadSession,
         alloc,
     });
@@ -142,7 +142,7 @@ pub unsafe extern "C" fn arrow_reader_take(alloc: Global, reader: *mut u8, out: 
 pub unsafe extern "C" fn arrow_batch_free(alloc: Global, batch: *mut u8)
     requires* { sem 𝓛 (is_batch batch) }
 {
-    batch_calls::free_batch(Parts {
+    batch_calls::free_batch(Block {
         ptr: batch as *mut ReadBatch,
         alloc,
     });

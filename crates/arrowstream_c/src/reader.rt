@@ -6,7 +6,7 @@ ghost use Rattle.ipc_session.specs.declared.session.ReadSession.{ReadSession};
 ghost use Rattle.arrowstream_c.specs.Calls.{Opens};
 
 use crate::answers::{ReadLimits, capped};
-use crate::parts::Parts;
+use crate::block::Block;
 use ipc_session::ReadSession;
 use std::alloc::Global;
 use std::marker::Model;
@@ -30,7 +30,7 @@ impl ReaderHandle {
         ensures { Opens limits.now result.held }
     {
         match Box::new(alloc, ReadSession::new(alloc, capped(limits))) {
-            Ok(whole) => ReaderHandle::of(Parts::of(whole)),
+            Ok(whole) => ReaderHandle::of(Block::out_of(whole)),
             Err(_) => ReaderHandle::none(),
         }
     }
@@ -42,11 +42,11 @@ impl ReaderHandle {
         ReaderHandle { at: null_mut() }
     }
 
-    // The pointer of these parts.
-    fn of(whole: Parts<ReadSession, Global>) -> ReaderHandle
+    // The pointer of this block.
+    fn of(whole: Block<ReadSession, Global>) -> ReaderHandle
         ensures { result.held ≡ Some whole.value }
     {
-        let Parts { ptr, alloc: _ } = whole;
+        let Block { ptr, alloc: _ } = whole;
         ReaderHandle { at: ptr as *mut u8 }
     }
 }

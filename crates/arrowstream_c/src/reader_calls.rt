@@ -4,12 +4,12 @@ ghost use Rattle.arrowstream_c.specs.Calls.{IsAt, Takes};
 
 use crate::answers::{ABSENT, Progress, arrival_number, end_number, status_of};
 use crate::batch::BatchHandle;
-use crate::parts::Parts;
+use crate::block::Block;
 use ipc_model::Fault;
 use ipc_session::{ReadSession, copy_into};
 use std::alloc::Global;
 
-pub(crate) fn free_reader(reader: Parts<ReadSession, Global>) {
+pub(crate) fn free_reader(reader: Block<ReadSession, Global>) {
     reader.into_box().drop();
 }
 

@@ -1,4 +1,4 @@
--- `arrow_batch_free` makes parts of the pointer, and passes them to `free_batch`.
+-- `arrow_batch_free` makes a block of the pointer, and passes it to `free_batch`.
 use Rattle.std.proofs.Common.{◌++◌, List, [], ◌∷◌, refl, ap}
 use Rattle.std.proofs.raw_atomic.Walks.{proved}
 use Rattle.std.proofs.alloc.Calls.{Goes-blank}
@@ -37,8 +37,8 @@ use denote.Triple.Walked.{Stays, walk_of, stay_dropped, ends_at}
 use Rattle.ipc_session.specs.contracts.batch.ReadBatch as held
 use Rattle.ipc_session.proofs.batch.ReadBatch.TheLaws as held_laws
 use Rattle.arrowstream_c.specs.Handles.{is_held}
-use Rattle.arrowstream_c.specs.contracts.parts.Parts as parts
-use Rattle.arrowstream_c.proofs.parts.Parts.TheLaws as laws
+use Rattle.arrowstream_c.specs.contracts.block.Block as block
+use Rattle.arrowstream_c.proofs.block.Block.TheLaws as laws
 use Rattle.arrowstream_c.specs.contracts.arrow_batch_free as f
 use Rattle.arrowstream_c.proofs.arrow_batch_free.Statement.{statement}
 use Rattle.arrowstream_c.proofs.arrow_batch_free.Code as code
@@ -49,12 +49,12 @@ abbrev R : RattleType
 R = held.the_row
 
 abbrev P : RattleType
-P = parts.the_row R global.the_row ghosts
+P = block.the_row R global.the_row ghosts
 
 abbrev told : Told global.the_row
 told = record { val = global_laws.lowers.lowered; tells = global_laws.lowers.val_is }
 
-abbrev lowers : Lowered (parts.the_type R global.the_row ghosts)
+abbrev lowers : Lowered (block.the_type R global.the_row ghosts)
 lowers = laws.lowers R global.the_row ghosts held_laws.the_row_laws global_laws.the_row_laws told
 
 abbrev stayed : Stays f.ended.signature.params f.ended.kept
@@ -92,7 +92,7 @@ arrow_batch_free_spec 𝓤 𝓛 𝓜 𝓡 wired =
     let z : G.Ghost = ((tt, tt, tt, (d, tt), (v ∷ [], tt)), tt) in
     nothing ! $ move ! (1 ∷ 0 ∷ []) $ fjoin ! $ feq_i ! (List Val) (vptr b o ∷ []) (vptr b o ∷ []) refl $ fjoin ! $
     feq_i ! (List Val) (v ∷ []) (v ∷ []) refl $ fjoin ! $
-    fpack ! (Valss (RawPtr ∷ global.the_row ∷ [])) (within (shape (parts.the_type R global.the_row ghosts)) (block_ptr b o, (alloc, tt))
+    fpack ! (Valss (RawPtr ∷ global.the_row ∷ [])) (within (shape (block.the_type R global.the_row ghosts)) (block_ptr b o, (alloc, tt))
     (v ∷ []))
     (vptr b o ∷ [], (told.val alloc ∷ [], tt)) $ fjoin ! $
     nothing ! $ move ! (1 ∷ 0 ∷ []) $ join ! $ nothing ! $ join ! $ nothing ! $ move ! (1 ∷ 0 ∷ []) $ use2 𝓛 (raw (G.pre z)) (id⊢ 𝓤 _) $

@@ -1,4 +1,4 @@
--- `of` gives what the parts own to a handle.
+-- `of` gives what the block owns to a handle.
 use Rattle.std.proofs.Common.{◌++◌, List, [], ◌∷◌, refl}
 use Rattle.std.specs.Prelude.{Some}
 use Rattle.std.proofs.raw_atomic.Walks.{proved}
@@ -32,8 +32,8 @@ use denote.Triple.Walked.{Stays, walk_of, says, stay_dropped, ends_at}
 use Rattle.ipc_session.specs.contracts.session.ReadSession as held
 use Rattle.ipc_session.proofs.session.ReadSession.TheLaws as held_laws
 use Rattle.arrowstream_c.specs.contracts.reader.ReaderHandle as handle
-use Rattle.arrowstream_c.specs.contracts.parts.Parts as parts
-use Rattle.arrowstream_c.proofs.parts.Parts.TheLaws as laws
+use Rattle.arrowstream_c.specs.contracts.block.Block as block
+use Rattle.arrowstream_c.proofs.block.Block.TheLaws as laws
 use Rattle.arrowstream_c.specs.contracts.reader.ReaderHandle.of as f
 use Rattle.arrowstream_c.proofs.reader.ReaderHandle.of.Statement.{statement}
 use Rattle.arrowstream_c.proofs.reader.ReaderHandle.of.Code as code
@@ -42,12 +42,12 @@ abbrev R : RattleType
 R = held.the_row
 
 abbrev P : RattleType
-P = parts.the_row R global.the_row ghosts
+P = block.the_row R global.the_row ghosts
 
 abbrev told : Told global.the_row
 told = record { val = global_laws.lowers.lowered; tells = global_laws.lowers.val_is }
 
-abbrev lowers : Lowered (parts.the_type R global.the_row ghosts)
+abbrev lowers : Lowered (block.the_type R global.the_row ghosts)
 lowers = laws.lowers R global.the_row ghosts held_laws.the_row_laws global_laws.the_row_laws told
 
 abbrev stayed : Stays f.ended.signature.params f.ended.kept

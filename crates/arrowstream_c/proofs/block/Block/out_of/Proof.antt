@@ -1,4 +1,4 @@
--- `of` passes the box to `into_raw_with_allocator`; the parts own what it returns.
+-- `out_of` passes the box to `into_raw_with_allocator`; the block owns what it returns.
 use mathlib.Core.Path.{◌≡◌, refl, sym, subst, ap, ◌∙◌}
 use mathlib.Core.List.{List, [], ◌∷◌, ◌++◌}
 use mir.Syntax.{Fn, Args, a_type, dcons, dnil}
@@ -37,20 +37,20 @@ use Rattle.std.proofs.BoxSteps.Steps.{box_out, box_in}
 use Rattle.std.specs.Box.Ownership.{box_owns}
 use Rattle.std.specs.contracts.boxed.Box.into_raw_with_allocator as g
 use Rattle.std.proofs.boxed.Box.into_raw_with_allocator.Met.{met}
-use Rattle.arrowstream_c.specs.contracts.parts.Parts as parts
-use Rattle.arrowstream_c.specs.contracts.parts.Parts.of as f
-use Rattle.arrowstream_c.proofs.parts.Parts.of.Statement.{statement}
-use Rattle.arrowstream_c.proofs.parts.Parts.of.Code as code
+use Rattle.arrowstream_c.specs.contracts.block.Block as block
+use Rattle.arrowstream_c.specs.contracts.block.Block.out_of as f
+use Rattle.arrowstream_c.proofs.block.Block.out_of.Statement.{statement}
+use Rattle.arrowstream_c.proofs.block.Block.out_of.Code as code
 
-pub of_spec : {M : Type 1} → statement M
-of_spec 𝓤 𝓛 𝓜 𝓡 wired X Z LX LZ members table drops forgets allocator dropped glue =
+pub out_of_spec : {M : Type 1} → statement M
+out_of_spec 𝓤 𝓛 𝓜 𝓡 wired X Z LX LZ members table drops forgets allocator dropped glue =
     let E : Bx = record { row = X; laws = LX; al = record { row = Z; laws = LZ; g = members; d = table; drops = drops } } in
     let args : Args = bounded (a_type ∷ a_type ∷ []) (X, (Z, tt)) (dcons table (dcons drops (dcons forgets dnil))) in
     let body : Fn = inst_fn args code.function in
     let ended : Ended = f.ended X Z members table drops forgets in
     let stayed : Stays ended.signature.params ended.kept = (stay_dropped (plain (λ _. B E)) no, tt) in
     let c = f.clauses X Z members table drops forgets 𝓛 𝓜.mem 𝓡.returns in
-    let Made : RattleType = parts.the_row (R E) (P E) members in
+    let Made : RattleType = block.the_row (R E) (P E) members in
     let 𝓣 = tables 𝓤 𝓛.H 𝓜 𝓡 𝓡.env in
     let G : Contract 𝓤 =
     triple_of 𝓛 (g.signature X Z members table drops forgets) (g.spec X Z members table drops forgets 𝓛 𝓜.mem 𝓡.returns) in

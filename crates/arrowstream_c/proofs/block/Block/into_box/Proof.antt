@@ -1,4 +1,4 @@
--- `into_box` passes what the parts own to `from_raw`.
+-- `into_box` passes what the block owns to `from_raw`.
 use mathlib.Core.Path.{◌≡◌, refl, sym, subst, ap}
 use mathlib.Core.List.{List, [], ◌∷◌, ◌++◌}
 use lib.Dec.{T}
@@ -34,10 +34,10 @@ use Rattle.std.proofs.BoxSteps.Steps.{box_out, box_in}
 use Rattle.std.specs.Box.Ownership.{box_owns}
 use Rattle.std.specs.contracts.boxed.Box.from_raw as g
 use Rattle.std.proofs.boxed.Box.from_raw.Met.{met}
-use Rattle.arrowstream_c.specs.contracts.parts.Parts as parts
-use Rattle.arrowstream_c.specs.contracts.parts.Parts.into_box as f
-use Rattle.arrowstream_c.proofs.parts.Parts.into_box.Statement.{statement}
-use Rattle.arrowstream_c.proofs.parts.Parts.into_box.Code as code
+use Rattle.arrowstream_c.specs.contracts.block.Block as block
+use Rattle.arrowstream_c.specs.contracts.block.Block.into_box as f
+use Rattle.arrowstream_c.proofs.block.Block.into_box.Statement.{statement}
+use Rattle.arrowstream_c.proofs.block.Block.into_box.Code as code
 
 -- the MIR after the `unsafe` block, whose value is the result
 abbrev after_block : Body
@@ -48,7 +48,7 @@ into_box_spec 𝓤 𝓛 𝓜 𝓡 wired X Z LX LZ members table drops allocator 
     let E : Bx = record { row = X; laws = LX; al = record { row = Z; laws = LZ; g = members; d = table; drops = drops } } in
     let body : Fn = inst_fn (args E) code.function in
     let ended : Ended = f.ended X Z members table drops in
-    let From : RattleType = parts.the_row (R E) (P E) members in
+    let From : RattleType = block.the_row (R E) (P E) members in
     let stayed : Stays ended.signature.params ended.kept = (stay_dropped (plain (λ _. From)) no, tt) in
     let c = f.clauses X Z members table drops 𝓛 𝓜.mem 𝓡.returns in
     let 𝓣 = tables 𝓤 𝓛.H 𝓜 𝓡 𝓡.env in
