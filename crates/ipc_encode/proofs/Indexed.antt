@@ -122,7 +122,7 @@ three a b c =
     ∙ ap (λ (n : ℕ). length (padded a) + n) (ap (λ (bs : List ℕ). length bs) (joined_append b c) ∙ length-append (padded b) (padded c)))
 
 -- and so are those of all columns
-buffers_size : (known : Numbering) (s : Shape) (given : ℕ → List Value)
+pub buffers_size : (known : Numbering) (s : Shape) (given : ℕ → List Value)
     → length (padded (buffers_with known s given)) ≡ length (padded (buffers_of s given))
 buffers_size known bare given = refl
 buffers_size known (field lay children rest) given =

@@ -18,6 +18,7 @@ pub mod SlotParts
 pub mod Marked
 pub mod NumberBytes
 pub mod NumberSlots
+pub mod ZeroSlots
 pub mod LentBytes
 pub mod LentBuffers
 pub mod LentContents
@@ -44,3 +45,6 @@ pub mod EntryIndices
 pub mod SureIndices
 pub mod SureSlots
 pub mod PastOffsets
+pub mod SegmentBuffers
+pub mod SegmentRanges
+pub mod SegmentColumns

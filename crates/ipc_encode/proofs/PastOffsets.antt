@@ -1,5 +1,5 @@
 -- Data that passes its offsets is long data of bytes, or long lists.
-use Rattle.std.proofs.Common.{◌≡◌, sym, subst, ℕ, suc, ◌<◌, List, ◌++◌, length, inl, inr, ◌⊎◌}
+use Rattle.std.proofs.Common.{◌≡◌, sym, subst, ℕ, suc, ◌<◌, List, length, inl, inr}
 use Rattle.ipc_model.specs.declared.layout.Layout.{Layout}
 use Rattle.ipc_model.specs.declared.layout.Layout.TheVariants as l
 use Rattle.ipc_model.specs.declared.limits.Limits.{Limits}

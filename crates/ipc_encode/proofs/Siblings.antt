@@ -163,7 +163,7 @@ leaves_next limits i shape given l c bytes left rest at so one = record {
 
 -- ---- one field more that isn't
 
-long_node_at : (most i : ℕ) (shape : Shape) (given : ℕ → List Value) (l : Layout) (c : Shape) → IsAt i shape l c
+pub long_node_at : (most i : ℕ) (shape : Shape) (given : ℕ → List Value) (l : Layout) (c : Shape) → IsAt i shape l c
     → HasLongNode most (field l c bare) (λ j. given i) → HasLongNode most shape given
 long_node_at most i bare given l c at h = absurd at
 long_node_at most zero (field k d rest) given l c at (inl own) = inl own
@@ -173,7 +173,8 @@ long_node_at most zero (field k d rest) given l c at (inr (inl child)) =
 long_node_at most zero (field k d rest) given l c at (inr (inr none)) = absurd none
 long_node_at most (suc i) (field k d rest) given l c at h = inr (inr (long_node_at most i rest (λ j. given (suc j)) l c at h))
 
-some_at : (P : Layout → List Value → Type 0) (i : ℕ) (shape : Shape) (given : ℕ → List Value) (l : Layout) (c : Shape) → IsAt i shape l c
+pub some_at : (P : Layout → List Value → Type 0) (i : ℕ) (shape : Shape) (given : ℕ → List Value) (l : Layout) (c : Shape)
+    → IsAt i shape l c
     → SomeColumn P (field l c bare) (λ j. given i) → SomeColumn P shape given
 some_at P i bare given l c at h = absurd at
 some_at P zero (field k d rest) given l c at (inl own) =

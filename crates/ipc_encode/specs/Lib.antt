@@ -15,3 +15,4 @@ pub mod Lent
 pub mod Lying
 pub mod PlainColumns
 pub mod EntryIndices
+pub mod Segments

@@ -69,11 +69,11 @@ fn take_each<I: IndexOf>(
     Ok(())
 }
 
-// Adds the values of a column of a batch, or nulls if the batch has no such column. Numbers, nulls,
-// bits and bytes are copied as they are lent, and indices by the values of their dictionary. Lists
-// and structs are copied whole if their children have exactly the slots that they refer to. Other
-// columns are read value by value.
-fn take_column<I: IndexOf>(
+/// Adds the values of a column of a batch, or nulls if the batch has no such column. Numbers,
+/// nulls, bits and bytes are copied as they are lent, and indices by the values of their
+/// dictionary. Lists and structs are copied whole if their children have exactly the slots that
+/// they refer to. Other columns are read value by value. The errors are those of `take`.
+pub(crate) fn take_column<I: IndexOf>(
     node: &mut Node,
     batch: &Batch,
     column: usize,

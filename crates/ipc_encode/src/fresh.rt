@@ -9,9 +9,10 @@ use crate::node::Node;
 use ipc_model::{Field, layout_of};
 use std::alloc::{AllocError, Global};
 
-// A column of this field without values, with those of its children, in the room of a node.
+/// Returns a column of this field without values, with those of its children, in the memory of a
+/// node that held others. Returns an error if memory for a list ran out.
 #[cycle(new)]
-fn new_node(field: &Field, kept: Option<Node>, alloc: Global) -> Result<Node, AllocError>
+pub(crate) fn new_node(field: &Field, kept: Option<Node>, alloc: Global) -> Result<Node, AllocError>
     ensures { (known : Numbering) (limits : Limits)
         → IfOk result (λ node. IsNode (IsColumn known limits)
         (field_shape field.now).0 (field_shape field.now).1 node []) }

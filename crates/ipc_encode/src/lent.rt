@@ -118,8 +118,12 @@ fn push_truth_bytes(
     Ok(whole * 8)
 }
 
-// Appends whether each slot is true to `held` packed bits.
-fn push_truths(bits: &mut Vec<u8>, held: usize, view: &SlotView<'_>) -> Result<(), AllocError>
+/// Appends whether each slot is true to `held` packed bits.
+pub(crate) fn push_truths(
+    bits: &mut Vec<u8>,
+    held: usize,
+    view: &SlotView<'_>,
+) -> Result<(), AllocError>
     requires { held + length (slot_values view.now) < 2 ^ 63 }
     ensures { (before : List Value) → length before ≡ held
         → bits.old.items ≡ bitmap (flags True before)
@@ -133,8 +137,12 @@ fn push_truths(bits: &mut Vec<u8>, held: usize, view: &SlotView<'_>) -> Result<(
     Ok(())
 }
 
-// Appends the bytes of each slot of a fixed width.
-fn push_widths(values: &mut Vec<u8>, view: &SlotView<'_>, width: u32) -> Result<(), AllocError>
+/// Appends the bytes of each slot of a fixed width.
+pub(crate) fn push_widths(
+    values: &mut Vec<u8>,
+    view: &SlotView<'_>,
+    width: u32,
+) -> Result<(), AllocError>
     ensures { OnOk result
         (values.new.items ≡ values.old.items ++ slots (Fixed width) (slot_values view.now)) }
 {
@@ -148,8 +156,8 @@ fn push_widths(values: &mut Vec<u8>, view: &SlotView<'_>, width: u32) -> Result<
     Ok(())
 }
 
-// Appends the bytes of each slot, and where they end, slot by slot.
-fn push_each_content(
+/// Appends the bytes of each slot, and where they end, slot by slot.
+pub(crate) fn push_each_content(
     values: &mut Vec<u8>,
     offsets: &mut Vec<u8>,
     view: &SlotView<'_>,
@@ -167,8 +175,8 @@ fn push_each_content(
     Ok(())
 }
 
-// Appends where all slots end, the first of them beginning at a start.
-fn push_ends(
+/// Appends the offset at which each of `count` values ends, if the first begins at `start`.
+pub(crate) fn push_ends(
     offsets: &mut Vec<u8>,
     lent: &LentContents<'_>,
     count: usize,

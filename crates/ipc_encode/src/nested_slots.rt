@@ -33,9 +33,9 @@ fn list_end(start: usize, count: usize) -> Result<usize, PushFault>
     }
 }
 
-// Appends where the list of each slot ends, the first of them beginning at a start, and says where
-// the last ends. `TooMany` past what offsets reach.
-fn push_list_ends(
+/// Appends the offset at which the list of each slot ends, if the first begins at `start`. Returns
+/// the last offset, or `TooMany` if 32-bit offsets do not reach it.
+pub(crate) fn push_list_ends(
     offsets: &mut Vec<u8>,
     view: &SlotView<'_>,
     start: usize,

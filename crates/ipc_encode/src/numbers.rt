@@ -75,9 +75,9 @@ fn push_each(
     Ok(())
 }
 
-// Appends the bytes of each slot, of which some are null. Each width has a loop of its own, in
-// which a slot is one store.
-fn push_some(
+/// Appends the bytes of each slot, of which some are null. Each width has a loop of its own, in
+/// which a slot is one store.
+pub(crate) fn push_some(
     values: &mut Vec<u8>,
     view: &SlotView<'_>,
     numbers: &Numbers<'_>,

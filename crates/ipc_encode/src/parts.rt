@@ -196,9 +196,14 @@ fn add_below<N: Renumber>(node: &Node, draft: &mut Draft, numbers: &N) -> Result
     add_nodes(&node.children, draft, numbers)
 }
 
-// Adds the nodes and the buffers of a column, and then those of the columns below it.
+/// Appends the nodes and the buffers of a column, and then those of its descendants. Returns an
+/// error if memory for a list ran out.
 #[cycle(add)]
-fn add_node<N: Renumber>(node: &Node, draft: &mut Draft, numbers: &N) -> Result<(), AllocError>
+pub(crate) fn add_node<N: Renumber>(
+    node: &Node,
+    draft: &mut Draft,
+    numbers: &N,
+) -> Result<(), AllocError>
     ensures nodes { (known : Numbering) (limits : Limits) (layout : Layout)
         (children : Shape) (values : List Value)
         → IsNode (IsColumn known limits) layout children node.now values

@@ -1,0 +1,20 @@
+use Rattle.std.proofs.Common.{sym, [], ◌∷◌, arith}
+use Rattle.ipc_model.specs.declared.layout.Layout.TheVariants as l
+use Rattle.ipc_column.specs.Nested.{slot_values}
+use Rattle.ipc_encode.proofs.ReadbackParts.{nulls_most}
+use Rattle.ipc_encode.proofs.own_columns.add_bits.Goals as goal
+
+pub add_two_buffers-requires-clause-counted : goal.add_two_buffers-requires-clause-counted
+add_two_buffers-requires-clause-counted c =
+    let most = nulls_most (slot_values c.args.view.now) in
+    omega (arith, most, c.count_nulls-nulls.ensures, c.len-count.ensures)
+
+pub returns-clause-adds : goal.returns-clause-adds
+returns-clause-adds c = λ known.
+    c.add_two_buffers.ensures.adds known l.Bits (slot_values c.args.view.now) (sym c.len-count.ensures)
+    (sym c.count_nulls-nulls.ensures) (λ i. (sym c.in_ok-validity.ensures) i ∷ (sym c.in_ok-values.ensures) i ∷ []) (λ h. h) tt
+
+pub returns-clause-refused : goal.returns-clause-refused
+returns-clause-refused c =
+    c.add_two_buffers.ensures.refused l.Bits (slot_values c.args.view.now)
+    (λ i. (sym c.in_ok-validity.ensures) i ∷ (sym c.in_ok-values.ensures) i ∷ [])

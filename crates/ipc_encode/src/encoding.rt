@@ -1,0 +1,290 @@
+//! Encodes a batch that was read, column by column, as parts whose body is a list of segments.
+ghost use Rattle.std.specs.Prelude.{◌≡◌, ◌<◌, ◌≤◌, ◌+◌, ◌^◌, ◌++◌, [], ◌∷◌, ℕ, List, length};
+ghost use Rattle.std.specs.Prelude.{◌+ℤ◌, pos, slice_get, Some, IfErr, IfOk, OnOk};
+ghost use Rattle.std.specs.List.{AllByRecursion};
+ghost use Rattle.ipc_model.specs.Entries.{entries};
+ghost use Rattle.ipc_model.specs.Fits.{RowFits};
+ghost use Rattle.ipc_model.specs.WellFormed.{IsFieldWellFormed};
+ghost use Rattle.ipc_column.specs.Dictionaries.{Dictionaries};
+ghost use Rattle.ipc_column.specs.Rows.{Rows};
+ghost use Rattle.ipc_column.specs.Shapes.{bare, field, field_children, field_layout, shape_of};
+ghost use Rattle.ipc_encode.specs.Buffers.{columns, padded, ranges_from};
+ghost use Rattle.ipc_encode.specs.Cells.{cells};
+ghost use Rattle.ipc_encode.specs.Indices.{FindsRows};
+ghost use Rattle.ipc_encode.specs.Limits.{IsRefused, IsWithin};
+ghost use Rattle.ipc_encode.specs.Numbers.{renumbered, told};
+ghost use Rattle.ipc_encode.specs.Segments.{AddsBuffers, AddsColumns, AreRefusedAfter};
+ghost use Rattle.ipc_encode.specs.Segments.{AreSegmented, IsBodyRefused, joined};
+
+use crate::copying::take_column;
+use crate::fault::PushFault;
+use crate::fresh::new_node;
+use crate::index::{IndexOf, Renumber};
+use crate::lying::lies_whole;
+use crate::parts::{Draft, add_node};
+use crate::segments::{Segment, SegmentedDraft, SegmentedParts, append};
+use crate::whole_segments::add_whole;
+use ipc_column::Batch;
+use ipc_model::{Field, Items, Limits, WriteFault};
+use std::alloc::{AllocError, Global};
+
+// Range `i` of a list of ranges.
+fn range_at(ranges: &[(i64, i64)], i: usize) -> (i64, i64)
+    requires { i < length ranges.now }
+    ensures { slice_get ranges.now i ≡ Some result }
+{
+    ranges[i]
+}
+
+// A range that begins `base` bytes later. `TooLong` if its offset does not fit 64 bits.
+#[tactic(auto, using(std::proofs::lemmas::Int::to_z_pos))]
+fn shifted(range: (i64, i64), base: usize) -> Result<(i64, i64), PushFault>
+    requires { base < 2 ^ 63 }
+    ensures shifted { IfOk result (λ moved. moved ≡ (range.0 +ℤ pos base, range.1)) }
+    ensures refused { IfErr result (λ fault. (offset : ℕ) → range.0 ≡ pos offset
+        → ¬ (offset + base < 2 ^ 63)) }
+{
+    match range.0.checked_add(base as i64) {
+        Some(offset) => Ok((offset, range.1)),
+        None => Err(PushFault::TooLong),
+    }
+}
+
+// Appends a range to a list of ranges.
+fn push_range(ranges: &mut Vec<(i64, i64)>, range: (i64, i64)) -> Result<(), AllocError>
+    ensures { OnOk result (ranges.new.items ≡ ranges.old.items ++ range ∷ []) }
+{
+    ranges.push(range)?;
+    Ok(())
+}
+
+// Appends the ranges of buffers, each of which begins `base` bytes later.
+fn push_shifted(
+    ranges: &mut Vec<(i64, i64)>,
+    more: &[(i64, i64)],
+    base: usize,
+) -> Result<(), PushFault>
+    requires { base < 2 ^ 63 }
+    ensures shifted { (bs : List (List ℕ)) → more.now ≡ ranges_from 0 bs
+        → OnOk result (ranges.new.items ≡ ranges.old.items ++ ranges_from base bs) }
+    ensures memory { (bs : List (List ℕ)) → more.now ≡ ranges_from 0 bs
+        → base + length (padded bs) < 2 ^ 63
+        → IfErr result (λ fault. fault ≡ PushFault.OutOfMemory) }
+{
+    for i in 0..more.len() {
+        let range = range_at(more, i);
+        let moved = shifted(range, base)?;
+        push_range(ranges, moved)?;
+    }
+    Ok(())
+}
+
+// Appends nodes.
+fn push_nodes(nodes: &mut Vec<(i64, i64)>, more: &[(i64, i64)]) -> Result<(), AllocError>
+    ensures { OnOk result (nodes.new.items ≡ nodes.old.items ++ more.now) }
+{
+    nodes.extend_from_slice(more)?;
+    Ok(())
+}
+
+// Adds the nodes and the buffers of columns that were encoded on their own.
+fn add_draft(draft: &mut SegmentedDraft<'_>, more: Draft, limits: &Limits) -> Result<(), PushFault>
+    ensures nodes { OnOk result
+        (draft.new.nodes.items ≡ draft.old.nodes.items ++ more.nodes.items) }
+    ensures adds { (bs : List (List ℕ)) → more.buffers.items ≡ ranges_from 0 bs
+        → more.body.items ≡ padded bs → OnOk result (AddsBuffers draft.old draft.new bs) }
+    ensures within { OnOk result (draft.new.len ≤ limits.now.body) }
+    ensures refused { (bs : List (List ℕ)) → more.buffers.items ≡ ranges_from 0 bs
+        → more.body.items ≡ padded bs
+        → IfErr result (IsBodyRefused limits.now (draft.old.len + length (padded bs))) }
+{
+    let Draft {
+        nodes,
+        buffers,
+        body,
+    } = more;
+    let base = draft.len;
+    append(draft, Segment::Owned(body), limits)?;
+    push_shifted(&mut draft.buffers, &buffers, base)?;
+    push_nodes(&mut draft.nodes, &nodes)?;
+    Ok(())
+}
+
+// Adds a column of any kind, with its descendants: its values are encoded in a node of their own,
+// and are null if the batch has no such column. The errors are those of `add_field`.
+fn add_anew<I: IndexOf, N: Renumber>(
+    alloc: Global,
+    draft: &mut SegmentedDraft<'_>,
+    of: &Field,
+    batch: &Batch,
+    column: usize,
+    limits: &Limits,
+    indices: &I,
+    numbers: &N,
+) -> Result<(), PushFault>
+    ensures adds { OnOk result (AddsColumns limits.now
+        (renumbered (N.Renumber.number numbers.now) (told (I.IndexOf.index indices.now)))
+        (field (field_layout of.now) (field_children of.now) bare)
+        (λ j. cells column batch.now.rows) draft.old draft.new) }
+    ensures refused { IfErr result (AreRefusedAfter limits.now draft.old.len
+        (field (field_layout of.now) (field_children of.now) bare)
+        (λ j. cells column batch.now.rows)) }
+{
+    let mut node = new_node(of, None, alloc)?;
+    take_column(&mut node, batch, column, limits, indices)?;
+    let mut more = Draft {
+        nodes: Vec::new(alloc),
+        buffers: Vec::new(alloc),
+        body: Vec::new(alloc),
+    };
+    add_node(&node, &mut more, numbers)?;
+    add_draft(draft, more, limits)?;
+    Ok(())
+}
+
+// Adds column `column` of a batch as that of a field. A column that has the layout of the field is
+// added whole. So are lists and structs whose children have exactly the slots that they refer to.
+// Columns of indices, lists of a fixed size and others are encoded anew.
+//
+// The errors are those of `add_own`, from the column or one below it.
+fn add_field<'a, I: IndexOf, N: Renumber>(
+    alloc: Global,
+    pool: &mut Vec<Vec<u8>>,
+    draft: &mut SegmentedDraft<'a>,
+    of: &Field,
+    batch: &'a Batch,
+    column: usize,
+    limits: &Limits,
+    indices: &I,
+    numbers: &N,
+) -> Result<(), PushFault>
+    requires { draft.old.len ≤ limits.now.body }
+    ensures adds { OnOk result (AddsColumns limits.now
+        (renumbered (N.Renumber.number numbers.now) (told (I.IndexOf.index indices.now)))
+        (field (field_layout of.now) (field_children of.now) bare)
+        (λ j. cells column batch.now.rows) draft.old draft.new) }
+    ensures refused { IfErr result (AreRefusedAfter limits.now draft.old.len
+        (field (field_layout of.now) (field_children of.now) bare)
+        (λ j. cells column batch.now.rows)) }
+{
+    if column < batch.columns() {
+        let view = batch.column(column).slots();
+        let node = new_node(of, None, alloc)?;
+        if lies_whole(&node, &view) {
+            return add_whole(alloc, pool, draft, of, &view, limits);
+        }
+    }
+    add_anew(alloc, draft, of, batch, column, limits, indices, numbers)
+}
+
+// Field `i` of a list of fields.
+fn field_at(fields: &[Field], i: usize) -> &Field
+    requires { i < length fields.now }
+    ensures { slice_get fields.now i ≡ Some result.now }
+{
+    &fields[i]
+}
+
+// Adds a column of a batch for each of the fields. The errors are those of `add_field`.
+fn add_fields<'a, I: IndexOf, N: Renumber>(
+    alloc: Global,
+    pool: &mut Vec<Vec<u8>>,
+    draft: &mut SegmentedDraft<'a>,
+    fields: &[Field],
+    batch: &'a Batch,
+    limits: &Limits,
+    indices: &I,
+    numbers: &N,
+) -> Result<(), PushFault>
+    requires { draft.old.len ≤ limits.now.body }
+    ensures adds { OnOk result (AddsColumns limits.now
+        (renumbered (N.Renumber.number numbers.now) (told (I.IndexOf.index indices.now)))
+        (shape_of fields.now) (columns batch.now.rows) draft.old draft.new) }
+    ensures refused { IfErr result (AreRefusedAfter limits.now draft.old.len (shape_of fields.now)
+        (columns batch.now.rows)) }
+{
+    for i in 0..fields.len() {
+        let of = field_at(fields, i);
+        add_field(alloc, pool, draft, of, batch, i, limits, indices, numbers)?;
+    }
+    Ok(())
+}
+
+/// Encodes the rows of a batch that was read as the parts of one record batch (Message.fbs,
+/// RecordBatch), with the body as segments that borrow the bytes of the batch where they lie as
+/// they are written.
+///
+/// The fields must be those of a schema that passes `Schema::check`, and the rows must fit them. If
+/// the batch has fewer columns than there are fields, the other fields get nulls. Columns after
+/// those of the fields are ignored. For each value other than null in a field with a dictionary,
+/// the index from `indices` is replaced by its number in `numbers`; it is 0 if there is none. The
+/// number must fit the field's index type.
+///
+/// Joined, the segments are the body that `Builder::finish` gives for the batch's rows with these
+/// indices and numbers. Numbers are borrowed if null slots are zeros, fixed-size binary values if
+/// none is null, and other binary values and texts if null slots are empty. So are offsets of
+/// binary values and texts that begin at 0, and validity bitmaps of a multiple of 8 slots. Other
+/// buffers are copied, into the memory of the lists in `pool` if there are any. These columns are
+/// encoded anew:
+///
+/// - columns of a field with a dictionary;
+/// - lists and structs whose children have a dictionary, or slots that their parent does not refer
+///   to;
+/// - fixed-size lists, and columns of another layout than the field's.
+///
+/// Errors:
+///
+/// - W8 `TooManyRows`: there are more than `limits.slots` rows, or more than `limits.slots` items
+///   in all lists of a column.
+/// - W6 `TooLong`: a binary or UTF-8 column has more than 2^31 - 1 bytes of data, whatever the
+///   limits; or the body would have more than `limits.body` bytes.
+/// - W11 `OutOfMemory`: memory for a list ran out.
+pub fn encode_columns<'a, I: IndexOf, N: Renumber>(
+    alloc: Global,
+    pool: &mut Vec<Vec<u8>>,
+    limits: &Limits,
+    fields: &[Field],
+    batch: &'a Batch,
+    indices: &I,
+    numbers: &N,
+) -> Result<SegmentedParts<'a>, WriteFault>
+    // The parts give these rows back under each map in which the indices find their values.
+    ensures rows { (m : Dictionaries)
+        → AllByRecursion (IsFieldWellFormed limits.now) (entries fields.now)
+        → AllByRecursion (RowFits fields.now) batch.now.rows
+        → FindsRows m (renumbered (N.Renumber.number numbers.now)
+        (told (I.IndexOf.index indices.now))) fields.now batch.now.rows
+        → IfOk result (λ parts. Rows limits.now m fields.now (record {
+          length = pos (length batch.now.rows);
+          nodes = parts.nodes;
+          buffers = parts.buffers;
+        }) (joined parts.segments.items) batch.now.rows) }
+    // They are one list of nodes, buffers and bytes.
+    ensures segmented { IfOk result
+        (AreSegmented (renumbered (N.Renumber.number numbers.now)
+        (told (I.IndexOf.index indices.now))) fields.now batch.now.rows) }
+    // What is written is within the limits.
+    ensures within { IfOk result (λ parts. IsWithin limits.now fields.now batch.now.rows) }
+    ensures body { IfOk result (λ parts. parts.len ≤ limits.now.body) }
+    // A refusal is true of the rows.
+    ensures refused { IfErr result (IsRefused limits.now fields.now batch.now.rows) }
+{
+    if batch.rows() > limits.slots as usize {
+        return Err(WriteFault::TooManyRows);
+    }
+    let mut draft = SegmentedDraft {
+        nodes: Vec::new(alloc),
+        buffers: Vec::new(alloc),
+        segments: Vec::new(alloc),
+        len: 0,
+    };
+    add_fields(
+        alloc, pool, &mut draft, fields, batch, limits, indices, numbers,
+    )?;
+    Ok(SegmentedParts {
+        nodes: Items::from_vec(draft.nodes),
+        buffers: Items::from_vec(draft.buffers),
+        segments: draft.segments,
+        len: draft.len,
+    })
+}

@@ -1,0 +1,184 @@
+//! A body as a list of segments, which borrow bytes that already lie as they are written.
+ghost use Rattle.std.specs.Prelude.{◌≡◌, ◌+◌, ◌-◌, ◌%◌, ◌≤◌, ◌<◌, ◌^◌, ◌↔◌, ◌++◌, [], ◌∷◌};
+ghost use Rattle.std.specs.Prelude.{pos, length, replicate, IfErr, IsTrue, OnOk};
+ghost use Rattle.ipc_encode.specs.Buffers.{padded};
+ghost use Rattle.ipc_encode.specs.Segments.{AddsBuffers, IsBodyRefused, joined, segment_bytes};
+
+use crate::fault::PushFault;
+use ipc_model::{Items, Limits};
+use std::alloc::AllocError;
+
+/// Consecutive bytes of a body.
+#[derive(Debug, Drop)]
+pub enum Segment<'a> {
+    /// Bytes of a body that was read.
+    Borrowed(&'a [u8]),
+    /// Bytes that were encoded anew.
+    Owned(Vec<u8>),
+    /// This number of zeros.
+    Zeros(u8),
+}
+
+/// The encoded rows of a record batch (Message.fbs, RecordBatch), with the body as segments.
+#[derive(Debug, Drop)]
+pub struct SegmentedParts<'a> {
+    /// For each field in pre-order the number of its slots, and the number of null slots (struct
+    /// FieldNode).
+    pub nodes: Items<(i64, i64)>,
+    /// For each buffer in pre-order its offset in the body, and its length without padding, both in
+    /// bytes (Schema.fbs, struct Buffer).
+    pub buffers: Items<(i64, i64)>,
+    /// The body: the bytes of the buffers, each padded with zeros to a multiple of 8 bytes.
+    pub segments: Vec<Segment<'a>>,
+    /// The number of bytes of the body.
+    pub len: usize,
+}
+
+/// A record batch that is being written, with the body as segments.
+#[derive(Debug, Drop)]
+pub(crate) struct SegmentedDraft<'a> {
+    /// The nodes of the columns so far.
+    pub(crate) nodes: Vec<(i64, i64)>,
+    /// The ranges of their buffers.
+    pub(crate) buffers: Vec<(i64, i64)>,
+    /// The bytes of their buffers, each padded.
+    pub(crate) segments: Vec<Segment<'a>>,
+    /// The number of these bytes.
+    pub(crate) len: usize,
+}
+
+impl<'a> Segment<'a> {
+    /// Returns the number of bytes.
+    pub fn len(&self) -> usize
+        ensures { result ≡ length (segment_bytes self.now) }
+    {
+        match self {
+            Segment::Borrowed(bytes) => bytes.len(),
+            Segment::Owned(bytes) => bytes.len(),
+            Segment::Zeros(count) => *count as usize,
+        }
+    }
+}
+
+// Appends a segment to others.
+fn push_segment<'a>(segments: &mut Vec<Segment<'a>>, segment: Segment<'a>) -> Result<(), AllocError>
+    ensures { OnOk result
+        (joined segments.new.items ≡ joined segments.old.items ++ segment_bytes segment.entry) }
+{
+    segments.push(segment)?;
+    Ok(())
+}
+
+/// Appends two numbers to a list of pairs: the counts of a node, or the range of a buffer. Returns
+/// an error if memory for the list ran out.
+pub(crate) fn push_pair(
+    pairs: &mut Vec<(i64, i64)>,
+    first: usize,
+    second: usize,
+) -> Result<(), AllocError>
+    requires { (first < 2 ^ 63) × (second < 2 ^ 63) }
+    ensures { OnOk result (pairs.new.items ≡ pairs.old.items ++ (pos first, pos second) ∷ []) }
+{
+    pairs.push((first as i64, second as i64))?;
+    Ok(())
+}
+
+// Whether a body of `len` bytes may have `more` bytes.
+fn has_room(len: usize, more: usize, limits: &Limits) -> bool
+    ensures { IsTrue result ↔ (len + more ≤ limits.now.body) }
+{
+    let most = limits.body as usize;
+    len <= most && more <= most - len
+}
+
+/// Appends a segment to the body. The errors are those of `add_buffer`.
+pub(crate) fn append<'a>(
+    draft: &mut SegmentedDraft<'a>,
+    segment: Segment<'a>,
+    limits: &Limits,
+) -> Result<(), PushFault>
+    ensures nodes { OnOk result (draft.new.nodes.items ≡ draft.old.nodes.items) }
+    ensures buffers { OnOk result (draft.new.buffers.items ≡ draft.old.buffers.items) }
+    ensures body { OnOk result (joined draft.new.segments.items
+        ≡ joined draft.old.segments.items ++ segment_bytes segment.entry) }
+    ensures len { OnOk result
+        (draft.new.len ≡ draft.old.len + length (segment_bytes segment.entry)) }
+    ensures within { OnOk result (draft.new.len ≤ limits.now.body) }
+    ensures small { OnOk result (draft.new.len < 2 ^ 63) }
+    ensures refused { IfErr result (IsBodyRefused limits.now
+        (draft.old.len + length (segment_bytes segment.entry))) }
+{
+    let count = segment.len();
+    if !has_room(draft.len, count, limits) {
+        return Err(PushFault::TooLong);
+    }
+    push_segment(&mut draft.segments, segment)?;
+    draft.len += count;
+    Ok(())
+}
+
+// Ends the buffer that began at offset `start`: adds its range, and pads it with zeros to a
+// multiple of 8 bytes.
+fn end_buffer(
+    draft: &mut SegmentedDraft<'_>,
+    start: usize,
+    limits: &Limits,
+) -> Result<(), PushFault>
+    requires order { start ≤ draft.old.len }
+    requires within { draft.old.len ≤ limits.now.body }
+    ensures nodes { OnOk result (draft.new.nodes.items ≡ draft.old.nodes.items) }
+    ensures buffers { OnOk result (draft.new.buffers.items
+        ≡ draft.old.buffers.items ++ (pos start, pos (draft.old.len - start)) ∷ []) }
+    ensures body { OnOk result (joined draft.new.segments.items ≡ joined
+        draft.old.segments.items ++ replicate ((8 - (draft.old.len - start) % 8) % 8) 0) }
+    ensures len { OnOk result
+        (draft.new.len ≡ draft.old.len + (8 - (draft.old.len - start) % 8) % 8) }
+    ensures padded { OnOk result (draft.new.len ≤ limits.now.body) }
+    ensures refused { IfErr result (IsBodyRefused limits.now
+        (draft.old.len + (8 - (draft.old.len - start) % 8) % 8)) }
+{
+    let len = draft.len - start;
+    push_pair(&mut draft.buffers, start, len)?;
+    append(draft, Segment::Zeros(((8 - len % 8) % 8) as u8), limits)
+}
+
+/// Adds a buffer of one segment, padded to a multiple of 8 bytes.
+///
+/// Errors: `TooLong` if the body would have more than `limits.body` bytes; `OutOfMemory` if memory
+/// for a list ran out.
+pub(crate) fn add_buffer<'a>(
+    draft: &mut SegmentedDraft<'a>,
+    segment: Segment<'a>,
+    limits: &Limits,
+) -> Result<(), PushFault>
+    ensures nodes { OnOk result (draft.new.nodes.items ≡ draft.old.nodes.items) }
+    ensures adds { OnOk result
+        (AddsBuffers draft.old draft.new (segment_bytes segment.entry ∷ [])) }
+    ensures within { OnOk result (draft.new.len ≤ limits.now.body) }
+    ensures refused { IfErr result (IsBodyRefused limits.now
+        (draft.old.len + length (padded (segment_bytes segment.entry ∷ [])))) }
+{
+    let start = draft.len;
+    append(draft, segment, limits)?;
+    end_buffer(draft, start, limits)
+}
+
+/// Adds a buffer of two segments, as `add_buffer` adds one of one segment.
+pub(crate) fn add_joined<'a>(
+    draft: &mut SegmentedDraft<'a>,
+    first: Segment<'a>,
+    second: Segment<'a>,
+    limits: &Limits,
+) -> Result<(), PushFault>
+    ensures nodes { OnOk result (draft.new.nodes.items ≡ draft.old.nodes.items) }
+    ensures adds { OnOk result (AddsBuffers draft.old draft.new
+        ((segment_bytes first.entry ++ segment_bytes second.entry) ∷ [])) }
+    ensures within { OnOk result (draft.new.len ≤ limits.now.body) }
+    ensures refused { IfErr result (IsBodyRefused limits.now (draft.old.len
+        + length (padded ((segment_bytes first.entry ++ segment_bytes second.entry) ∷ [])))) }
+{
+    let start = draft.len;
+    append(draft, first, limits)?;
+    append(draft, second, limits)?;
+    end_buffer(draft, start, limits)
+}
