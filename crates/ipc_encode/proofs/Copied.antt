@@ -1,6 +1,7 @@
 -- The columns of a batch's rows, taken as they lie.
-use Rattle.std.proofs.Common.{◌≡◌, ◌∙◌, refl, sym, ap, ℕ, zero, suc, ◌+◌, ◌<◌, List, [], ◌∷◌, ◌++◌, length, take}
+use Rattle.std.proofs.Common.{◌≡◌, ◌∙◌, refl, sym, ap, ℕ, zero, suc, ◌+◌, ◌<◌, ◌≤◌, List, [], ◌∷◌, ◌++◌, length, take}
 use Rattle.std.proofs.Common.{get_or, append_assoc, arith}
+use Rattle.std.specs.List.{AllByRecursion}
 use Rattle.std.proofs.lemmas.List.{take_more}
 use Rattle.std.proofs.lemmas.Option.{get_or_from_slice_get}
 use Rattle.ipc_model.specs.declared.value.Value.{Value}
@@ -21,6 +22,18 @@ column_cells (r ∷ rs) j (v ∷ vs) h =
     rw (first, column_cells rs j vs rest) refl
 
 -- ---- row by row
+
+past : (row : List Value) (j : ℕ) → length row ≤ j → Null ≡ get_or row j Null
+past [] j h = refl
+past (v ∷ row) zero h = absurd (omega (arith, h))
+past (v ∷ row) (suc j) h = past row j (omega (arith, h))
+
+-- a column that no row has is null
+pub no_cell : (n j i : ℕ) (rows : List (List Value)) → AllByRecursion (λ row. length row ≡ n) rows → n ≤ j
+    → Null ≡ cell j (get_or rows i [])
+no_cell n j i [] wide few = refl
+no_cell n j zero (row ∷ rows) wide few = past row j (let size = wide.0 in omega (arith, size, few))
+no_cell n j (suc i) (row ∷ rows) wide few = no_cell n j i rows wide.1 few
 
 -- the cell of row i
 cell_at : (j : ℕ) (rows : List (List Value)) (i : ℕ) → i < length rows → get_or (cells j rows) i Null ≡ cell j (get_or rows i [])

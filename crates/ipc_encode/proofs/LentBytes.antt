@@ -1,18 +1,14 @@
 -- The bytes of slots that were read, and where they end.
-use Rattle.std.proofs.Common.{◌≡◌, ◌∙◌, refl, sym, ap, subst, ℕ, ◌+◌, ◌<◌, Bool, true, List, [], ◌∷◌, ◌++◌, length, take}
+use Rattle.std.proofs.Common.{◌≡◌, ◌∙◌, sym, ap, subst, ℕ, ◌+◌, ◌<◌, true, List, [], ◌∷◌, ◌++◌, length, take}
 use Rattle.std.proofs.Common.{get_or, append_assoc, arith}
 use Rattle.std.specs.Int.{bytes_low_first}
 use Rattle.std.specs.List.{AllByRecursion}
 use Rattle.std.proofs.lemmas.List.{take_more}
 use Rattle.ipc_model.specs.declared.value.Value.{Value}
 use Rattle.ipc_model.specs.declared.value.Value.TheVariants.{Null}
-use Rattle.ipc_model.specs.declared.layout.Layout.{Layout}
-use Rattle.ipc_model.specs.declared.layout.Layout.TheVariants as l
-use Rattle.ipc_encode.specs.Columns.{data_in}
-use Rattle.ipc_encode.specs.Lent.{is_lent}
-use Rattle.ipc_encode.specs.Cells.{ends, extent, offsets, slots}
+use Rattle.ipc_encode.specs.Cells.{ends, extent, slots}
 use Rattle.ipc_encode.specs.Pieces.{Bytes, Content, Run}
-use Rattle.ipc_encode.proofs.Sizes.{content_data, no_data}
+use Rattle.ipc_encode.proofs.Sizes.{content_data}
 use Rattle.ipc_encode.proofs.Steps.{bytes_extents, ends_push, extents}
 
 -- the bytes of values are as long as their runs
@@ -39,13 +35,6 @@ ends_append run start (v ∷ vs) ws =
     ∙ ap (λ (n : ℕ). ends run (start + extent run v) vs ++ ends run n ws) size)
     ∙ sym (append_assoc here (ends run (start + extent run v) vs) (ends run (start + (extent run v + extents run vs)) ws))
 
-pub offsets_append : (run : Run) (vs ws : List Value) → offsets run (vs ++ ws) ≡ offsets run vs ++ ends run (extents run vs) ws
-offsets_append run vs ws =
-    let size : 0 + extents run vs ≡ extents run vs = omega arith in
-    ap (λ (bs : List ℕ). bytes_low_first 0 4 0 ++ bs) (ends_append run 0 vs ws
-    ∙ ap (λ (n : ℕ). ends run 0 vs ++ ends run n ws) size)
-    ∙ sym (append_assoc (bytes_low_first 0 4 0) (ends run 0 vs) (ends run (extents run vs) ws))
-
 -- what is true of values, of one more, and of others
 pub all_append : (P : Value → Type 0) (vs ws : List Value) → AllByRecursion P vs → AllByRecursion P ws → AllByRecursion P (vs ++ ws)
 all_append P [] ws h g = g
@@ -55,16 +44,3 @@ pub all_next : (P : Value → Type 0) (vs : List Value) (i : ℕ) → i < length
     → AllByRecursion P (take (i + 1) vs)
 all_next P vs i m h own =
     subst (AllByRecursion P) (sym (take_more vs i Null m)) (all_append P (take i vs) (get_or vs i Null ∷ []) h (own, tt))
-
--- slots without bytes have no data
-pub no_lent_data : (layout : Layout) (vs : List Value) → is_lent layout ≡ true → ((width : ℕ) → layout ≡ l.FixedBytes width → ⊥)
-    → ((utf8 : Bool) → layout ≡ l.VariableBytes utf8 → ⊥) → 0 ≡ data_in layout vs
-no_lent_data l.Null vs h a b = sym (no_data l.Null vs (λ v. refl))
-no_lent_data l.Bits vs h a b = sym (no_data l.Bits vs (λ v. refl))
-no_lent_data (l.FixedBytes width) vs h a b = absurd (a width refl)
-no_lent_data (l.VariableBytes utf8) vs h a b = absurd (b utf8 refl)
-no_lent_data (l.Numbers bits signed) vs h a b = cc
-no_lent_data (l.Indices bits signed id) vs h a b = cc
-no_lent_data l.Lists vs h a b = cc
-no_lent_data (l.FixedLists size) vs h a b = cc
-no_lent_data l.Structs vs h a b = cc

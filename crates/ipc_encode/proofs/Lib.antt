@@ -43,7 +43,7 @@ pub mod NestedValues
 pub mod Reading
 pub mod EntryIndices
 pub mod SureIndices
-pub mod SureSlots
+pub mod FittingColumns
 pub mod PastOffsets
 pub mod SegmentBuffers
 pub mod SegmentRanges

@@ -4,13 +4,9 @@ use Rattle.ipc_model.specs.declared.layout.Layout.{Layout}
 use Rattle.ipc_model.specs.declared.layout.Layout.TheVariants as l
 use Rattle.ipc_model.specs.declared.value.Value.{Value}
 use Rattle.ipc_model.specs.declared.value.Value.TheVariants.{Null}
-use Rattle.ipc_model.specs.Limits.{max_data}
 use Rattle.ipc_encode.specs.Cells.{items}
 use Rattle.ipc_encode.specs.Columns.{data_in}
-use Rattle.ipc_encode.specs.Limits.{IsPastOffsets}
 use Rattle.std.proofs.lemmas.List.{take_more}
-use Rattle.ipc_encode.proofs.NestedSlots.{items_run}
-use Rattle.ipc_encode.proofs.Steps.{items_extents}
 use Rattle.ipc_encode.proofs.SureColumns.{data_append}
 
 -- the data of the first values
@@ -26,13 +22,6 @@ items_next vs i m =
     let all = data_append l.Lists (take i vs) (get_or vs i Null ∷ []) in
     let same = ap (data_in l.Lists) (take_more vs i Null m) in
     omega (arith, all, same)
-
--- lists with more items than offsets reach
-pub long_lists : (vs : List Value) → max_data < data_in l.Lists vs → IsPastOffsets l.Lists vs
-long_lists vs h =
-    let run = items_run vs in
-    let all = items_extents vs in
-    omega (arith, run, all, h)
 
 -- structs have no data
 pub no_data : (vs : List Value) → data_in l.Structs vs ≡ 0

@@ -23,7 +23,7 @@ use Rattle.ipc_column.specs.Plain.{IsShownBy, spelled, spelled_len}
 use Rattle.ipc_column.specs.Slots.{is_null}
 use Rattle.ipc_encode.specs.Cells.{cell, cells, content, fixed}
 use Rattle.ipc_encode.specs.Columns.{data_in}
-use Rattle.ipc_encode.specs.PlainColumns.{LiesPlainly, is_plain}
+use Rattle.ipc_encode.specs.PlainColumns.{is_plain}
 use Rattle.ipc_encode.proofs.SurelyFit.{FirstFit, first_fit_all, first_fit_next, own_fits}
 
 -- ---- what plain slots show
@@ -100,23 +100,6 @@ plain_shows t.Null plain = absurd (cc)
 plain_shows t.List plain = absurd (cc)
 plain_shows (t.FixedSizeList size) plain = absurd (cc)
 plain_shows t.Struct plain = absurd (cc)
-
--- and they lie in their column
-pub plain_lies : (kind : DataType) → is_plain kind ≡ true → LiesPlainly (type_layout kind)
-plain_lies t.Bool plain = record { alone = refl; some = λ e. absurd (cc) }
-plain_lies (t.Int bits signed) plain = record { alone = refl; some = λ e. absurd (cc) }
-plain_lies t.Binary plain = record { alone = refl; some = λ e. absurd (cc) }
-plain_lies t.Utf8 plain = record { alone = refl; some = λ e. absurd (cc) }
-plain_lies (t.FixedSizeBinary size) plain = record { alone = refl; some = λ e. absurd (cc) }
-plain_lies (t.Date Day) plain = record { alone = refl; some = λ e. absurd (cc) }
-plain_lies (t.Timestamp unit timezone) plain = record { alone = refl; some = λ e. absurd (cc) }
-plain_lies (t.Duration unit) plain = record { alone = refl; some = λ e. absurd (cc) }
-plain_lies (t.Date Millisecond) plain = absurd (cc)
-plain_lies (t.Time unit) plain = absurd (cc)
-plain_lies t.Null plain = absurd (cc)
-plain_lies t.List plain = absurd (cc)
-plain_lies (t.FixedSizeList size) plain = absurd (cc)
-plain_lies t.Struct plain = absurd (cc)
 
 -- ---- what fits
 

@@ -1,21 +1,16 @@
 -- Columns of indices that surely fit, by how the values of their dictionary lie.
-use Rattle.std.proofs.Common.{◌≡◌, ℕ, zero, suc, ◌*◌, ◌≤◌, Bool, true, false, ℤ, List, [], ◌∷◌, length, get_or, cond, arith}
-use Rattle.std.proofs.Math.Nat.{mul-le-mul_right}
+use Rattle.std.proofs.Common.{◌≡◌, ℕ, zero, suc, Bool, true, false, ℤ, List, [], ◌∷◌, get_or, cond}
 use Rattle.std.specs.Prelude.{pos, negsuc}
 use Rattle.std.specs.List.{AllByRecursion}
-use Rattle.ipc_model.specs.Layouts.{number_bytes}
 use Rattle.ipc_model.specs.declared.layout.Layout.{Layout}
 use Rattle.ipc_model.specs.declared.layout.Layout.TheVariants as l
 use Rattle.ipc_model.specs.declared.schema.IntBits.{IntBits}
-use Rattle.ipc_model.specs.declared.schema.IntBits.TheVariants as b
 use Rattle.ipc_model.specs.declared.value.Value.{Value}
 use Rattle.ipc_model.specs.declared.value.Value.TheVariants as v
 use Rattle.ipc_column.specs.Nested.{Nested, below, slot_values}
 use Rattle.ipc_column.specs.Plain.{IsShownBy}
 use Rattle.ipc_column.specs.Values.{is_valid, own_value, row, value_at, value_of}
 use Rattle.ipc_column.proofs.Plain.{items_each, null_shown}
-use Rattle.ipc_encode.specs.Columns.{data_in}
-use Rattle.ipc_encode.proofs.EntryIndices.{data_indices}
 
 -- a value of the dictionary, or null
 value_shown : (layout : Layout) (dictionary : List Value) (z : ℤ) → AllByRecursion (IsShownBy layout) dictionary
@@ -39,17 +34,3 @@ indexed_shown n layout bits signed id e h =
         (cond valid (own_value n.column.layout n.column.dictionary (row (below n)) n.column.offsets n.column.values k) v.Null)
     either k true = rw e (value_shown layout n.column.dictionary _ h)
     either k false = null_shown layout
-
-few_bytes : (bits : IntBits) → number_bytes bits ≤ 8
-few_bytes b.B8 = omega arith
-few_bytes b.B16 = omega arith
-few_bytes b.B32 = omega arith
-few_bytes b.B64 = omega arith
-
--- an index takes 8 bytes at most
-pub indices_few : (layout : Layout) (bits : IntBits) (signed : Bool) (id : ℤ) (vs : List Value) → layout ≡ l.Indices bits signed id
-    → data_in layout vs ≤ 8 * length vs
-indices_few layout bits signed id vs e =
-    let own = data_indices bits signed id vs in
-    let most = mul-le-mul_right (length vs) (few_bytes bits) in
-    rw e (omega (arith, own, most))

@@ -1,5 +1,5 @@
 -- Columns that lie whole, one by one.
-use Rattle.std.proofs.Common.{◌≡◌, refl, subst, ℕ, zero, suc, ◌+◌, ◌<◌, false, true, inl, inr, List, [], ◌∷◌, length, get_or, Some}
+use Rattle.std.proofs.Common.{◌≡◌, refl, subst, ℕ, zero, suc, ◌+◌, ◌<◌, inl, inr, List, [], ◌∷◌, length, get_or, Some}
 use Rattle.std.proofs.Common.{arith}
 use Rattle.std.specs.Prelude.{Bool, slice_get, slice_set}
 use Rattle.std.proofs.lemmas.Bool.{cases_lt}
@@ -14,8 +14,7 @@ use Rattle.ipc_encode.specs.declared.column.Column.{Column}
 use Rattle.ipc_encode.specs.declared.fault.PushFault.{PushFault}
 use Rattle.ipc_encode.specs.declared.node.Node.{Node}
 use Rattle.ipc_encode.specs.Built.{AreNodes, ArePushesRefused, IsNode}
-use Rattle.ipc_encode.specs.Lent.{is_lent}
-use Rattle.ipc_encode.specs.Lying.{AreWhole, IsWhole, is_taken_whole}
+use Rattle.ipc_encode.specs.Lying.{AreWhole, IsWhole}
 use Rattle.ipc_encode.proofs.Growing.{first_refused, later_refused}
 use Rattle.ipc_encode.proofs.NestedSlots.{some_same}
 use Rattle.ipc_encode.proofs.Nodes.{AreMixed}
@@ -118,16 +117,3 @@ pub record AreNumbersLaid (layout : Layout) : Type 0 where
   pub bits : IntBits
   pub signed : Bool
   pub laid : layout ≡ l.Numbers bits signed
-
--- what can be taken whole and has neither children nor lent slots has numbers
-pub numbers_left : (layout : Layout) → is_taken_whole layout ≡ true → is_lent layout ≡ false → (layout ≡ l.Lists → ⊥)
-    → (layout ≡ l.Structs → ⊥) → AreNumbersLaid layout
-numbers_left (l.Numbers bits signed) whole lent list struct = record { bits = bits; signed = signed; laid = refl }
-numbers_left l.Null whole lent list struct = absurd (cc)
-numbers_left l.Bits whole lent list struct = absurd (cc)
-numbers_left (l.FixedBytes width) whole lent list struct = absurd (cc)
-numbers_left (l.VariableBytes utf8) whole lent list struct = absurd (cc)
-numbers_left l.Lists whole lent list struct = absurd (list refl)
-numbers_left l.Structs whole lent list struct = absurd (struct refl)
-numbers_left (l.FixedLists size) whole lent list struct = absurd (cc)
-numbers_left (l.Indices bits signed id) whole lent list struct = absurd (cc)

@@ -16,3 +16,4 @@ pub mod Lying
 pub mod PlainColumns
 pub mod EntryIndices
 pub mod Segments
+pub mod Misfits

@@ -1,4 +1,4 @@
-ghost use Rattle.std.specs.Prelude.{◌≡◌, ◌≤◌, ◌<◌, ◌↔◌, ◌+◌, ◌++◌, ℕ, List, [], ◌∷◌, true, pos};
+ghost use Rattle.std.specs.Prelude.{◌≡◌, ◌≤◌, ◌<◌, ◌↔◌, ◌+◌, ◌++◌, List, [], ◌∷◌, true, pos};
 ghost use Rattle.std.specs.Prelude.{length, IsTrue, Ok, Err, IfOk, IfErr, IfSome, OnOk, OnErr};
 ghost use Rattle.std.specs.List.{AllByRecursion};
 ghost use Rattle.ipc_model.specs.Fits.{EachFits, Fits, RowFits};
@@ -7,7 +7,6 @@ ghost use Rattle.ipc_model.specs.Entries.{entries};
 ghost use Rattle.ipc_model.specs.declared.limits.Limits.{Limits};
 ghost use Rattle.ipc_model.specs.declared.schema.Field.{Field};
 ghost use Rattle.ipc_model.specs.declared.value.Value.{Value};
-ghost use Rattle.ipc_model.specs.declared.value.Value.TheVariants.{Null};
 ghost use Rattle.ipc_column.specs.Dictionaries.{Dictionaries};
 ghost use Rattle.ipc_column.specs.Rows.{Rows};
 ghost use Rattle.ipc_column.specs.Shapes.{Shape, shape_of};
@@ -22,7 +21,6 @@ ghost use Rattle.ipc_encode.specs.Numbers.{Numbering, renumbered, told};
 ghost use Rattle.ipc_encode.specs.Faults.{write_fault};
 
 use crate::column::{MAX_DATA, Purpose};
-use crate::copying::take_batch;
 use crate::fault::PushFault;
 use crate::fitting::{fit, left_behind_all};
 use crate::fresh::new_nodes;
@@ -32,10 +30,8 @@ use crate::parts::{Draft, Parts, add_nodes};
 use crate::room::Room;
 use crate::spare::Spare;
 use crate::sure::{Look, look_for, row_surely_fits};
-use crate::sure_columns::columns_surely_fit;
 use crate::sure_inside::{have_spare, left_of_row};
 use crate::tree::take_parts;
-use ipc_column::Batch;
 use ipc_model::{Field, Items, Limits, Row, Value, WriteFault};
 use std::alloc::{AllocError, Global};
 use std::mem;
@@ -354,26 +350,6 @@ impl Builder {
         }
     }
 
-    /// Fast accept of a batch that was read: returns true only if all its rows conform to the
-    /// fields and are within the limits with the rows that are held.
-    ///
-    /// It checks each column once: its layout, the dictionary of its values, and whether a value is
-    /// null. The children of lists and structs must have exactly the slots that their parents refer
-    /// to. If it returns false, as for fixed-size lists, check the rows one by one.
-    pub fn surely_takes_columns(&self, fields: &[Field], batch: &Batch) -> bool
-        ensures conforms { (known : Numbering) (limits : Limits) (rows : List (List Value))
-            → HasRows known limits fields.now rows self.now → IsTrue result
-            → AllByRecursion (RowFits fields.now) batch.now.rows }
-        ensures within { (known : Numbering) (limits : Limits) (rows : List (List Value))
-            → HasRows known limits fields.now rows self.now → IsTrue result
-            → IsWithin limits fields.now (rows ++ batch.now.rows) }
-    {
-        if !self.has_room(batch.rows()) {
-            return false;
-        }
-        columns_surely_fit(fields, &self.nodes, batch, self.rows, &self.limits)
-    }
-
     /// Adds one row. For each value other than null in a field with a dictionary it looks up the
     /// index, or writes 0 if it has none. The row must pass `fits`, and each index must fit the
     /// field's index type.
@@ -429,57 +405,6 @@ impl Builder {
         take_parts(row, &mut self.nodes, Purpose::Keep, &self.limits, indices)?;
         self.rows += 1;
         self.spare = spare;
-        self.failed = false;
-        Ok(())
-    }
-
-    // Whether the limits allow `count` more rows.
-    fn has_room(&self, count: usize) -> bool
-        ensures { IsTrue result ↔ (self.now.rows + count ≤ self.now.limits.slots) }
-    {
-        let most = self.limits.slots as usize;
-        self.rows <= most && count <= most - self.rows
-    }
-
-    /// Adds all rows of a batch that was read, column by column, as `push` adds each row. If the
-    /// batch has fewer columns than there are fields, the other fields get nulls. Columns after
-    /// those of the fields are ignored.
-    ///
-    /// For each value of a dictionary the index is looked up once, and no values are made for other
-    /// cells. These columns are read value by value:
-    ///
-    /// - fixed-size lists;
-    /// - lists and structs whose children have a dictionary, or slots that their parent does not
-    ///   refer to;
-    /// - columns of another layout than the field's.
-    ///
-    /// The rows with those that are held must be within the limits, and each index must fit its
-    /// field's index type. Errors: W11 `OutOfMemory` if memory for a list ran out; W6 or W8 if the
-    /// rows are not within the limits. After any error the builder has failed, and each later call
-    /// returns W10 `Failed`.
-    pub fn take_columns<I: IndexOf>(&mut self, batch: &Batch, indices: &I) -> Result<(), PushFault>
-        ensures pushed { (limits : Limits) (fields : List Field) (rows : List (List Value))
-            → HasRows (told (I.IndexOf.index indices.now)) limits fields rows self.old
-            → IsWithin limits fields (rows ++ batch.now.rows)
-            → OnOk result (HasRows (told (I.IndexOf.index indices.now)) limits fields
-            (rows ++ batch.now.rows) self.new) }
-        ensures refused { (limits : Limits) (fields : List Field) (rows : List (List Value))
-            → HasRows (told (I.IndexOf.index indices.now)) limits fields rows self.old
-            → IfErr result (λ fault. IsRefused limits fields (rows ++ batch.now.rows)
-            (write_fault fault)) }
-        ensures fails { OnErr result (HasFailed self.new) }
-        ensures failed { HasFailed self.old → result ≡ Err PushFault.Failed }
-    {
-        if mem::replace(&mut self.failed, true) {
-            return Err(PushFault::Failed);
-        }
-        let count = batch.rows();
-        if !self.has_room(count) {
-            return Err(PushFault::TooMany);
-        }
-        take_batch(&mut self.nodes, batch, &self.limits, indices)?;
-        self.rows += count;
-        self.spare = Spare { weight: 0 };
         self.failed = false;
         Ok(())
     }

@@ -64,8 +64,8 @@ fn null_slots_are_zeros(marks: &[u8], bytes: &[u8], width: usize, count: usize) 
     true
 }
 
-// An empty list, in the memory of one from the pool if there is any.
-fn pooled_list(alloc: Global, pool: &mut Vec<Vec<u8>>) -> Vec<u8>
+/// Returns an empty list, in the memory of one from the pool if there is any.
+pub(crate) fn pooled_list(alloc: Global, pool: &mut Vec<Vec<u8>>) -> Vec<u8>
     ensures { result.items ≡ [] }
 {
     match pool.pop() {

@@ -16,6 +16,7 @@ ghost use Rattle.ipc_encode.specs.Numbers.{renumbered, told};
 ghost use Rattle.ipc_encode.specs.Segments.{AddsBuffers, AddsColumns, AreRefusedAfter};
 ghost use Rattle.ipc_encode.specs.Segments.{AreSegmented, IsBodyRefused, joined};
 
+use crate::column_segments::pooled_list;
 use crate::copying::take_column;
 use crate::fault::PushFault;
 use crate::fresh::new_node;
@@ -114,6 +115,7 @@ fn add_draft(draft: &mut SegmentedDraft<'_>, more: Draft, limits: &Limits) -> Re
 // and are null if the batch has no such column. The errors are those of `add_field`.
 fn add_anew<I: IndexOf, N: Renumber>(
     alloc: Global,
+    pool: &mut Vec<Vec<u8>>,
     draft: &mut SegmentedDraft<'_>,
     of: &Field,
     batch: &Batch,
@@ -135,7 +137,7 @@ fn add_anew<I: IndexOf, N: Renumber>(
     let mut more = Draft {
         nodes: Vec::new(alloc),
         buffers: Vec::new(alloc),
-        body: Vec::new(alloc),
+        body: pooled_list(alloc, pool),
     };
     add_node(&node, &mut more, numbers)?;
     add_draft(draft, more, limits)?;
@@ -174,7 +176,9 @@ fn add_field<'a, I: IndexOf, N: Renumber>(
             return add_whole(alloc, pool, draft, of, &view, limits);
         }
     }
-    add_anew(alloc, draft, of, batch, column, limits, indices, numbers)
+    add_anew(
+        alloc, pool, draft, of, batch, column, limits, indices, numbers,
+    )
 }
 
 // Field `i` of a list of fields.

@@ -1,33 +1,26 @@
-//! Adds the slots of a column that was read, without a value for each.
-ghost use Rattle.std.specs.Prelude.{◌≡◌, ◌<◌, ◌^◌, ◌+◌, ◌++◌, List, true, length, IfErr, IfSome};
+//! Appends the slots of a column that was read to the buffers of another, without a value for
+//! each.
+ghost use Rattle.std.specs.Prelude.{◌≡◌, ◌<◌, ◌^◌, ◌+◌, ◌++◌, List, true, length, IfSome};
 ghost use Rattle.std.specs.Prelude.{◌≤◌, ◌*◌, ◌%◌, ◌&&◌, ℕ, Bool, false, take, slice_index_or};
 ghost use Rattle.std.specs.Prelude.{IfOk, OnOk};
-ghost use Rattle.std.specs.List.{AllByRecursion};
 ghost use Rattle.ipc_model.specs.declared.layout.Layout.{Layout};
-ghost use Rattle.ipc_model.specs.declared.limits.Limits.{Limits};
 ghost use Rattle.ipc_model.specs.declared.value.Value.{Value};
 ghost use Rattle.ipc_scalar.specs.Bytes.{bit, num};
 ghost use Rattle.ipc_column.specs.Nested.{slot_values};
 ghost use Rattle.ipc_column.specs.Values.{is_valid};
 ghost use Rattle.ipc_encode.specs.Bitmaps.{bitmap};
-ghost use Rattle.ipc_encode.specs.Built.{IsColumn, IsPushRefused};
-ghost use Rattle.ipc_encode.specs.Cells.{HasUtf8, ends, flags, nulls, slots};
-ghost use Rattle.ipc_encode.specs.Columns.{data_in, offsets_in, validity_in, values_in};
-ghost use Rattle.ipc_encode.specs.Lent.{is_lent};
+ghost use Rattle.ipc_encode.specs.Cells.{ends, flags, nulls, slots};
+ghost use Rattle.ipc_encode.specs.Columns.{validity_in};
 ghost use Rattle.ipc_encode.specs.Marks.{HasBits};
-ghost use Rattle.ipc_encode.specs.Numbers.{Numbering};
 ghost use Rattle.ipc_encode.specs.Pieces.{Bytes, Content, Fixed, True, Valid};
-ghost use Rattle.ipc_encode.specs.Writing.{AreStored};
 
-use crate::buffers::{LentContents, lent_contents, lent_marks, lent_widths, offset_at};
-use crate::column::Column;
-use crate::fault::PushFault;
+use crate::buffers::{LentContents, lent_marks, lent_widths, offset_at};
 use crate::flags::{push_bit, set_bits};
 use crate::marks;
 use crate::pushing::push_offset;
 use crate::slot_parts::{content, is_true, is_valid, push_fixed};
 use ipc_column::SlotView;
-use ipc_model::{Layout, Limits};
+use ipc_model::Layout;
 use std::alloc::AllocError;
 
 // How many slots are null, where a bitmap says which.
@@ -200,24 +193,6 @@ pub(crate) fn push_ends(
     Ok(())
 }
 
-// Appends the bytes of all slots, and where they end.
-fn push_contents(
-    values: &mut Vec<u8>,
-    offsets: &mut Vec<u8>,
-    view: &SlotView<'_>,
-) -> Result<(), AllocError>
-    ensures values { OnOk result
-        (values.new.items ≡ values.old.items ++ slots Content (slot_values view.now)) }
-    ensures ends { OnOk result (offsets.new.items
-        ≡ offsets.old.items ++ ends Bytes (length values.old.items) (slot_values view.now)) }
-{
-    if let Some(lent) = lent_contents(view) {
-        push_ends(offsets, &lent, view.len(), values.len())?;
-        return values.extend_from_slice(lent.bytes);
-    }
-    push_each_content(values, offsets, view)
-}
-
 /// Records whether each slot is valid, where `more_nulls` are null, after `held` slots with
 /// `held_nulls` nulls. The layout of the column may have no validity bitmap.
 pub(crate) fn push_validities(
@@ -244,105 +219,4 @@ pub(crate) fn push_validities(
         set_bits(validity, held)?;
     }
     push_marks(validity, held, view)
-}
-
-// Appends the bytes of all slots to the values and the offsets of a column of this layout, after
-// those that are held.
-fn push_slots(
-    layout: Layout,
-    held: usize,
-    values: &mut Vec<u8>,
-    offsets: &mut Vec<u8>,
-    view: &SlotView<'_>,
-) -> Result<(), AllocError>
-    requires lent { is_lent layout ≡ true }
-    requires few { held + length (slot_values view.now) < 2 ^ 63 }
-    ensures values { (before : List Value) → length before ≡ held
-        → values.old.items ≡ values_in layout before
-        → OnOk result (values.new.items ≡ values_in layout (before ++ slot_values view.now)) }
-    ensures offsets { (before : List Value) → values.old.items ≡ values_in layout before
-        → offsets.old.items ≡ offsets_in layout before
-        → OnOk result (offsets.new.items ≡ offsets_in layout (before ++ slot_values view.now)) }
-{
-    match layout {
-        Layout::VariableBytes { .. } => push_contents(values, offsets, view),
-        Layout::FixedBytes(width) => push_widths(values, view, width),
-        Layout::Bits => push_truths(values, held, view),
-        Layout::Null
-        | Layout::Numbers { .. }
-        | Layout::Indices { .. }
-        | Layout::Lists
-        | Layout::FixedLists(_)
-        | Layout::Structs => Ok(()),
-    }
-}
-
-// The amount of data of values with this number of bytes in a column of this layout.
-fn data_len(layout: Layout, bytes: usize) -> usize
-    requires { is_lent layout ≡ true }
-    ensures { (vs : List Value) → bytes ≡ length (values_in layout vs)
-        → result ≡ data_in layout vs }
-{
-    match layout {
-        Layout::VariableBytes { .. } => bytes,
-        Layout::FixedBytes(_) => bytes,
-        _ => 0,
-    }
-}
-
-/// Returns whether all slots of a column of this layout are copied as they are lent.
-pub(crate) fn is_lent(layout: Layout) -> bool
-    ensures { result ≡ is_lent layout }
-{
-    match layout {
-        Layout::Null | Layout::Bits | Layout::FixedBytes(_) | Layout::VariableBytes { .. } => true,
-        _ => false,
-    }
-}
-
-impl Column {
-    /// Adds the values of all slots of a column, without a value for each. The contract states that
-    /// they are in this column if a column of texts gets texts, which the caller knows from the
-    /// field. The errors are those of `Column::take`.
-    pub(crate) fn take_lent(
-        &mut self,
-        view: &SlotView<'_>,
-        limits: &Limits,
-    ) -> Result<(), PushFault>
-        requires { is_lent self.now.layout ≡ true }
-        ensures taken { (known : Numbering) (layout : Layout) (before : List Value)
-            → IsColumn known limits.now layout before self.old
-            → AreStored layout (slot_values view.now)
-            → OnOk result
-            (IsColumn known limits.now layout (before ++ slot_values view.now) self.new) }
-        ensures refused { (known : Numbering) (layout : Layout) (before : List Value)
-            → IsColumn known limits.now layout before self.old
-            → IfErr result (IsPushRefused limits.now layout (before ++ slot_values view.now)) }
-    {
-        let count = view.len();
-        if count > limits.slots as usize {
-            return Err(PushFault::TooMany);
-        }
-        let held = self.counts;
-        let layout = self.layout;
-        let null_count = count_nulls(view);
-        push_validities(
-            layout,
-            &mut self.validity,
-            held.slots,
-            held.nulls,
-            view,
-            null_count,
-        )?;
-        push_slots(
-            layout,
-            held.slots,
-            &mut self.values,
-            &mut self.offsets,
-            view,
-        )?;
-        let amount = data_len(layout, self.values.len());
-        self.counts = held.with_all(layout, count, null_count, amount, limits)?;
-        Ok(())
-    }
 }

@@ -1,5 +1,5 @@
 //! Compares the layouts of the columns of a batch with those of a builder.
-ghost use Rattle.std.specs.Prelude.{◌≡◌, ◌<◌, ◌+◌, ℕ, List, Some, false, length, slice_get};
+ghost use Rattle.std.specs.Prelude.{◌≡◌, ◌<◌, ℕ, List, Some, false, length, slice_get};
 ghost use Rattle.std.specs.Prelude.{slice_index_or, IsTrue};
 ghost use Rattle.ipc_column.specs.Nested.{Nested, alone, slot_values};
 ghost use Rattle.ipc_column.specs.Rules.{SpellsTexts};

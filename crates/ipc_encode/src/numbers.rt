@@ -1,27 +1,21 @@
 //! Adds the numbers of a column that was read as they are laid out.
-ghost use Rattle.std.specs.Prelude.{◌≡◌, ◌≤◌, ◌+◌, ◌*◌, ◌++◌, Bool, List, length, IfErr, OnOk};
+ghost use Rattle.std.specs.Prelude.{◌≡◌, ◌≤◌, ◌+◌, ◌*◌, ◌++◌, Bool, length, OnOk};
 ghost use Rattle.std.specs.Prelude.{IfNone, IfSome, IsTrue, slice_index_or};
 ghost use Rattle.ipc_model.specs.declared.schema.IntBits.{IntBits};
 ghost use Rattle.ipc_model.specs.Layouts.{number_bytes};
 ghost use Rattle.ipc_model.specs.declared.layout.Layout.{Layout};
 ghost use Rattle.ipc_model.specs.declared.layout.Layout.TheVariants.{Numbers as NumbersLaid};
-ghost use Rattle.ipc_model.specs.declared.limits.Limits.{Limits};
-ghost use Rattle.ipc_model.specs.declared.value.Value.{Value};
 ghost use Rattle.ipc_model.specs.declared.value.Value.TheVariants.{Null};
 ghost use Rattle.ipc_column.specs.Lending.{AreNumbers};
 ghost use Rattle.ipc_column.specs.Nested.{slot_values};
-ghost use Rattle.ipc_encode.specs.Built.{IsColumn, IsPushRefused};
 ghost use Rattle.ipc_encode.specs.Cells.{nulls, slot_bytes, slots};
 ghost use Rattle.ipc_encode.specs.Marks.{HasBits};
-ghost use Rattle.ipc_encode.specs.Numbers.{Numbering};
 ghost use Rattle.ipc_encode.specs.Pieces.{Number};
 
-use crate::column::Column;
-use crate::fault::PushFault;
-use crate::marks::{count_nulls, is_marked_valid, push_validities};
+use crate::marks::{count_nulls, is_marked_valid};
 use crate::pushing::push_bits;
 use ipc_column::{Numbers, SlotView};
-use ipc_model::{IntBits, Layout, Limits};
+use ipc_model::{IntBits, Layout};
 use std::alloc::AllocError;
 
 /// The numbers of a column, and the number of its null slots.
@@ -92,83 +86,6 @@ pub(crate) fn push_some(
         IntBits::B32 => push_each(values, view, numbers, 4),
         IntBits::B16 => push_each(values, view, numbers, 2),
         IntBits::B8 => push_each(values, view, numbers, 1),
-    }
-}
-
-// Appends the bytes of all slots, of which none is null.
-fn push_all(
-    values: &mut Vec<u8>,
-    view: &SlotView<'_>,
-    numbers: &Numbers<'_>,
-    bytes: &[u8],
-) -> Result<(), AllocError>
-    requires numbers { AreNumbers view.now numbers.now }
-    requires bytes { bytes.now ≡ numbers.now.values.now }
-    requires valid { nulls (slot_values view.now) ≡ 0 }
-    ensures { OnOk result (values.new.items ≡ values.old.items
-        ++ slots (Number numbers.now.bits) (slot_values view.now)) }
-{
-    values.extend_from_slice(&bytes[..numbers.bits.bytes() * view.len()])
-}
-
-// Appends the bytes of all slots, of which a given number are null.
-fn push_numbers(
-    values: &mut Vec<u8>,
-    view: &SlotView<'_>,
-    numbers: &Numbers<'_>,
-    null_count: usize,
-) -> Result<(), AllocError>
-    requires numbers { AreNumbers view.now numbers.now }
-    requires bits { HasBits numbers.now.validity.now (length (slot_values view.now)) }
-    requires nulls { null_count ≡ nulls (slot_values view.now) }
-    ensures { OnOk result (values.new.items ≡ values.old.items
-        ++ slots (Number numbers.now.bits) (slot_values view.now)) }
-{
-    if null_count == 0 {
-        return push_all(values, view, numbers, numbers.values);
-    }
-    push_some(values, view, numbers)
-}
-
-impl Column {
-    /// Adds the numbers of all slots of a column, of which `null_count` are null, to a column of
-    /// numbers with equal width. The errors are those of `Column::take`.
-    pub(crate) fn take_numbers(
-        &mut self,
-        view: &SlotView<'_>,
-        numbers: &Numbers<'_>,
-        null_count: usize,
-        limits: &Limits,
-    ) -> Result<(), PushFault>
-        requires numbers { AreNumbers view.now numbers.now }
-        requires bits { HasBits numbers.now.validity.now (length (slot_values view.now)) }
-        requires nulls { null_count ≡ nulls (slot_values view.now) }
-        ensures taken { (known : Numbering) (signed : Bool) (before : List Value)
-            → IsColumn known limits.now (NumbersLaid numbers.now.bits signed) before self.old
-            → OnOk result (IsColumn known limits.now (NumbersLaid numbers.now.bits signed)
-            (before ++ slot_values view.now) self.new) }
-        ensures refused { (known : Numbering) (signed : Bool) (before : List Value)
-            → IsColumn known limits.now (NumbersLaid numbers.now.bits signed) before self.old
-            → IfErr result (IsPushRefused limits.now (NumbersLaid numbers.now.bits signed)
-            (before ++ slot_values view.now)) }
-    {
-        let count = view.len();
-        if count > limits.slots as usize {
-            return Err(PushFault::TooMany);
-        }
-        let held = self.counts;
-        push_validities(
-            &mut self.validity,
-            held.slots,
-            held.nulls,
-            numbers.validity,
-            count,
-            null_count,
-        )?;
-        push_numbers(&mut self.values, view, numbers, null_count)?;
-        let amount = self.values.len();
-        self.counts = held.with_all(self.layout, count, null_count, amount, limits)?;
-        Ok(())
     }
 }
 

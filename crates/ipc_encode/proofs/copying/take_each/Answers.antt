@@ -18,9 +18,7 @@ returns-in_err-take-clause-refused g c = λ layout children before h.
     let column = c.args.column in
     let row = c.loop-row.row in
     let inside : row < length rows = omega (arith, c.loop-row-test.true, c.rows-row-end.ensures) in
-    let got : c.read_row.new.values.items ≡ get_or rows row [] = c.in_ok-read_row.ensures.values in
-    let is : c.value_at-value.result.now ≡ cell column (get_or rows row []) =
-    c.value_at-value.ensures ∙ ap (λ (r : List Value). cell column r) (c.deref.ensures.value ∙ got) in
+    let is : c.in_ok-value.value ≡ cell column (get_or rows row []) = c.in_ok-value.ensures.value in
     let so_far = before ++ take row (cells column rows) in
     let fault = c.in_err-take.field-0.0 in
     let refused = c.in_err-take.ensures.refused layout children so_far (c.loop-row.invariant layout children before h) in
@@ -35,9 +33,7 @@ loop-row-preserved g c = λ layout children before h.
     let column = c.args.column in
     let row = c.loop-row.row in
     let inside : row < length rows = omega (arith, c.loop-row-test.true, c.rows-row-end.ensures) in
-    let got : c.read_row.new.values.items ≡ get_or rows row [] = c.in_ok-read_row.ensures.values in
-    let is : c.value_at-value.result.now ≡ cell column (get_or rows row []) =
-    c.value_at-value.ensures ∙ ap (λ (r : List Value). cell column r) (c.deref.ensures.value ∙ got) in
+    let is : c.in_ok-value.value ≡ cell column (get_or rows row []) = c.in_ok-value.ensures.value in
     let so_far = before ++ take row (cells column rows) in
     subst (λ (vs : List Value). IsNode (IsColumn (told (g.I.IndexOf.index c.args.indices.now)) c.args.limits.now) layout children
     c.take.new.node vs) (ap (λ (v : Value). so_far ++ v ∷ []) is ∙ cells_next before column rows row inside)

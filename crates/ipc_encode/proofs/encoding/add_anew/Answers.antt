@@ -32,9 +32,9 @@ returns-in_err-add_draft-clause-refused g c =
     let p = err_from_is_err_and c.from_residual-in_err-add_draft.result c.from_residual-in_err-add_draft.ensures.1 in
     rw (p.1, p.2) (buffers_refused limits other c.args.draft.now.len (field lay ch bare) (λ j. values) c.in_err-add_draft.field-0.0
     (c.in_err-add_draft.ensures.refused bs
-    (made.buffers ∙ (ap (λ (rs : List (ℤ × ℤ)). rs ++ ranges_from (length c.new-3.result.items) bs) c.new-2.ensures.items
-    ∙ ap (λ (xs : List ℕ). ranges_from (length xs) bs) c.new-3.ensures.items))
-    (made.body ∙ ap (λ (xs : List ℕ). xs ++ padded bs) c.new-3.ensures.items)))
+    (made.buffers ∙ (ap (λ (rs : List (ℤ × ℤ)). rs ++ ranges_from (length c.pooled_list.result.items) bs) c.new-2.ensures.items
+    ∙ ap (λ (xs : List ℕ). ranges_from (length xs) bs) c.pooled_list.ensures))
+    (made.body ∙ ap (λ (xs : List ℕ). xs ++ padded bs) c.pooled_list.ensures)))
 
 pub returns-clause-adds : goal.returns-clause-adds
 returns-clause-adds g c =
@@ -53,7 +53,7 @@ returns-clause-adds g c =
     (c.in_ok-add_draft.ensures.nodes ∙ ap (λ (ns : List (ℤ × ℤ)). c.args.draft.now.nodes.items ++ ns)
     (nodes ∙ ap (λ (ns : List (ℤ × ℤ)). ns ++ all) c.new.ensures.items))
     (c.in_ok-add_draft.ensures.adds bs
-    (made.buffers ∙ (ap (λ (rs : List (ℤ × ℤ)). rs ++ ranges_from (length c.new-3.result.items) bs) c.new-2.ensures.items
-    ∙ ap (λ (xs : List ℕ). ranges_from (length xs) bs) c.new-3.ensures.items))
-    (made.body ∙ ap (λ (xs : List ℕ). xs ++ padded bs) c.new-3.ensures.items))
+    (made.buffers ∙ (ap (λ (rs : List (ℤ × ℤ)). rs ++ ranges_from (length c.pooled_list.result.items) bs) c.new-2.ensures.items
+    ∙ ap (λ (xs : List ℕ). ranges_from (length xs) bs) c.pooled_list.ensures))
+    (made.body ∙ ap (λ (xs : List ℕ). xs ++ padded bs) c.pooled_list.ensures))
     c.in_ok-add_draft.ensures.within

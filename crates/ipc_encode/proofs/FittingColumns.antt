@@ -1,0 +1,211 @@
+-- Columns whose values fit a field.
+use Rattle.std.proofs.Common.{◌≡◌, ◌∙◌, refl, sym, ap, subst, ℕ, zero, suc, ◌+◌, ◌-◌, ◌<◌, Bool, true, false}
+use Rattle.std.proofs.Common.{List, [], ◌∷◌, ◌++◌, length, get_or, take, arith, Result, Err}
+use Rattle.std.specs.Prelude.{IsTrue, IsOk, not, ◌⊎◌, slice_get, Some}
+use Rattle.std.specs.List.{AllByRecursion}
+use Rattle.std.proofs.lemmas.List.{take_more}
+use Rattle.ipc_model.specs.Fits.{EachFits, Fits, InnerFit, IsOfKind, IsOwn, RowFits}
+use Rattle.ipc_model.specs.Refusals.{refusal_of}
+use Rattle.ipc_model.specs.RowFaults.{row_faults, verdict}
+use Rattle.ipc_model.specs.declared.fault.WriteFault.{WriteFault}
+use Rattle.ipc_model.specs.declared.layout.Layout.{Layout}
+use Rattle.ipc_model.specs.declared.layout.Layout.TheVariants as l
+use Rattle.ipc_model.specs.declared.rows.RowFault.{RowFault}
+use Rattle.ipc_model.specs.declared.schema.DataType.{DataType}
+use Rattle.ipc_model.specs.declared.schema.DataType.TheVariants as t
+use Rattle.ipc_model.specs.declared.schema.Field.{Field, out-Field}
+use Rattle.ipc_model.specs.declared.value.Value.{Value, out-Value}
+use Rattle.ipc_model.specs.declared.value.Value.TheOpen as o
+use Rattle.ipc_model.specs.declared.value.Value.TheOpen.{Value-F}
+use Rattle.ipc_model.specs.declared.value.Value.TheVariants as v
+use Rattle.ipc_model.specs.declared.value.Value.TheVariants.{Null}
+use Rattle.ipc_column.specs.declared.ranges.ColumnRanges.{ColumnRanges}
+use Rattle.ipc_column.specs.Nested.{Nested, below, slot_values}
+use Rattle.ipc_column.specs.Plain.{IsShownBy}
+use Rattle.ipc_column.specs.Slots.{is_null, nested_in}
+use Rattle.ipc_column.specs.Values.{first_of, is_valid, items, place, row}
+use Rattle.ipc_column.specs.Views.{columns}
+use Rattle.ipc_encode.specs.Cells as c
+use Rattle.ipc_encode.specs.Cells.{all_items, cell, is_set, items_in}
+use Rattle.ipc_encode.specs.Misfits.{Misfits}
+use Rattle.ipc_encode.specs.Pieces.{Valid}
+use Rattle.ipc_encode.proofs.LentBuffers.{list_out, slot_is, struct_out}
+use Rattle.ipc_encode.proofs.NestedFits.{all_behind, all_front}
+use Rattle.ipc_encode.proofs.NestedSlots.{cell_value, null_only}
+use Rattle.ipc_encode.proofs.NumberSlots.{null_out}
+use Rattle.ipc_encode.proofs.SureColumns.{ShowsKind}
+use Rattle.ipc_encode.proofs.SurelyFit.{own_fits}
+use Rattle.ipc_encode.proofs.Weights.{list_fits, null_fits, struct_fits}
+
+-- null fits the field
+abbrev pub MayBeNull : Field → Type 0
+MayBeNull f = IsTrue (out-Field f).nullable ⊎ ((out-Field f).kind ≡ t.Null)
+
+-- ---- one value, and all of them
+
+-- what all values have each has, and the other way round
+pub all_at : (P : Value → Type 0) (vs : List Value) (i : ℕ) → i < length vs → AllByRecursion P vs → P (get_or vs i Null)
+all_at P [] i m h = absurd (omega arith)
+all_at P (w ∷ vs) zero m h = h.0
+all_at P (w ∷ vs) (suc i) m h = all_at P vs i (omega arith) h.1
+
+pub each_all : (P : Value → Type 0) (vs : List Value) → ((i : ℕ) → i < length vs → P (get_or vs i Null)) → AllByRecursion P vs
+each_all P [] h = tt
+each_all P (w ∷ vs) h = (h 0 (omega arith), each_all P vs (λ i m. h (suc i) (omega arith)))
+
+-- a value that is not null is set
+pub some_set : (value : Value) → is_null value ≡ false → is_set Valid value ≡ true
+unfolding out-Value denote.Hole.Carrier.out
+some_set v.Null e = absurd (cc)
+some_set value e = refl
+
+clear : (value : Value) → value ≡ v.Null → is_set Valid value ≡ false
+clear value e = ap (is_set Valid) e ∙ ap (λ (f : Value-F Value). not (c.is_null f)) null_out
+
+-- a value that is null
+clear_only : (value : Value) → is_set Valid value ≡ false → value ≡ v.Null
+unfolding out-Value denote.Hole.Carrier.out
+clear_only v.Null e = refl
+clear_only value e = absurd (cc)
+
+-- ---- values without others inside
+
+-- null where it fits
+pub null_slot : (f : Field) (value : Value) → value ≡ v.Null → (is_set Valid value ≡ false → MayBeNull f) → Fits f value
+null_slot f value is may =
+    null_fits f value is
+    (subst (λ (w : Value-F Value). IsOwn (out-Field f).kind (out-Field f).nullable (length (out-Field f).children) w)
+    (sym (ap out-Value is ∙ null_out)) (may (clear value is)))
+
+-- a value of the field's own, or null where that fits
+pub own_slot : (f : Field) (value : Value) → length (out-Field f).children ≡ 0 → (is_set Valid value ≡ false → MayBeNull f)
+    → (is_set Valid value ≡ true
+    → IsOwn (out-Field f).kind (out-Field f).nullable (length (out-Field f).children) (out-Value value)) → Fits f value
+own_slot f value none may own = either (is_set Valid value) refl
+  where
+    either : (b : Bool) → is_set Valid value ≡ b → Fits f value
+    either true e = own_fits f value none (own e)
+    either false e = null_slot f value (clear_only value e) may
+
+own_kind : (kind : DataType) (nullable : Bool) (n : ℕ) (value : Value) → is_null value ≡ false → IsOfKind kind n (out-Value value)
+    → IsOwn kind nullable n (out-Value value)
+unfolding out-Value denote.Hole.Carrier.out
+own_kind kind nullable n v.Null some h = absurd (cc)
+own_kind kind nullable n value some h = h
+
+-- a value that slots of the field's type show, or null where that fits
+pub shown_slot : (f : Field) (layout : Layout) (value : Value) → ShowsKind layout (out-Field f).kind → length (out-Field f).children ≡ 0
+    → (is_set Valid value ≡ false → MayBeNull f) → IsShownBy layout value → Fits f value
+shown_slot f layout value shows none may h = either (is_null value) refl
+  where
+    either : (b : Bool) → is_null value ≡ b → Fits f value
+    either true e = null_slot f value (null_only value e) may
+    either false e =
+        own_fits f value none (own_kind (out-Field f).kind (out-Field f).nullable (length (out-Field f).children) value e
+        (shows (length (out-Field f).children) value h e))
+
+-- ---- lists
+
+-- the items of one list are among those of all
+items_at : (P : Value → Type 0) (vs : List Value) (i : ℕ) → i < length vs → AllByRecursion P (all_items vs)
+    → AllByRecursion P (c.items (get_or vs i Null))
+items_at P [] i m h = absurd (omega arith)
+items_at P (w ∷ vs) zero m h = all_front P (c.items w) (all_items vs) h
+items_at P (w ∷ vs) (suc i) m h = items_at P vs i (omega arith) (all_behind P (c.items w) (all_items vs) h)
+
+inner_at : (fs : List Field) (vs : List Value) (i : ℕ) → i < length vs → InnerFit Fits t.List fs (o.List (all_items vs))
+    → InnerFit Fits t.List fs (o.List (c.items (get_or vs i Null)))
+inner_at [] vs i m h = tt
+inner_at (f ∷ fs) vs i m h = items_at (Fits f) vs i m h
+
+-- values that fit the first child
+pub inner_all : (fs : List Field) (vs : List Value) (d : Field) → ((i : ℕ) → i < length vs → Fits (get_or fs 0 d) (get_or vs i Null))
+    → InnerFit Fits t.List fs (o.List vs)
+inner_all [] vs d h = tt
+inner_all (f ∷ fs) vs d h = each_all (Fits f) vs h
+
+-- a slot of lists whose items all fit
+pub list_slot : (s : Nested) (f : Field) (fs : List Field) (i : ℕ) → s.column.layout ≡ l.Lists → (out-Field f).kind ≡ t.List
+    → fs ≡ (out-Field f).children → i < length (slot_values s)
+    → (is_set Valid (get_or (slot_values s) i Null) ≡ false → MayBeNull f)
+    → InnerFit Fits t.List fs (o.List (all_items (slot_values s))) → Fits f (get_or (slot_values s) i Null)
+list_slot s f fs i laid kind those m may inner = either (is_valid s.column.validity i) refl
+  where
+    either : (valid : Bool) → is_valid s.column.validity i ≡ valid → Fits f (get_or (slot_values s) i Null)
+    either true e =
+        let value = get_or (slot_values s) i Null in
+        let vs = items (λ j. first_of (row (below s) j)) (place s.column.offsets i) (place s.column.offsets
+        (i + 1) - place s.column.offsets i) in
+        let is : value ≡ v.List vs = slot_is s i m ∙ rw (e, laid) refl in
+        let shown : out-Value value ≡ o.List vs = ap out-Value is ∙ list_out vs in
+        let own = subst (λ (w : Value-F Value). IsOwn (out-Field f).kind (out-Field f).nullable (length (out-Field f).children) w)
+        (sym shown)
+        (subst (λ (k : DataType). IsOwn k (out-Field f).nullable (length (out-Field f).children) (o.List vs)) (sym kind) tt) in
+        list_fits f value fs vs vs those refl is own
+        (subst (λ (ws : List Value). InnerFit Fits t.List fs (o.List ws)) (ap items_in shown) (inner_at fs (slot_values s) i m inner))
+    either false e = null_slot f (get_or (slot_values s) i Null) (slot_is s i m ∙ rw e refl) may
+
+-- ---- structs
+
+row_length : (body : List ℕ) (ps : List ColumnRanges) (i : ℕ) → length (row (columns body ps) i) ≡ length ps
+row_length body [] i = refl
+row_length body (p ∷ ps) i = ap (λ (n : ℕ). suc n) (row_length body ps i)
+
+-- a slot of structs whose parts fit
+pub struct_slot : (s : Nested) (f : Field) (fs : List Field) (i : ℕ) → s.column.layout ≡ l.Structs → (out-Field f).kind ≡ t.Struct
+    → fs ≡ (out-Field f).children → length fs ≡ length s.children → i < length (slot_values s)
+    → (is_set Valid (get_or (slot_values s) i Null) ≡ false → MayBeNull f)
+    → (is_valid s.column.validity i ≡ true → EachFits Fits fs (row (below s) i)) → Fits f (get_or (slot_values s) i Null)
+struct_slot s f fs i laid kind those many m may each = either (is_valid s.column.validity i) refl
+  where
+    either : (valid : Bool) → is_valid s.column.validity i ≡ valid → Fits f (get_or (slot_values s) i Null)
+    either true e =
+        let value = get_or (slot_values s) i Null in
+        let vs = row (below s) i in
+        let is : value ≡ v.Struct vs = slot_is s i m ∙ rw (e, laid) refl in
+        let shown : out-Value value ≡ o.Struct vs = ap out-Value is ∙ struct_out vs in
+        let size : length vs ≡ length (out-Field f).children =
+        row_length s.body s.children i ∙ (sym many ∙ ap (λ (gs : List Field). length gs) those) in
+        let own = subst (λ (w : Value-F Value). IsOwn (out-Field f).kind (out-Field f).nullable (length (out-Field f).children) w)
+        (sym shown)
+        (subst (λ (k : DataType). IsOwn k (out-Field f).nullable (length (out-Field f).children) (o.Struct vs)) (sym kind) size) in
+        struct_fits f value fs vs vs those refl is own (each e)
+    either false e = null_slot f (get_or (slot_values s) i Null) (slot_is s i m ∙ rw e refl) may
+
+-- a part of a struct is the slot of its child
+pub part_slot : (s child : Nested) (k i : ℕ) → slice_get (nested_in s) k ≡ Some child → i < length (slot_values child)
+    → get_or (slot_values child) i Null ≡ cell k (row (below s) i)
+part_slot s child k i is m = slot_is child i m ∙ sym (cell_value s child k i is)
+
+-- ---- the first row that does not fit
+
+abbrev err_of : RowFault → Result Unit RowFault
+err_of cause = Err cause
+
+-- the fault of the first row that does not fit, with the row's number
+pub misfit : (fields : List Field) (rows : List (List Value)) (number : ℕ) (found : List Value) (cause : RowFault) (r : Result Unit RowFault)
+    (fault : WriteFault) → number < length rows → found ≡ get_or rows number []
+    → AllByRecursion (RowFits fields) (take number rows) → (RowFits fields found → IsOk r) → r ≡ verdict (row_faults fields found)
+    → r ≡ Err cause → fault ≡ refusal_of cause number → Misfits fields rows fault
+misfit fields rows number found cause r fault inside is before fits judged failed told = record {
+  number = number;
+  inside = inside;
+  before = before;
+  misfit = λ h. let ok : IsOk (err_of cause) =
+      subst (λ q. IsOk q) failed (fits (subst (RowFits fields) (sym is) h)) in cc;
+  cause = cause;
+  first = subst (λ (w : List Value). verdict (row_faults fields w) ≡ Err cause) is (sym judged ∙ failed);
+  told = told;
+}
+
+all_last : (fields : List Field) (rows : List (List Value)) (last : List Value) → AllByRecursion (RowFits fields) rows
+    → RowFits fields last → AllByRecursion (RowFits fields) (rows ++ last ∷ [])
+all_last fields [] last all one = (one, tt)
+all_last fields (w ∷ rows) last all one = (all.0, all_last fields rows last all.1 one)
+
+-- what holds of the first rows and of the next one holds of one more
+pub first_more : (fields : List Field) (rows : List (List Value)) (i : ℕ) (next : List Value) → i < length rows → next ≡ get_or rows i []
+    → AllByRecursion (RowFits fields) (take i rows) → RowFits fields next → AllByRecursion (RowFits fields) (take (i + 1) rows)
+first_more fields rows i next inside is all one =
+    subst (AllByRecursion (RowFits fields)) (ap (λ (r : List Value). take i rows ++ r ∷ []) is ∙ sym (take_more rows i [] inside))
+    (all_last fields (take i rows) next all one)

@@ -1,0 +1,253 @@
+//! Checks whether the rows of a batch that was read fit a schema.
+ghost use Rattle.std.specs.Prelude.{◌≡◌, ◌<◌, ◌⊎◌, ℕ, ℤ, Bool, List, [], true, false, length, take};
+ghost use Rattle.std.specs.Prelude.{IfErr, IsTrue, OnOk, slice_index_or};
+ghost use Rattle.std.specs.List.{AllByRecursion};
+ghost use Rattle.ipc_model.specs.Fits.{EachFits, Fits, InnerFit, IsOwn, RowFits};
+ghost use Rattle.ipc_model.specs.Layouts.{type_layout};
+ghost use Rattle.ipc_model.specs.RowFaults.{HasShortPaths};
+ghost use Rattle.ipc_model.specs.declared.layout.Layout.TheVariants.{Indices};
+ghost use Rattle.ipc_model.specs.declared.schema.DataType.TheVariants as kinds;
+ghost use Rattle.ipc_model.specs.declared.schema.Field.{out-Field};
+ghost use Rattle.ipc_model.specs.declared.schema.IntBits.{IntBits};
+ghost use Rattle.ipc_model.specs.declared.value.Value.{Value, out-Value};
+ghost use Rattle.ipc_model.specs.declared.value.Value.TheOpen as values;
+ghost use Rattle.ipc_model.specs.declared.value.Value.TheVariants.{Null};
+ghost use Rattle.ipc_column.specs.Nested.{below, slot_values};
+ghost use Rattle.ipc_column.specs.Plain.{IsShownBy};
+ghost use Rattle.ipc_column.specs.Slots.{shown};
+ghost use Rattle.ipc_column.specs.Values.{is_valid, row};
+ghost use Rattle.ipc_encode.specs.Cells.{all_items, is_set};
+ghost use Rattle.ipc_encode.specs.Marks.{HasBits};
+ghost use Rattle.ipc_encode.specs.Misfits.{Misfits};
+ghost use Rattle.ipc_encode.specs.Pieces.{Valid};
+ghost use Rattle.ipc_encode.specs.PlainColumns.{is_plain};
+
+use crate::buffers::lent_marks;
+use crate::lying::lists_have_all;
+use crate::marks::valid_are_among;
+use crate::plain::{is_plain, lie_alike};
+use ipc_column::{Batch, Slot, SlotView};
+use ipc_model::{DataType, Field, Layout, Schema, Value, WriteFault, conforms, layout_of};
+use std::alloc::Global;
+
+// Whether no slot is null. Each is checked.
+fn has_no_null(view: &SlotView<'_>) -> bool
+    ensures { IsTrue result → (i : ℕ) → i < length (slot_values view.now)
+        → is_set Valid (slice_index_or (slot_values view.now) i Null) ≡ true }
+{
+    for slot in 0..view.len() {
+        if view.is_null(slot) {
+            return false;
+        }
+    }
+    true
+}
+
+// Whether the null slots of a column fit a field: null fits the field, or each of them is null in
+// the parent too, by the parent's bitmap.
+fn nulls_fit(field: &Field, view: &SlotView<'_>, above: &[u8]) -> bool
+    requires { HasBits above.now (length (slot_values view.now)) }
+    ensures { IsTrue result → (i : ℕ) → i < length (slot_values view.now)
+        → is_valid above.now i ≡ true
+        → is_set Valid (slice_index_or (slot_values view.now) i Null) ≡ false
+        → IsTrue (out-Field field.now).nullable ⊎ ((out-Field field.now).kind ≡ kinds.Null) }
+{
+    if field.nullable || matches!(field.kind, DataType::Null) {
+        return true;
+    }
+    match lent_marks(view) {
+        Some(marks) => valid_are_among(above, marks, view.len()),
+        None => has_no_null(view),
+    }
+}
+
+// Whether slots of this layout have indices.
+fn is_indexed(layout: Layout) -> bool
+    ensures { IsTrue result → (bits : IntBits) × ((signed : Bool) × ((id : ℤ)
+        × (layout ≡ Indices bits signed id))) }
+{
+    matches!(layout, Layout::Indices { .. })
+}
+
+// Fast accept: the layout of the slots, or that of their dictionary's values, holds only values of
+// the type.
+fn shows_type(kind: &DataType, view: &SlotView<'_>) -> bool
+    ensures plain { IsTrue result → is_plain kind.now ≡ true }
+    ensures shown { IsTrue result
+        → AllByRecursion (IsShownBy (type_layout kind.now)) (slot_values view.now) }
+{
+    if !is_plain(kind) {
+        return false;
+    }
+    let layout = layout_of(kind, None);
+    if lie_alike(view.layout(), layout) {
+        return true;
+    }
+    if !is_indexed(view.layout()) {
+        return false;
+    }
+    match view.entries() {
+        Some(entries) => lie_alike(entries.layout(), layout),
+        None => false,
+    }
+}
+
+// Whether a slot is null or has a signed number of the field's type.
+fn is_own_number(field: &Field, held: &Slot<'_>) -> bool
+    ensures { IsTrue result → (under : ℕ → List Value) (slot : ℕ)
+        → is_set Valid (shown under slot held.now) ≡ true
+        → IsOwn (out-Field field.now).kind (out-Field field.now).nullable
+        (length (out-Field field.now).children) (out-Value (shown under slot held.now)) }
+{
+    match held {
+        Slot::Null => true,
+        Slot::Int(number) => field.is_own(&Value::Int(*number)),
+        _ => false,
+    }
+}
+
+// Whether each slot is null or has a signed number of the field's type. Each is checked.
+fn are_own_numbers(field: &Field, view: &SlotView<'_>) -> bool
+    ensures { IsTrue result → (i : ℕ) → i < length (slot_values view.now)
+        → is_set Valid (slice_index_or (slot_values view.now) i Null) ≡ true
+        → IsOwn (out-Field field.now).kind (out-Field field.now).nullable
+        (length (out-Field field.now).children)
+        (out-Value (slice_index_or (slot_values view.now) i Null)) }
+{
+    for slot in 0..view.len() {
+        if !is_own_number(field, &view.at(slot)) {
+            return false;
+        }
+    }
+    true
+}
+
+// Whether the slots of a column fit a field without children, apart from null slots.
+fn leaf_fits(field: &Field, view: &SlotView<'_>) -> bool
+    requires { length (out-Field field.now).children ≡ 0 }
+    ensures { IsTrue result → (i : ℕ) → i < length (slot_values view.now)
+        → (is_set Valid (slice_index_or (slot_values view.now) i Null) ≡ false
+        → IsTrue (out-Field field.now).nullable ⊎ ((out-Field field.now).kind ≡ kinds.Null))
+        → Fits field.now (slice_index_or (slot_values view.now) i Null) }
+{
+    if shows_type(&field.kind, view) {
+        return true;
+    }
+    are_own_numbers(field, view)
+}
+
+// Fast accept: each slot of a column fits its field if the parent, by its bitmap, is not null. If
+// it returns false, check the rows.
+#[cycle(slots)]
+fn slots_fit(field: &Field, view: &SlotView<'_>, above: &[u8]) -> bool
+    requires { HasBits above.now (length (slot_values view.now)) }
+    ensures { IsTrue result → (i : ℕ) → i < length (slot_values view.now)
+        → is_valid above.now i ≡ true
+        → Fits field.now (slice_index_or (slot_values view.now) i Null) }
+{
+    if !nulls_fit(field, view, above) {
+        return false;
+    }
+    let fields = field.children.as_slice();
+    if fields.is_empty() {
+        return leaf_fits(field, view);
+    }
+    match (&field.kind, view.layout()) {
+        (DataType::List, Layout::Lists) => items_fit(fields, view),
+        (DataType::Struct, Layout::Structs) => parts_fit(fields, view),
+        _ => false,
+    }
+}
+
+// Fast accept: the items of lists, which are all slots of their one child, fit its field.
+#[cycle(slots)]
+fn items_fit(fields: &[Field], view: &SlotView<'_>) -> bool
+    ensures { IsTrue result → InnerFit Fits kinds.List fields.now
+        (values.List (all_items (slot_values view.now))) }
+{
+    if fields.len() != 1 || view.children() != 1 || !lists_have_all(view) {
+        return false;
+    }
+    slots_fit(&fields[0], &view.child(0), &[])
+}
+
+// Fast accept: the values of structs fit the fields of the children, where the struct is not null.
+#[cycle(slots)]
+fn parts_fit(fields: &[Field], view: &SlotView<'_>) -> bool
+    ensures size { IsTrue result → length fields.now ≡ length view.now.children }
+    ensures fits { IsTrue result → (i : ℕ) → i < length (slot_values view.now)
+        → is_valid view.now.column.validity i ≡ true
+        → EachFits Fits fields.now (row (below view.now) i) }
+{
+    let count = view.children();
+    if fields.len() != count {
+        return false;
+    }
+    let marks = view.buffers().validity;
+    for i in 0..count {
+        let child = view.child(i);
+        if child.len() != view.len() || !slots_fit(&fields[i], &child, marks) {
+            return false;
+        }
+    }
+    true
+}
+
+// Fast accept: all rows of a batch fit the fields. Each column is checked once. If it returns
+// false, check the rows.
+fn columns_fit(fields: &[Field], batch: &Batch) -> bool
+    ensures { IsTrue result → AllByRecursion (RowFits fields.now) batch.now.rows }
+{
+    if batch.columns() != fields.len() {
+        return false;
+    }
+    for i in 0..fields.len() {
+        if !slots_fit(&fields[i], &batch.slots(i), &[]) {
+            return false;
+        }
+    }
+    true
+}
+
+// Checks one row of a batch, which has this number there.
+fn check_row(schema: &Schema, row: &[Value], number: usize) -> Result<(), WriteFault>
+    requires { HasShortPaths schema.now }
+    ensures fit { OnOk result (RowFits schema.now.fields row.now) }
+    ensures misfit { (rows : List (List Value)) → number < length rows
+        → row.now ≡ slice_index_or rows number []
+        → AllByRecursion (RowFits schema.now.fields) (take number rows)
+        → IfErr result (Misfits schema.now.fields rows) }
+{
+    match conforms(schema, row) {
+        Ok(()) => Ok(()),
+        Err(fault) => Err(fault.at_row(number as u64)),
+    }
+}
+
+/// Checks that all rows of a batch that was read fit a schema, as `conforms` checks one row. Null in
+/// a field that is not nullable and times outside of a day are read, but do not fit.
+///
+/// It makes no value of a column whose layout shows that all its values fit, nor of numbers. If
+/// other columns need it, it reads the rows one by one.
+///
+/// Errors: W2 to W5 with the number of the first row that does not fit, and the path in the row;
+/// W11 `OutOfMemory` if memory for the values of a row ran out.
+pub fn check_rows(alloc: Global, schema: &Schema, batch: &Batch) -> Result<(), WriteFault>
+    requires { HasShortPaths schema.now }
+    ensures fit { OnOk result (AllByRecursion (RowFits schema.now.fields) batch.now.rows) }
+    // A refusal is of the first row that does not fit, or memory ran out.
+    ensures misfit { IfErr result (λ fault. (fault ≡ WriteFault.OutOfMemory)
+        ⊎ Misfits schema.now.fields batch.now.rows fault) }
+{
+    if columns_fit(schema.fields.as_slice(), batch) {
+        return Ok(());
+    }
+    let mut row = Vec::new(alloc);
+    for number in 0..batch.rows() {
+        let Ok(()) = batch.read_row(alloc, number, &mut row) else {
+            return Err(WriteFault::OutOfMemory);
+        };
+        check_row(schema, row.as_slice(), number)?;
+    }
+    Ok(())
+}
