@@ -123,8 +123,8 @@ knows_all (s ∷ ss) (n ∷ ns) (o ∷ os) h id v xs found there = by (knows_all
     by rest false e = rest e there
 
 -- the index of a value is the plan's number for the place that the tally gave it
-index_renumbered : (ss : List KeptEntry) (ns : List TallyEntry) (os : List (Option (List ℕ))) → AllSettled ss ns os → (id : ℤ) (v : Value)
-    (i : ℕ) → noted_place ns id v ≡ Some i → index ns os id v ≡ Some (number_or (number ns os id i) i)
+pub index_renumbered : (ss : List KeptEntry) (ns : List TallyEntry) (os : List (Option (List ℕ))) → AllSettled ss ns os → (id : ℤ)
+    (v : Value) (i : ℕ) → noted_place ns id v ≡ Some i → index ns os id v ≡ Some (number_or (number ns os id i) i)
 index_renumbered ss [] os h id v i found = absurd cc
 index_renumbered [] (n ∷ ns) os h id v i found = absurd h
 index_renumbered (s ∷ ss) (n ∷ ns) [] h id v i found = absurd h

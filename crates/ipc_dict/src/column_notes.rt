@@ -7,13 +7,13 @@ ghost use Rattle.ipc_column.specs.Lent.{AreOfColumn};
 ghost use Rattle.ipc_column.specs.Nested.{slot_values};
 ghost use Rattle.ipc_encode.specs.Cells.{cells};
 ghost use Rattle.ipc_dict.specs.ColumnNotes.{AreApart, AreNoted, AreOthers, IsApart};
-ghost use Rattle.ipc_dict.specs.Noting.{note_all, AllFit, AllGrow};
+ghost use Rattle.ipc_dict.specs.Noting.{note_all, AllFit, AllGrow, IsFull};
 ghost use Rattle.ipc_dict.specs.Pairs.{pairs, items_pairs, rows_pairs};
 
 use crate::entry::TallyEntry;
 use crate::fault::NoteFault;
 use crate::recent::Recent;
-use crate::walk::{is_plain, note_value};
+use crate::walk::{is_plain, note_each, note_value};
 use ipc_column::{Batch, SlotView};
 use ipc_model::{Field, Value};
 use std::alloc::{AllocError, Global};
@@ -47,8 +47,8 @@ fn is_apart(field: &Field, others: &[Field]) -> bool
     true
 }
 
-/// Returns true only if no dictionary is named by two of the fields.
-pub(crate) fn are_all_apart(fields: &[Field]) -> bool
+// Whether surely no dictionary is named by two of the fields.
+fn are_all_apart(fields: &[Field]) -> bool
     ensures { IsTrue result → AreApart fields.now }
 {
     for i in 0..fields.len() {
@@ -88,6 +88,10 @@ fn note_cell(
         → slice_get (slice_index_or batch.now.rows row []) column ≡ Some value
         → OnOk result (entries.new ≡ note_all entries.old (pairs field.now value)) }
     ensures fits { OnOk result (AllFit entries.old → AllFit entries.new) }
+    ensures full { (value : Value)
+        → slice_get (slice_index_or batch.now.rows row []) column ≡ Some value
+        → IfErr result (λ fault. fault ≡ NoteFault.DictionaryFull
+        → IsFull (note_all entries.old (pairs field.now value))) }
     ensures memory { IfErr result
         (λ fault. (fault ≡ NoteFault.DictionaryFull) ⊎ (fault ≡ NoteFault.OutOfMemory)) }
     ensures grows { AllGrow entries.old entries.new }
@@ -123,6 +127,11 @@ fn note_entry(
         → slice_get (slice_index_or batch.now.rows row []) column ≡ Some value
         → OnOk result (AreNoted entries.new field.now dictionary noted.new.items) }
     ensures fits { OnOk result (AllFit entries.old → AllFit entries.new) }
+    ensures full { (dictionary : List Value) (value : Value)
+        → slice_get dictionary entry ≡ Some value
+        → slice_get (slice_index_or batch.now.rows row []) column ≡ Some value
+        → IfErr result (λ fault. fault ≡ NoteFault.DictionaryFull
+        → IsFull (note_all entries.old (pairs field.now value))) }
     ensures memory { IfErr result
         (λ fault. (fault ≡ NoteFault.DictionaryFull) ⊎ (fault ≡ NoteFault.OutOfMemory)) }
     ensures grows { AllGrow entries.old entries.new }
@@ -162,6 +171,9 @@ fn note_slot(
         → OnOk result
         (AreNoted entries.new field.now slots.now.column.dictionary noted.new.items) }
     ensures fits { OnOk result (AllFit entries.old → AllFit entries.new) }
+    ensures full { (value : Value) → slice_get (slot_values slots.now) slot ≡ Some value
+        → IfErr result (λ fault. fault ≡ NoteFault.DictionaryFull
+        → IsFull (note_all entries.old (pairs field.now value))) }
     ensures memory { IfErr result
         (λ fault. (fault ≡ NoteFault.DictionaryFull) ⊎ (fault ≡ NoteFault.OutOfMemory)) }
     ensures grows { AllGrow entries.old entries.new }
@@ -188,6 +200,9 @@ fn note_column(
     ensures noted { OnOk result (entries.new
         ≡ note_all entries.old (items_pairs (pairs field.now) (cells column batch.now.rows))) }
     ensures fits { OnOk result (AllFit entries.old → AllFit entries.new) }
+    ensures full { IfErr result (λ fault. fault ≡ NoteFault.DictionaryFull
+        → IsFull (note_all entries.old
+        (items_pairs (pairs field.now) (cells column batch.now.rows)))) }
     ensures memory { IfErr result
         (λ fault. (fault ≡ NoteFault.DictionaryFull) ⊎ (fault ≡ NoteFault.OutOfMemory)) }
     ensures grows { AllGrow entries.old entries.new }
@@ -216,6 +231,9 @@ fn note_field(
     ensures noted { OnOk result (entries.new
         ≡ note_all entries.old (items_pairs (pairs field.now) (cells column batch.now.rows))) }
     ensures fits { OnOk result (AllFit entries.old → AllFit entries.new) }
+    ensures full { IfErr result (λ fault. fault ≡ NoteFault.DictionaryFull
+        → IsFull (note_all entries.old
+        (items_pairs (pairs field.now) (cells column batch.now.rows)))) }
     ensures memory { IfErr result
         (λ fault. (fault ≡ NoteFault.DictionaryFull) ⊎ (fault ≡ NoteFault.OutOfMemory)) }
     ensures grows { AllGrow entries.old entries.new }
@@ -226,9 +244,9 @@ fn note_field(
     note_column(alloc, entries, recent, field, batch, column)
 }
 
-/// Notes the values of dictionaries in all rows of a batch that has a column for each field.
+// Notes the values of dictionaries in all rows of a batch that has a column for each field.
 #[tactic(auto, using(crate::proofs::Notes::all_grow_same, crate::proofs::Notes::all_grow_trans))]
-pub(crate) fn note_columns(
+fn note_columns(
     alloc: Global,
     entries: &mut [TallyEntry],
     recent: &mut Recent,
@@ -240,6 +258,8 @@ pub(crate) fn note_columns(
     ensures noted { OnOk result
         (entries.new ≡ note_all entries.old (rows_pairs fields.now batch.now.rows)) }
     ensures fits { OnOk result (AllFit entries.old → AllFit entries.new) }
+    ensures full { IfErr result (λ fault. fault ≡ NoteFault.DictionaryFull
+        → IsFull (note_all entries.old (rows_pairs fields.now batch.now.rows))) }
     ensures memory { IfErr result
         (λ fault. (fault ≡ NoteFault.DictionaryFull) ⊎ (fault ≡ NoteFault.OutOfMemory)) }
     ensures grows { AllGrow entries.old entries.new }
@@ -249,4 +269,57 @@ pub(crate) fn note_columns(
         note_field(alloc, entries, recent, &fields[column], batch, column)?;
     }
     Ok(())
+}
+
+// Notes the values of dictionaries in all rows of a batch, row by row.
+#[tactic(auto, using(crate::proofs::Notes::all_grow_same, crate::proofs::Notes::all_grow_trans))]
+fn note_rows(
+    alloc: Global,
+    entries: &mut [TallyEntry],
+    recent: &mut Recent,
+    fields: &[Field],
+    batch: &Batch,
+) -> Result<(), NoteFault>
+    ensures noted { OnOk result
+        (entries.new ≡ note_all entries.old (rows_pairs fields.now batch.now.rows)) }
+    ensures fits { OnOk result (AllFit entries.old → AllFit entries.new) }
+    ensures full { IfErr result (λ fault. fault ≡ NoteFault.DictionaryFull
+        → IsFull (note_all entries.old (rows_pairs fields.now batch.now.rows))) }
+    ensures memory { IfErr result
+        (λ fault. (fault ≡ NoteFault.DictionaryFull) ⊎ (fault ≡ NoteFault.OutOfMemory)) }
+    ensures grows { AllGrow entries.old entries.new }
+{
+    let mut row = Vec::new(alloc);
+    for number in 0..batch.rows() {
+        let Ok(()) = batch.read_row(alloc, number, &mut row) else {
+            return Err(NoteFault::OutOfMemory);
+        };
+        note_each(entries, recent, fields, row.as_slice())?;
+    }
+    Ok(())
+}
+
+/// Notes the values of dictionaries in all rows of a batch. If each dictionary belongs to one
+/// column, it goes column by column, and looks up each value of the batch's dictionaries once.
+#[tactic(auto, using(crate::proofs::Notes::all_grow_same, crate::proofs::Notes::all_grow_trans))]
+pub(crate) fn note_batch(
+    alloc: Global,
+    entries: &mut [TallyEntry],
+    recent: &mut Recent,
+    fields: &[Field],
+    batch: &Batch,
+) -> Result<(), NoteFault>
+    ensures noted { OnOk result
+        (entries.new ≡ note_all entries.old (rows_pairs fields.now batch.now.rows)) }
+    ensures fits { OnOk result (AllFit entries.old → AllFit entries.new) }
+    ensures full { IfErr result (λ fault. fault ≡ NoteFault.DictionaryFull
+        → IsFull (note_all entries.old (rows_pairs fields.now batch.now.rows))) }
+    ensures memory { IfErr result
+        (λ fault. (fault ≡ NoteFault.DictionaryFull) ⊎ (fault ≡ NoteFault.OutOfMemory)) }
+    ensures grows { AllGrow entries.old entries.new }
+{
+    if batch.columns() == fields.len() && are_all_apart(fields) {
+        return note_columns(alloc, entries, recent, fields, batch);
+    }
+    note_rows(alloc, entries, recent, fields, batch)
 }

@@ -12,8 +12,10 @@ ghost use Rattle.ipc_dict.specs.Within.{AllWithin, IsOfLimits, IsOverLimit};
 
 use crate::entry::TallyEntry;
 use crate::kept::Kept;
+use crate::seed::Seed;
 use crate::settle::{commit, index_of, number_of_index};
 use crate::tally::Tally;
+use ipc_column::Batch;
 use ipc_encode::{IndexOf, Renumber};
 use ipc_model::{Items, Limits, Row, Schema, Value, WriteFault};
 use std::alloc::Global;
@@ -112,6 +114,53 @@ impl Plan {
             tally.note(row.as_slice())?;
         }
         tally.settle(alloc, kept)
+    }
+
+    /// Plans what a batch that was read does with each dictionary of the schema, as
+    /// `Plan::for_rows` does for its rows. Hashes use this seed.
+    ///
+    /// The requirements and the errors are those of `Plan::for_rows`.
+    pub fn for_columns(
+        alloc: Global,
+        limits: &Limits,
+        schema: &Schema,
+        kept: &Kept,
+        seed: Seed,
+        batch: &Batch,
+    ) -> Result<Plan, WriteFault>
+        requires { kept_ids kept.now ≡ ids_of schema.now.fields }
+        // The entries are those that the schema and the rows give, with their limits.
+        ensures tallied { IfOk result
+            (λ plan. plan.entries ≡ tallied schema.now.fields batch.now.rows) }
+        // Each is sent where it has not been or lacks a value, and nowhere else.
+        ensures settled { IfOk result
+            (λ plan. AllSettled kept.now plan.entries plan.numbers) }
+        // Each index finds its value in what was sent once the batch was.
+        ensures finds { IfOk result (λ plan. FindsAll kept.now plan.entries plan.numbers) }
+        // Each value of the batch has an index.
+        ensures knows { IfOk result (λ plan. KnowsAll plan.entries plan.numbers) }
+        // Each id that a field names has its entry.
+        ensures ids { IfOk result (λ plan. tally_ids plan.entries ≡ ids_of schema.now.fields) }
+        // Each index type of the fields can address the values of its dictionary.
+        ensures addressed { IfOk result (λ plan. AreAddressed schema.now.fields plan.entries) }
+        // No dictionary has more values than its index types count.
+        ensures fits { IfOk result (λ plan. AllFit plan.entries) }
+        // Each is within the limits, as the one column of its message.
+        ensures within { IfOk result
+            (λ plan. AllWithin limits.now schema.now.fields plan.entries) }
+        // At W7 one would have more.
+        ensures full { IfErr result (λ fault. fault ≡ WriteFault.DictionaryFull
+            → IsFull (tallied schema.now.fields batch.now.rows)) }
+        // At W6 and W8 one would be longer than the limits allow.
+        ensures over { IfErr result (λ fault. IsOfLimits fault
+            → IsOverLimit limits.now schema.now.fields
+            (tallied schema.now.fields batch.now.rows) fault) }
+        ensures only { IfErr result (λ fault. ((fault ≡ WriteFault.DictionaryFull)
+            ⊎ IsOfLimits fault) ⊎ (fault ≡ WriteFault.OutOfMemory)) }
+    {
+        let mut counted = Tally::with_seed(alloc, limits, schema, seed)?;
+        counted.note_columns(batch)?;
+        counted.settle(alloc, kept)
     }
 
     /// Returns the dictionaries to send before the batch, each with its id, in the order in which

@@ -3,7 +3,6 @@ ghost use Rattle.std.specs.Prelude.{◌↔◌, [], IsTrue};
 ghost use Rattle.std.specs.Prelude.{◌≡◌, true, false, length, IfOk, IfErr, OnOk, OnErr, ◌⊎◌, Err};
 ghost use Rattle.ipc_dict.specs.Noting.{note_all, AllFit, IsFull, HoldsDistinct, lens, cut};
 ghost use Rattle.ipc_dict.specs.Noting.{AllGrow, KeepsPlaces, PlacesAll};
-ghost use Rattle.ipc_dict.specs.ColumnNotes.{AreApart};
 ghost use Rattle.ipc_dict.specs.Pairs.{row_pairs, rows_pairs};
 ghost use Rattle.ipc_dict.specs.SchemaIds.{ids_of, unused, kept_ids, tally_bounds, tally_ids};
 ghost use Rattle.ipc_dict.specs.Sending.{AreAddressed};
@@ -12,7 +11,7 @@ ghost use Rattle.ipc_dict.specs.EntryColumns.{AreEntriesCounted};
 ghost use Rattle.ipc_dict.specs.Faults.{told_of};
 ghost use Rattle.ipc_dict.specs.Within.{AllWithin, IsOfLimits, IsOverLimit};
 
-use crate::column_notes::{are_all_apart, note_columns};
+use crate::column_notes::note_batch;
 use crate::columns::EntryColumns;
 use crate::entry::{TallyEntry, place_in};
 use crate::fault::NoteFault;
@@ -237,61 +236,67 @@ impl Tally {
 }
 
 impl Tally {
-    /// Counts the values of all rows of a batch that was read, column by column, as `note` of each
-    /// row does. Returns whether it did. Each value of the batch's dictionaries is looked up once.
-    /// The rows of the batch must fit the schema.
+    /// Counts the values of all rows of a batch that was read, as `Tally::note` of each row does.
+    /// Each value of the batch's dictionaries is looked up once, if each dictionary of the schema
+    /// belongs to one column and none to a child of a list or a struct.
     ///
-    /// At `Ok(false)` nothing was counted; then call `note` for each row. The implementation
-    /// returns it if:
+    /// Errors, where after W6, W7 and W8 the tally is as before the call:
     ///
-    /// - a dictionary would be full or too long;
-    /// - two fields name one dictionary, or a descendant of a list or a struct names one;
-    /// - the batch has another number of columns.
-    ///
-    /// Errors: W11 `OutOfMemory` if memory for a value or a mark ran out; W10 `Failed` after W11.
-    pub fn note_columns(&mut self, batch: &Batch) -> Result<bool, NoteFault>
-        ensures noted { IfOk result (λ counted. counted ≡ true → self.new ≡ record self.old {
+    /// - W7 `DictionaryFull`: exactly if a dictionary would have more distinct values than an index
+    ///   type of its fields counts.
+    /// - W8 `TooManyRows`: a dictionary would have more than `limits.slots` values.
+    /// - W6 `TooLong`: as the one column of their message, the values would have more data than
+    ///   offsets reach, or more than `limits.body` bytes (Arrow Columnar Format, "Array lengths").
+    /// - W11 `OutOfMemory`: memory for a value or a mark ran out.
+    /// - W10 `Failed`: the call comes after W11.
+    pub fn note_columns(&mut self, batch: &Batch) -> Result<(), NoteFault>
+        ensures noted { OnOk result (self.new ≡ record self.old {
           entries = note_all self.old.entries (rows_pairs self.old.fields batch.now.rows);
         }) }
-        ensures unchanged { IfOk result (λ counted. counted ≡ false → self.new ≡ self.old) }
         // The fields, the limits and the ids never change, whatever the result is.
         ensures fields { self.new.fields ≡ self.old.fields }
         ensures limits { self.new.limits ≡ self.old.limits }
         ensures ids { tally_ids self.new.entries ≡ tally_ids self.old.entries }
         ensures fits { AllFit self.new.entries }
         ensures within { AllWithin self.new.limits self.new.fields self.new.entries }
+        ensures unchanged { IfErr result
+            (λ fault. told_of fault ≡ WriteFault.DictionaryFull → self.new ≡ self.old) }
+        ensures as_before { IfErr result
+            (λ fault. IsOfLimits (told_of fault) → self.new ≡ self.old) }
+        ensures full { IfErr result (λ fault. told_of fault ≡ WriteFault.DictionaryFull
+            → IsFull (note_all self.old.entries
+            (rows_pairs self.old.fields batch.now.rows))) }
+        // At W6 and W8 a dictionary's column would be longer than the limits allow.
+        ensures over { IfErr result (λ fault. IsOfLimits (told_of fault)
+            → IsOverLimit self.old.limits self.old.fields
+            (note_all self.old.entries (rows_pairs self.old.fields batch.now.rows))
+            (told_of fault)) }
         ensures failed { IfErr result
-            (λ fault. fault ≡ NoteFault.OutOfMemory → self.new.failed ≡ true) }
+            (λ fault. told_of fault ≡ WriteFault.OutOfMemory → self.new.failed ≡ true) }
         // A tally that has failed counts no row.
         ensures refused { self.old.failed ≡ true → result ≡ Err NoteFault.Failed }
         ensures still_failed { self.old.failed ≡ true → self.new.failed ≡ true }
         ensures before { IfErr result
-            (λ fault. fault ≡ NoteFault.Failed → self.old.failed ≡ true) }
-        ensures only { IfErr result
-            (λ fault. (fault ≡ NoteFault.OutOfMemory) ⊎ (fault ≡ NoteFault.Failed)) }
+            (λ fault. told_of fault ≡ WriteFault.Failed → self.old.failed ≡ true) }
+        ensures only { IfErr result (λ fault. ((told_of fault ≡ WriteFault.DictionaryFull)
+            ⊎ IsOfLimits (told_of fault))
+            ⊎ ((told_of fault ≡ WriteFault.OutOfMemory) ⊎ (told_of fault ≡ WriteFault.Failed))) }
     {
-        let has_failed = self.failed;
-        if has_failed {
+        if self.failed {
             return Err(NoteFault::Failed);
         }
         if self.is_empty() {
-            return Ok(true);
+            return Ok(());
         }
         let alloc = *self.entries.allocator();
         let fields = self.fields.as_slice();
-        if batch.columns() != fields.len() || !are_all_apart(fields) {
-            return Ok(false);
-        }
         let (entries, recent) = (&mut self.entries, &mut self.recent);
         let (marks, columns) = (&mut self.marks, &mut self.columns);
-        match note_batch(alloc, entries, recent, marks, columns, fields, batch) {
-            Ok(()) => Ok(true),
-            Err(NoteFault::OutOfMemory) => {
-                self.failed = true;
-                Err(NoteFault::OutOfMemory)
-            }
-            Err(_) => Ok(false),
+        if let Err(fault) = add_batch(alloc, entries, recent, marks, columns, fields, batch) {
+            self.failed = matches!(fault, NoteFault::OutOfMemory);
+            return Err(fault);
         }
+        Ok(())
     }
 }
 
@@ -447,7 +452,7 @@ fn note_counted(
 
 // All rows of a batch, or none of their values where they are refused.
 #[tactic(auto, using(crate::proofs::Rows::ids_note_all, crate::proofs::Rows::bounds_note_all))]
-fn note_batch(
+fn add_batch(
     alloc: Global,
     entries: &mut [TallyEntry],
     recent: &mut Recent,
@@ -458,16 +463,23 @@ fn note_batch(
 ) -> Result<(), NoteFault>
     requires marks { length marks.old ≡ length entries.old }
     requires columns { AreEntriesCounted fields.now entries.old columns.old }
-    requires apart { AreApart fields.now }
-    requires width { batch.now.columns ≡ length fields.now }
     ensures noted { OnOk result
         (entries.new ≡ note_all entries.old (rows_pairs fields.now batch.now.rows)) }
     ensures ids { tally_ids entries.new ≡ tally_ids entries.old }
     ensures bounds { tally_bounds entries.new ≡ tally_bounds entries.old }
     ensures fits { AllFit entries.old → AllFit entries.new }
     ensures err { OnErr result (entries.new ≡ entries.old) }
+    ensures full { IfErr result
+        (λ fault. told_of fault ≡ WriteFault.DictionaryFull
+        → IsFull (note_all entries.old (rows_pairs fields.now batch.now.rows))) }
     ensures counted { AreEntriesCounted fields.now entries.new columns.new }
     ensures limits { columns.new.limits ≡ columns.old.limits }
+    ensures over { IfErr result (λ fault. IsOfLimits (told_of fault)
+        → IsOverLimit columns.old.limits fields.now
+        (note_all entries.old (rows_pairs fields.now batch.now.rows)) (told_of fault)) }
+    ensures memory { IfErr result
+        (λ fault. ((told_of fault ≡ WriteFault.DictionaryFull) ⊎ IsOfLimits (told_of fault))
+        ⊎ (told_of fault ≡ WriteFault.OutOfMemory)) }
 {
     mark(entries, marks);
     if let Err(fault) = count_batch(alloc, entries, recent, marks, columns, fields, batch) {
@@ -477,7 +489,7 @@ fn note_batch(
     Ok(())
 }
 
-// Notes the values of a batch's columns, and counts those that came since the marks.
+// Notes the values of a batch, and counts those that came since the marks.
 fn count_batch(
     alloc: Global,
     entries: &mut [TallyEntry],
@@ -489,17 +501,24 @@ fn count_batch(
 ) -> Result<(), NoteFault>
     requires marks { marks.now ≡ lens entries.old }
     requires columns { AreEntriesCounted fields.now entries.old columns.old }
-    requires apart { AreApart fields.now }
-    requires width { batch.now.columns ≡ length fields.now }
     ensures noted { OnOk result
         (entries.new ≡ note_all entries.old (rows_pairs fields.now batch.now.rows)) }
     ensures fits { OnOk result (AllFit entries.old → AllFit entries.new) }
+    ensures full { IfErr result
+        (λ fault. told_of fault ≡ WriteFault.DictionaryFull
+        → IsFull (note_all entries.old (rows_pairs fields.now batch.now.rows))) }
     ensures counted { OnOk result (AreEntriesCounted fields.now entries.new columns.new) }
     ensures kept { OnErr result (AreEntriesCounted fields.now entries.old columns.new) }
     ensures limits { columns.new.limits ≡ columns.old.limits }
+    ensures over { IfErr result (λ fault. IsOfLimits (told_of fault)
+        → IsOverLimit columns.old.limits fields.now
+        (note_all entries.old (rows_pairs fields.now batch.now.rows)) (told_of fault)) }
+    ensures memory { IfErr result
+        (λ fault. ((told_of fault ≡ WriteFault.DictionaryFull) ⊎ IsOfLimits (told_of fault))
+        ⊎ (told_of fault ≡ WriteFault.OutOfMemory)) }
     ensures grows { AllGrow entries.old entries.new }
 {
-    note_columns(alloc, entries, recent, fields, batch)?;
+    note_batch(alloc, entries, recent, fields, batch)?;
     if have_grown(entries, marks) {
         columns.count(entries, marks)?;
     }

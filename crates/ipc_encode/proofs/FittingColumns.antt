@@ -183,8 +183,8 @@ abbrev err_of : RowFault → Result Unit RowFault
 err_of cause = Err cause
 
 -- the fault of the first row that does not fit, with the row's number
-pub misfit : (fields : List Field) (rows : List (List Value)) (number : ℕ) (found : List Value) (cause : RowFault) (r : Result Unit RowFault)
-    (fault : WriteFault) → number < length rows → found ≡ get_or rows number []
+pub misfit : (fields : List Field) (rows : List (List Value)) (number : ℕ) (found : List Value) (cause : RowFault)
+    (r : Result Unit RowFault) (fault : WriteFault) → number < length rows → found ≡ get_or rows number []
     → AllByRecursion (RowFits fields) (take number rows) → (RowFits fields found → IsOk r) → r ≡ verdict (row_faults fields found)
     → r ≡ Err cause → fault ≡ refusal_of cause number → Misfits fields rows fault
 misfit fields rows number found cause r fault inside is before fits judged failed told = record {

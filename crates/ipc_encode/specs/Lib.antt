@@ -11,7 +11,6 @@ pub mod Indices
 pub mod Faults
 pub mod CountedColumns
 pub mod Marks
-pub mod Lent
 pub mod Lying
 pub mod PlainColumns
 pub mod EntryIndices

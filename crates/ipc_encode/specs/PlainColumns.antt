@@ -1,11 +1,8 @@
 -- Columns whose values fit a field because of their layout alone (Schema.fbs, union Type).
-use Rattle.std.specs.Prelude.{◌≡◌, Bool, true, false}
-use Rattle.ipc_model.specs.declared.layout.Layout.{Layout}
-use Rattle.ipc_model.specs.declared.layout.Layout.TheVariants.{Null}
+use Rattle.std.specs.Prelude.{Bool, true, false}
 use Rattle.ipc_model.specs.declared.schema.DataType.{DataType}
 use Rattle.ipc_model.specs.declared.schema.DataType.TheVariants as t
 use Rattle.ipc_model.specs.declared.schema.DateUnit.TheVariants.{Day, Millisecond}
-use Rattle.ipc_column.specs.Dictionaries.{stands_alone}
 
 -- every value that a slot of the type's layout can have is one of the type. This is not so for a
 -- date in milliseconds (a whole day) or a time (below 24 hours); the null type and types with
@@ -25,9 +22,3 @@ is_plain t.Null = false
 is_plain t.List = false
 is_plain (t.FixedSizeList size) = false
 is_plain t.Struct = false
-
--- the layout stores its values itself, one in each valid slot: it is not nested, of indices, or
--- null
-pub record LiesPlainly (layout : Layout) : Type 0 where
-  pub alone : stands_alone layout ≡ true
-  pub some : ¬ (layout ≡ Null)

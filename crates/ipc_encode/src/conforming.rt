@@ -224,8 +224,9 @@ fn check_row(schema: &Schema, row: &[Value], number: usize) -> Result<(), WriteF
     }
 }
 
-/// Checks that all rows of a batch that was read fit a schema, as `conforms` checks one row. Null in
-/// a field that is not nullable and times outside of a day are read, but do not fit.
+/// Checks that all rows of a batch that was read fit a schema, as `conforms` checks one row. A
+/// reader accepts null in a field that is not nullable, and a time outside of a day, but such rows
+/// do not fit.
 ///
 /// It makes no value of a column whose layout shows that all its values fit, nor of numbers. If
 /// other columns need it, it reads the rows one by one.

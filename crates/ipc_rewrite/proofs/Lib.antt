@@ -1,6 +1,5 @@
-pub mod LentRows
 pub mod Batches
-pub mod Pushing
+pub mod Leaving
 pub mod Complete
 pub mod Whole
 pub mod Reporting

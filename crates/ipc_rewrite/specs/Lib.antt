@@ -1,4 +1,3 @@
-pub mod LentRows
 pub mod Raised
 pub mod Reporting
 pub mod Rewriting

@@ -10,7 +10,6 @@ ghost use Rattle.ipc_decode.specs.Reader.{Opens};
 ghost use Rattle.ipc_decode.specs.Stream.{Denotes, EndsStream};
 ghost use Rattle.ipc_stream.specs.Dictionaries.{SendsBatch, kept_after};
 ghost use Rattle.ipc_stream.specs.Writer.{Starts, StartFails};
-ghost use Rattle.ipc_stream.specs.Pushed.{HoldsBatch, no_rows};
 ghost use Rattle.ipc_stream.specs.Writing.{AcceptsBatch, CutShort};
 ghost use Rattle.ipc_stream.specs.Writing.{RefusesBatch, Sends, Sent};
 ghost use Rattle.ipc_rewrite.specs.declared.stop.Stop.TheVariants.{Write};
@@ -20,56 +19,15 @@ ghost use Rattle.ipc_rewrite.specs.Rewriting.{AnswersTable, CopiesBatches, Rewri
 ghost use Rattle.ipc_rewrite.specs.Rewriting.{TellsFailures};
 
 use crate::limits::raised;
-use crate::rows::{columns_of, read_row};
 use crate::stop::Stop;
-use ipc_model::{Fault, Items, Limits, Schema, Text, Value, WriteFault};
-use ipc_stream::{
-    Batch, BatchWriter, End, Progress, Seed, Sink, Source, StreamReader, StreamWriter,
-};
+use ipc_model::{Fault, Items, Limits, Schema, Text, WriteFault};
+use ipc_stream::{Batch, End, Progress, Seed, Sink, Source, StreamReader, StreamWriter};
 use std::alloc::Global;
-
-// Pushes the rows of a batch: all at once straight from its columns, where these are plain, or else
-// each from the values of one kept row. The columns are found before the first.
-fn push_rows<W: Sink>(
-    alloc: Global,
-    batch: &Batch,
-    row: &mut Vec<Value>,
-    rows: &mut BatchWriter<'_, W>,
-) -> Result<(), WriteFault>
-    requires works { rows.old.writer.now.failed ≡ false }
-    ensures same_reference { rows.new.writer.ghost_name ≡ rows.old.writer.ghost_name }
-    ensures written { rows.new.writer.now.written ≡ rows.old.writer.now.written }
-    ensures failures { rows.new.writer.now.failures ≡ rows.old.writer.now.failures }
-    ensures same { OnOk result (rows.new.writer.now ≡ rows.old.writer.now) }
-    ensures judged { (pairs : List (List ℕ × List ℕ))
-        → HoldsBatch rows.old.writer.now.limits rows.old.writer.now.schema (no_rows pairs)
-        rows.old.batch
-        → MatchResult result
-        (λ _. HoldsBatch rows.old.writer.now.limits rows.old.writer.now.schema
-        (record { pairs = pairs; rows = batch.now.rows }) rows.new.batch)
-        (λ fault. ¬ (fault ≡ WriteFault.Write)
-        × RefusesBatch rows.old.writer.now.limits rows.old.writer.now.schema
-        (record { pairs = pairs; rows = batch.now.rows }) fault) }
-{
-    if rows.push_columns(batch)? {
-        return Ok(());
-    }
-    let columns = columns_of(alloc, batch)?;
-    for at in 0..batch.rows() {
-        let Ok(()) = read_row(alloc, batch, &columns, at, row) else {
-            return Err(WriteFault::OutOfMemory);
-        };
-        rows.push(row.as_slice())?;
-    }
-    Ok(())
-}
 
 // Writes the rows of a batch, with these pairs.
 fn copy_batch<W: Sink>(
-    alloc: Global,
     batch: &Batch,
     pairs: Items<(Text, Text)>,
-    row: &mut Vec<Value>,
     writer: &mut StreamWriter<W>,
 ) -> Result<(), WriteFault>
     requires works { writer.old.failed ≡ false }
@@ -87,9 +45,7 @@ fn copy_batch<W: Sink>(
         writer.old.kept (rows_of (batch.now, pairs) ∷ [])) }
     ensures works { OnOk result (writer.new.failed ≡ false) }
 {
-    let mut rows = writer.batch(pairs)?;
-    push_rows(alloc, batch, row, &mut rows)?;
-    rows.send()
+    writer.write_columns(batch, pairs)
 }
 
 // The end of a stream that was read, or F4 if it is not the mark that is required.
@@ -111,7 +67,6 @@ fn check_end(end: End, require_mark: bool) -> Result<End, Fault>
 // is not the mark that is required.
 #[tactic(auto, using(crate::proofs::Batches::copied_none, crate::proofs::Batches::copied_more))]
 fn copy_batches<R: Source, W: Sink, P: Progress>(
-    alloc: Global,
     require_mark: bool,
     stream: &mut StreamReader<R>,
     writer: &mut StreamWriter<W>,
@@ -131,13 +86,12 @@ fn copy_batches<R: Source, W: Sink, P: Progress>(
         → ReportsBatches limits start stream.new.remaining (P.told progress.old)
         (P.told progress.new) result }
 {
-    let mut row = Vec::new(alloc);
     let mut batches: u64 = 0;
     let mut rows: u64 = 0;
     loop {
         match stream.next() {
             Ok(Some((batch, pairs))) => {
-                copy_batch(alloc, &batch, pairs, &mut row, writer)?;
+                copy_batch(&batch, pairs, writer)?;
                 batches = batches.saturating_add(1);
                 rows = rows.saturating_add(batch.rows() as u64);
                 progress.batch_done(stream.taken(), batches, rows);
@@ -212,7 +166,7 @@ fn copy_stream<R: Source, W: Sink, P: Progress>(
         Ok(writer) => writer,
         Err((fault, sink)) => return (Err(Stop::Write(fault)), sink),
     };
-    match copy_batches(alloc, require_mark, stream, &mut writer, progress) {
+    match copy_batches(require_mark, stream, &mut writer, progress) {
         Ok(()) => end_stream(writer),
         Err(stop) => (Err(stop), writer.into_inner()),
     }
@@ -234,7 +188,7 @@ fn copy_stream<R: Source, W: Sink, P: Progress>(
 ///   the number of the message. The schema's message has number 0.
 /// - `Stop::Write`: what was read is refused, as in `StreamWriter`, with W1 to W9 or W11. A null in
 ///   a field that is not nullable is read, and refused with W5. W11 also comes if memory for the
-///   rows of a batch ran out.
+///   values of a batch ran out.
 pub fn rewrite<R: Source, W: Sink, P: Progress>(
     alloc: Global,
     limits: Limits,

@@ -4,7 +4,6 @@
 
 mod copying;
 mod limits;
-mod rows;
 mod stop;
 
 pub use copying::{rewrite, rewrite_with_seed};

@@ -16,19 +16,22 @@ use Rattle.ipc_column.specs.Dictionaries.{Dictionaries}
 use Rattle.ipc_column.specs.Rows.{HasCounts}
 use Rattle.ipc_column.specs.Shapes.{shape_of}
 use Rattle.ipc_encode.specs.declared.parts.Parts.{Parts}
+use Rattle.ipc_encode.specs.declared.segments.SegmentedParts.{SegmentedParts}
+use Rattle.ipc_encode.specs.Segments.{AreSegmented}
 use Rattle.ipc_encode.specs.Buffers.{AreLaidOut, columns, row_buffers_with}
 use Rattle.ipc_encode.specs.CountedColumns.{as_rows}
 use Rattle.ipc_encode.specs.Indices.{FindsRows}
-use Rattle.ipc_encode.specs.Numbers.{Numbering, renumbered, told}
+use Rattle.ipc_encode.specs.Numbers.{Numbering}
 use Rattle.ipc_encode.proofs.Cutting.{buffers_length, nodes_length}
 use Rattle.ipc_encode.proofs.Ranges.{ranges_length}
+use Rattle.ipc_dictionaries.specs.InForce.{at}
 use Rattle.ipc_dictionaries.specs.ValuesColumns.{columns_for, columns_in}
 use Rattle.ipc_dict.specs.declared.entry.TallyEntry.{TallyEntry}
 use Rattle.ipc_dict.specs.declared.kept.KeptEntry.{KeptEntry}
 use Rattle.ipc_dict.specs.Distinct.{is_seen, seen, seen_all}
-use Rattle.ipc_dict.specs.Noting.{AllFit, noted_place, of_id}
+use Rattle.ipc_dict.specs.Noting.{AllFit, of_id}
 use Rattle.ipc_dict.specs.Pairs.{rows_pairs}
-use Rattle.ipc_dict.specs.Planning.{AllSettled, FindsNoted, number, sends_of, sent_for}
+use Rattle.ipc_dict.specs.Planning.{AllSettled, after_all, sends_of, sent_for}
 use Rattle.ipc_dict.specs.SchemaIds.{ids_of, kept_ids, tally_ids, unused}
 use Rattle.ipc_dict.specs.Sending.{AreCounted, batch_values, sent_after, tallied}
 use Rattle.ipc_dict.specs.Within.{AllShort, AllWithin, dictionary_room_of}
@@ -43,7 +46,6 @@ use Rattle.ipc_stream.specs.Messages.{SetDictionaries, SetsDictionary, all_bytes
 use Rattle.ipc_stream.specs.OpenStreams.{CanBeSent}
 use Rattle.ipc_stream.specs.Parts.{TellsRows, head_of}
 use Rattle.ipc_stream.proofs.InForce.{sent_run}
-use Rattle.ipc_stream.proofs.PlanFinds.{plan_finds}
 
 -- ---- lists
 
@@ -170,23 +172,25 @@ short_tallied limits fields rows h = short_same limits fields (unused fields) (t
 
 -- ---- all messages
 
-module _ (limits : Limits) (s : Schema) (b : BatchRows) (kept : List KeptEntry) (os : List (Option (List ℕ))) (ms : List Message)
-    (m : Message) where
-  -- what the plan's numbers find, where this is in force
+module _ (limits : Limits) (s : Schema) (b : BatchRows) (kept : List KeptEntry) (os : List (Option (List ℕ))) (known : Numbering)
+    (ms : List Message) (own : List ℕ) where
+  -- what the indices find, where this is in force
   abbrev Tells : Type 0
-  Tells = (ds : Dictionaries)
-      → FindsRows ds (renumbered (number (tallied s.fields b.rows) os) (told (noted_place (tallied s.fields b.rows)))) s.fields b.rows
-      → TellsRows limits ds s b m
+  Tells = (ds : Dictionaries) → FindsRows ds known s.fields b.rows → TellsRows limits ds s b own
+
+  -- the indices find their values in what is in force once the batch was sent
+  abbrev pub FindsSent : Type 0
+  FindsSent = (ds : Dictionaries) → ((id : ℤ) → at ds id ≡ sent_for (after_all kept (tallied s.fields b.rows) os) id)
+      → AreCounted s.fields (after_all kept (tallied s.fields b.rows) os) → FindsRows ds known s.fields b.rows
 
   -- the batch is told where its dictionaries are in force
-  tells_own : WellFormed limits s → AreCounted s.fields (sent_after s.fields b.rows kept) → kept_ids kept ≡ ids_of s.fields
-      → AllSettled kept (tallied s.fields b.rows) os → FindsNoted kept (tallied s.fields b.rows) os → Tells → (o : InForce)
-      → IsInForce s (sent_after s.fields b.rows kept) o → IsMessage limits (Some o) (bytes_of m) (batch b ∷ []) (Some o)
-  tells_own well counted ids settled finds tells o in_force =
+  tells_own : AreCounted s.fields (sent_after s.fields b.rows kept) → kept_ids kept ≡ ids_of s.fields
+      → AllSettled kept (tallied s.fields b.rows) os → FindsSent → Tells → (o : InForce)
+      → IsInForce s (sent_after s.fields b.rows kept) o → IsMessage limits (Some o) own (batch b ∷ []) (Some o)
+  tells_own counted ids settled finds tells o in_force =
       let after = sent_is s.fields b.rows kept os ids settled in
-      let found = plan_finds limits s b.rows kept os (values_in o.dictionaries) well
-      (λ id. in_force.values_are id ∙ ap (λ k. sent_for k id) (sym after))
-      (subst (AreCounted s.fields) (sym after) counted) finds in
+      let found = finds (values_in o.dictionaries) (λ id. in_force.values_are id ∙ ap (λ k. sent_for k id) (sym after))
+      (subst (AreCounted s.fields) (sym after) counted) in
       tells (values_in o.dictionaries) found o in_force.schema_is refl
 
   -- the messages of its dictionaries bring it there
@@ -211,33 +215,32 @@ module _ (limits : Limits) (s : Schema) (b : BatchRows) (kept : List KeptEntry) 
   both_told : ((o : InForce) → IsInForce s kept o
       → (τ : InForce) × (IsInForce s (sent_after s.fields b.rows kept) τ × Run limits (Some o) (all_bytes ms) [] (Some τ)))
       → ((o : InForce) → IsInForce s (sent_after s.fields b.rows kept) o
-      → IsMessage limits (Some o) (bytes_of m) (batch b ∷ []) (Some o)) → TellsBatches limits s kept (b ∷ []) (all_bytes (ms ++ m ∷ []))
+      → IsMessage limits (Some o) own (batch b ∷ []) (Some o)) → TellsBatches limits s kept (b ∷ []) (all_bytes ms ++ own)
   both_told sets tells o in_force =
       let first = sets o in_force in
       let τ = first.0 in
-      let own = tells τ first.1.0 in (
+      let told = tells τ first.1.0 in (
         τ,
         (
           first.1.0,
-          subst (λ (x : List ℕ). Run limits (Some o) x (batch b ∷ []) (Some τ)) (sym (bytes_end ms m))
-              (run_then (Some o) (Some τ) (Some τ) (all_bytes ms) (bytes_of m) [] (batch b ∷ []) first.1.1 (run_one own.frame own.step)),
+          run_then (Some o) (Some τ) (Some τ) (all_bytes ms) own [] (batch b ∷ []) first.1.1 (run_one told.frame told.step),
         ),
       )
 
   -- the messages of a plan's dictionaries, and behind them one that tells the batch where they are in force
-  pub batch_sent : WellFormed limits s → AllFit (tallied s.fields b.rows) → AreCounted s.fields kept → kept_ids kept ≡ ids_of s.fields
-      → AllSettled kept (tallied s.fields b.rows) os → FindsNoted kept (tallied s.fields b.rows) os
-      → SetDictionaries limits s (sends_of (tallied s.fields b.rows) os) ms → Tells → SendsBatch limits s kept b (all_bytes (ms ++ m ∷ []))
-  batch_sent well fit counted ids settled finds sets tells =
-      let own = tells_own well (counted_after s.fields b.rows kept fit counted) ids settled finds tells in
+  pub batch_sent : AllFit (tallied s.fields b.rows) → AreCounted s.fields kept → kept_ids kept ≡ ids_of s.fields
+      → AllSettled kept (tallied s.fields b.rows) os → FindsSent
+      → SetDictionaries limits s (sends_of (tallied s.fields b.rows) os) ms → Tells → SendsBatch limits s kept b (all_bytes ms ++ own)
+  batch_sent fit counted ids settled finds sets tells =
+      let told = tells_own (counted_after s.fields b.rows kept fit counted) ids settled finds tells in
       record {
         dictionaries = all_bytes ms;
-        own = bytes_of m;
-        bytes = bytes_end ms m;
+        own = own;
+        bytes = refl;
         set = subst (λ sends. DictionaryMessages limits s sends (all_bytes ms)) (needed_is s.fields b.rows kept os ids settled)
             (set_messages limits s (sends_of (tallied s.fields b.rows) os) ms sets);
-        told = own;
-        in_turn = both_told (sets_first ids settled sets) own;
+        told = told;
+        in_turn = both_told (sets_first ids settled sets) told;
       }
 
 -- ---- parts
@@ -246,6 +249,15 @@ module _ (limits : Limits) (s : Schema) (b : BatchRows) (kept : List KeptEntry) 
 pub laid_counts : (indices : Numbering) (fields : List Field) (rows : List (List Value)) (count : ℕ) (parts : Parts)
     → AreLaidOut indices fields rows parts → HasCounts fields (head_of count parts)
 laid_counts indices fields rows count parts laid = record {
+  nodes = ap length laid.nodes ∙ nodes_length (shape_of fields) (columns rows);
+  buffers = ap length laid.buffers ∙ ranges_length (row_buffers_with indices fields rows) 0
+      ∙ buffers_length indices (shape_of fields) (columns rows);
+}
+
+-- so have parts whose body is a list of segments
+pub segmented_counts : (indices : Numbering) (fields : List Field) (rows : List (List Value)) (z : ℤ) (parts : SegmentedParts)
+    → AreSegmented indices fields rows parts → HasCounts fields (record { length = z; nodes = parts.nodes; buffers = parts.buffers })
+segmented_counts indices fields rows z parts laid = record {
   nodes = ap length laid.nodes ∙ nodes_length (shape_of fields) (columns rows);
   buffers = ap length laid.buffers ∙ ranges_length (row_buffers_with indices fields rows) 0
       ∙ buffers_length indices (shape_of fields) (columns rows);

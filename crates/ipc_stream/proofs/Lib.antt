@@ -11,6 +11,7 @@ pub mod WithinLimits
 pub mod HeldTallies
 mod HeldColumns
 pub mod BatchSent
+pub mod ColumnRefusals
 pub mod Chains
 pub mod OverLimit
 pub mod Beginnings

@@ -1,5 +1,6 @@
 -- How a device counts its failures.
-use Rattle.std.specs.Prelude.{ℕ, Bool, true, false, List, [], Option, Some, None}
+use Rattle.std.specs.Prelude.{◌≡◌, ℕ, Bool, true, false, List, [], Option, Some, None, Result}
+use Rattle.std.specs.Prelude.{MatchResult}
 pub use Rattle.ipc_frame.specs.Failures.{Counts}
 
 -- 1 if the flag is set, else the count of the device below
@@ -11,3 +12,8 @@ count_or false below = below
 abbrev pub none_if : Bool → Option (List ℕ)
 none_if true = Some []
 none_if false = None
+
+-- a call that may need no call of the device: it succeeds if none failed in it, and a failed call
+-- sets the count to 1
+abbrev pub CountsAny : {T E : Type 0} → ℕ → ℕ → Result T E → Type 0
+CountsAny old new r = MatchResult r (λ _. new ≡ old) (λ _. new ≡ 1)

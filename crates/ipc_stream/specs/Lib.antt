@@ -8,5 +8,4 @@ pub mod Parts
 pub mod Messages
 pub mod Pushed
 pub mod RoundTrip
-pub mod PushedColumns
 pub mod Progress

@@ -10,19 +10,18 @@ use Rattle.ipc_model.specs.declared.table.BatchRows.{BatchRows}
 use Rattle.ipc_column.specs.Dictionaries.{Dictionaries}
 use Rattle.ipc_encode.specs.declared.parts.Parts.{Parts}
 use Rattle.ipc_decode.specs.Stream.{InForce, IsMessage, batch, values_in}
-use Rattle.ipc_stream.specs.Messages.{bytes_of}
 use Rattle.ipc_stream.specs.Writing.{batch_room_of}
-use Rattle.ipc_stream.specs.declared.message.Message.{Message}
 
 -- the head of a batch with `count` rows and these parts
 abbrev pub head_of : ℕ → Parts → BatchHead
 head_of count parts =
     record { length = pos count; nodes = parts.nodes; buffers = parts.buffers }
 
--- a message reports this batch if these dictionaries are in force, and leaves what is in force
-abbrev pub TellsRows : Limits → Dictionaries → Schema → BatchRows → Message → Type 0
-TellsRows limits m s b message = (o : InForce) → o.schema ≡ s → values_in o.dictionaries ≡ m
-    → IsMessage limits (Some o) (bytes_of message) (batch b ∷ []) (Some o)
+-- x is a message that reports this batch if these dictionaries are in force, and leaves what is in
+-- force
+abbrev pub TellsRows : Limits → Dictionaries → Schema → BatchRows → List ℕ → Type 0
+TellsRows limits m s b x = (o : InForce) → o.schema ≡ s → values_in o.dictionaries ≡ m
+    → IsMessage limits (Some o) x (batch b ∷ []) (Some o)
 
 -- the metadata of a batch with these pairs is within the limits, and so are the pairs
 pub record AcceptsPairs (limits : Limits) (s : Schema) (pairs : List (List ℕ × List ℕ)) :

@@ -80,7 +80,7 @@ fn add_dictionary(
 }
 
 // The messages of dictionaries, in their order.
-fn dictionary_messages(
+pub(crate) fn dictionary_messages(
     alloc: Global,
     limits: &Limits,
     columns: &Dictionaries,

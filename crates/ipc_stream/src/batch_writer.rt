@@ -4,7 +4,6 @@ ghost use Rattle.ipc_model.specs.contracts.limits.Limits as bounds;
 ghost use Rattle.ipc_model.specs.declared.table.BatchRows.{BatchRows};
 ghost use Rattle.ipc_stream.specs.Pushed.{HoldsBatch, RefusesHeld, Stays, StaysAt};
 ghost use Rattle.ipc_stream.specs.Pushed.{coded_fields, no_rows, with_row};
-ghost use Rattle.ipc_stream.specs.PushedColumns.{HoldsColumns, RefusesColumns};
 ghost use Rattle.ipc_stream.specs.Writer.{LeavesBatch};
 ghost use Rattle.ipc_stream.specs.Writing.{AcceptsBatch, RefusesBatch};
 
@@ -12,7 +11,6 @@ use crate::held::Held;
 use crate::pushed::PushedRows;
 use crate::sink::Sink;
 use crate::writer::StreamWriter;
-use ipc_column::Batch;
 use ipc_model::{Items, Text, Value, WriteFault};
 
 /// A batch of a `StreamWriter` whose rows are pushed one by one (Arrow Columnar Format,
@@ -109,39 +107,6 @@ impl<W: Sink> BatchWriter<'_, W> {
         ensures failed { self.old.writer.now.failed ≡ true → result ≡ Err WriteFault.Failed }
     {
         self.writer.push_row(&mut self.batch, row)
-    }
-
-    /// Adds all rows of a batch that was read, column by column, without making a value for each
-    /// cell. Returns true if it took all rows, and false if it took none. After false, push the
-    /// rows one by one: `push` takes each row or returns why it refuses it.
-    ///
-    /// It may return false for any batch; no contract says when. The implementation returns true
-    /// if:
-    ///
-    /// - each column stores numbers, booleans, dates in days, texts or bytes of its field's type,
-    ///   or indices;
-    /// - indices have their field's index type, into a dictionary of such values;
-    /// - a column whose field is not nullable has no null;
-    /// - each list and struct consists of such columns, and each child has exactly the slots that
-    ///   its parent refers to, in order: the first list begins at slot 0, null lists are empty, and
-    ///   a child of a struct is null where the struct is;
-    /// - each dictionary belongs to one field of the schema, which is no child of another field;
-    /// - an upper bound of all lengths is within the limits.
-    ///
-    /// Errors: W10 after W9 or W11; W11 if memory ran out.
-    pub fn push_columns(&mut self, batch: &Batch) -> Result<bool, WriteFault>
-        ensures same_reference { self.new.writer.ghost_name ≡ self.old.writer.ghost_name }
-        ensures stays { Stays self.old.writer.now self.new.writer.now result }
-        // At true the batch has all rows more, at false it is as it was.
-        ensures judged { (b : BatchRows)
-            → HoldsBatch self.old.writer.now.limits self.old.writer.now.schema b self.old.batch
-            → MatchResult result
-            (HoldsColumns self.old.writer.now.limits self.old.writer.now.schema b batch.now.rows
-            self.new.batch)
-            (RefusesColumns self.old.writer.now.failed) }
-        ensures failed { self.old.writer.now.failed ≡ true → result ≡ Err WriteFault.Failed }
-    {
-        self.writer.push_columns(&mut self.batch, batch)
     }
 
     /// Sends the message of the batch with the pushed rows, after the messages of the dictionaries

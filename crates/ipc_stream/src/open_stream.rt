@@ -5,15 +5,15 @@ ghost use Rattle.ipc_dict.specs.Sending.{AreCounted, sent_after};
 ghost use Rattle.ipc_decode.specs.Stream.{OpensStream};
 ghost use Rattle.ipc_stream.specs.Dictionaries.{SendsBatch, none_sent};
 ghost use Rattle.ipc_stream.specs.Pushed.{BelongsTo, HoldsBatch, RefusesHeld, StaysInStream};
-ghost use Rattle.ipc_stream.specs.Pushed.{no_rows, with_row};
-ghost use Rattle.ipc_stream.specs.PushedColumns.{HoldsColumns, RefusesColumns};
+ghost use Rattle.ipc_stream.specs.Pushed.{no_rows, with_row, with_rows};
 ghost use Rattle.ipc_stream.specs.Writing.{AcceptsBatch, AcceptsSchema, RefusesBatch};
 ghost use Rattle.ipc_stream.specs.Writing.{RefusesSchema, Sends};
 
 use crate::batch_messages::held_messages;
+use crate::column_messages::column_messages;
 use crate::messages::schema_message;
 use crate::pushed::PushedRows;
-use crate::sending::{send, send_messages};
+use crate::sending::{send, send_messages, send_segmented};
 use crate::sink::Sink;
 use ipc_column::Batch;
 use ipc_dict::{Dictionaries, Kept, Seed, has_short_messages};
@@ -33,8 +33,10 @@ pub(crate) struct OpenStream {
     columns: Dictionaries,
     // What was sent of each dictionary.
     kept: Kept,
-    // The lists of the last batch that was sent, for those of the next.
+    // The lists of the last batch whose rows were sent, for those of the next.
     room: Room,
+    // The lists of the last batch whose columns were sent, for those of the next.
+    pool: Vec<Vec<u8>>,
     // What the values of its dictionaries are hashed with.
     seed: Seed,
     alloc: Global,
@@ -104,6 +106,7 @@ impl OpenStream {
             columns,
             kept,
             room: Room::new(alloc),
+            pool: Vec::new(alloc),
             seed: Seed::Fixed,
             alloc,
         };
@@ -152,23 +155,6 @@ impl OpenStream {
             → HoldsBatch self.now.limits self.now.schema b held.new) }
     {
         held.push(&self.schema, row)
-    }
-
-    // Takes all rows of a batch that was read into one of this stream's, and says whether it did.
-    // Nothing is sent.
-    pub(crate) fn push_columns(
-        &self,
-        held: &mut PushedRows,
-        batch: &Batch,
-    ) -> Result<bool, WriteFault>
-        ensures stays { StaysInStream held.old held.new }
-        ensures holds { (b : BatchRows) → HoldsBatch self.now.limits self.now.schema b held.old
-            → IfOk result
-            (HoldsColumns self.now.limits self.now.schema b batch.now.rows held.new) }
-        ensures refused { (b : BatchRows) → HoldsBatch self.now.limits self.now.schema b held.old
-            → IfErr result (RefusesColumns false) }
-    {
-        held.push_columns(&self.schema, batch)
     }
 
     // Sends the messages of a batch whose rows were pushed: those of the dictionaries that it
@@ -229,5 +215,49 @@ impl OpenStream {
         let mut held = self.begin_batch(batch.pairs.clone()?)?;
         held.push_all(&self.schema, batch.rows.as_slice())?;
         self.send_rows(sink, held)
+    }
+    // Sends the messages of a batch that was read, with these pairs: those of the dictionaries that
+    // it needs, and its own. All messages are complete before the first is sent.
+    pub(crate) fn send_columns<W: Sink>(
+        &mut self,
+        sink: &mut W,
+        batch: &Batch,
+        pairs: &Items<(Text, Text)>,
+    ) -> Result<(), WriteFault>
+        ensures sends { Sends (SendsBatch self.old.limits self.old.schema self.old.kept
+            (with_rows pairs.now batch.now.rows))
+            (W.written sink.old) (W.written sink.new) (W.failures sink.old)
+            (W.failures sink.new) result }
+        ensures sent { OnOk result (self.new ≡ record self.old {
+          kept = sent_after self.old.schema.fields batch.now.rows self.old.kept;
+        }) }
+        ensures counted { OnOk result (AreCounted self.new.schema.fields self.new.kept) }
+        ensures err { OnErr result (self.new ≡ self.old) }
+        ensures judged { MatchResult result
+            (λ _. AcceptsBatch self.old.limits self.old.schema
+            (with_rows pairs.now batch.now.rows))
+            (λ fault. RefusesBatch self.old.limits self.old.schema
+            (with_rows pairs.now batch.now.rows) fault) }
+    {
+        let (messages, plan) = column_messages(
+            self.alloc,
+            &self.limits,
+            &self.schema,
+            &self.columns,
+            &self.kept,
+            self.seed,
+            &mut self.pool,
+            batch,
+            pairs,
+        )?;
+        send_segmented(
+            sink,
+            messages.dictionaries.as_slice(),
+            messages.front.as_slice(),
+            messages.segments.as_slice(),
+        )?;
+        plan.commit(&mut self.kept);
+        messages.give_back(&mut self.pool);
+        Ok(())
     }
 }

@@ -1,4 +1,4 @@
-//! Batches that were read and go to another stream column by column.
+//! Batches that were read and are written to another stream by `write_columns`.
 
 use crate::nested_columns::{add_nested_rows, add_pair, nested_schema, pairs_schema};
 use crate::scripts::{ended, started};
@@ -138,32 +138,33 @@ fn batch_of(alloc: Global, stream: Vec<u8>) -> Result<Batch, Fault> {
     next_batch(&mut StreamReader::open(alloc, Limits::standard(), source)?)
 }
 
-// Sends a batch, and says whether all rows of another one were taken into it at once.
-fn take_batch(
+// The result of sending a batch to a stream of this schema, by its columns or by its rows, and the
+// stream's bytes.
+fn sent(
     alloc: Global,
-    writer: &mut StreamWriter<Memory>,
+    schema: &Schema,
     batch: &Batch,
-) -> Result<bool, WriteFault> {
-    let mut rows = writer.batch(Items::new(alloc))?;
-    let taken = rows.push_columns(batch)?;
-    rows.send()?;
-    Ok(taken)
-}
-
-// Whether all rows of a batch were taken at once into a stream of this schema, and its bytes.
-fn copied(alloc: Global, schema: &Schema, batch: &Batch) -> Result<(bool, Vec<u8>), WriteFault> {
+    by_columns: bool,
+) -> Result<(Result<(), WriteFault>, Vec<u8>), Fail> {
     let mut writer = started(alloc, schema)?;
-    let taken = take_batch(alloc, &mut writer, batch)?;
-    Ok((taken, ended(writer)?))
+    let pairs = Items::new(alloc);
+    let result = if by_columns {
+        writer.write_columns(batch, pairs)
+    } else {
+        let rows = batch.to_rows(alloc)?;
+        writer.write_batch(&BatchRows { pairs, rows })
+    };
+    Ok((result, ended(writer)?))
 }
 
-// Whether a batch is taken at once into a stream of another schema, or isn't, as it should be. Then
-// it is sent, or a batch of no rows is.
+// Whether the columns of a batch are sent to a stream of another schema exactly as its rows are, or
+// refused as these are, and which of the two.
 fn is_copied(alloc: Global, from: Given, to: Given, is_taken: bool) -> Result<bool, Fail> {
     let batch = batch_of(alloc, from.stream(alloc, false)?)?;
-    let (taken, copy) = copied(alloc, &to.schema(alloc)?, &batch)?;
-    let wanted = to.stream(alloc, !is_taken)?;
-    Ok(taken == is_taken && copy.as_slice() == wanted.as_slice())
+    let schema = to.schema(alloc)?;
+    let (columns, copy) = sent(alloc, &schema, &batch, true)?;
+    let (rows, wanted) = sent(alloc, &schema, &batch, false)?;
+    Ok(columns.is_ok() == is_taken && columns == rows && copy.as_slice() == wanted.as_slice())
 }
 
 const LETTERS: Given = Given::Numbers(Column::Letters, &[Some(0x62), None, Some(0x61), Some(0x62)]);
@@ -179,14 +180,13 @@ const CASES: [(Given, Given, bool); 8] = [
         Given::Numbers(Column::Bytes, &[]),
         false,
     ),
-    // Columns of dictionaries, but not two of one dictionary.
+    // Columns of dictionaries, and two of one dictionary.
     (LETTERS, LETTERS, true),
-    (LETTER_PAIRS, LETTER_PAIRS, false),
-    // A required part is null where its struct is, and is taken with it. One that is null in a
-    // struct that is not isn't taken, nor are lists of a fixed size.
+    (LETTER_PAIRS, LETTER_PAIRS, true),
+    // A required part may be null where its struct is, and nowhere else.
     (Given::Nested(true), Given::Nested(true), true),
     (Given::Nested(false), Given::Nested(true), false),
-    (Given::Pairs, Given::Pairs, false),
+    (Given::Pairs, Given::Pairs, true),
 ];
 
 #[test]

@@ -4,7 +4,7 @@ use Rattle.ipc_dict.specs.EntryColumns.{AreEntriesCounted}
 use Rattle.ipc_dict.specs.Noting.{AllFit, cut}
 use Rattle.ipc_dict.specs.SchemaIds.{tally_bounds, tally_ids}
 use Rattle.ipc_dict.proofs.Notes.{cut_back}
-use Rattle.ipc_dict.proofs.tally.note_batch.Goals as goal
+use Rattle.ipc_dict.proofs.tally.add_batch.Goals as goal
 
 back : (c : goal.After-entries-in-Err-1) → c.restore.new.entries ≡ c.args.entries.now
 back c = c.restore.ensures ∙ ap (λ ms. cut ms c.count_batch.new.entries) c.mark.ensures

@@ -21,7 +21,8 @@ loop-number-preserved c =
     let i = c.loop-number.number in
     let inside : i < length rows = omega (arith, c.loop-number-test.true, c.rows-number-end.ensures) in
     let is = c.as_slice-in-loop-number.ensures.value ∙ c.in-Ok.ensures.values in
-    first_more c.args.schema.now.fields rows i c.as_slice-in-loop-number.result.now inside is c.loop-number.invariant c.in_ok-check_row.ensures.fit
+    first_more c.args.schema.now.fields rows i c.as_slice-in-loop-number.result.now inside is c.loop-number.invariant
+    c.in_ok-check_row.ensures.fit
 
 pub returns-in_err-check_row-clause-misfit : goal.returns-in_err-check_row-clause-misfit
 returns-in_err-check_row-clause-misfit c =

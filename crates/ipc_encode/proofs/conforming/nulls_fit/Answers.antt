@@ -6,4 +6,5 @@ returns-in-None c = λ yes i m valid null. absurd (true≢false (sym (c.has_no_n
 
 pub returns-in-Some : goal.returns-in-Some
 returns-in-Some c = λ yes i m valid null.
-    absurd (true≢false (sym (c.in-Some.ensures.marks.each i m ∙ c.valid_are_among.ensures yes i (omega (arith, m, c.len.ensures)) valid) ∙ null))
+    absurd (true≢false (sym (c.in-Some.ensures.marks.each i m
+    ∙ c.valid_are_among.ensures yes i (omega (arith, m, c.len.ensures)) valid) ∙ null))

@@ -18,5 +18,6 @@ returns-in-Some-clause-shown c = λ alike.
     let laid = c.is_indexed.ensures c.if-not-is_indexed.false in
     let same = c.lie_alike-in-Some.ensures alike ∙ c.layout_of-layout.ensures in
     let own = subst (λ (l : Layout). AllByRecursion (IsShownBy l) c.args.view.now.column.dictionary) same
-    (subst (λ (vs : List Value). AllByRecursion (IsShownBy c.layout-in-Some.result) vs) c.in-Some.ensures.values c.layout-in-Some.ensures.values) in
+    (subst (λ (vs : List Value). AllByRecursion (IsShownBy c.layout-in-Some.result) vs) c.in-Some.ensures.values
+    c.layout-in-Some.ensures.values) in
     indexed_shown c.args.view.now (type_layout c.args.kind.now) laid.0 laid.1.0 laid.1.1.0 (sym c.layout-2.ensures.layout ∙ laid.1.1.1) own

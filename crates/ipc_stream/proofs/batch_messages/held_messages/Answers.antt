@@ -23,11 +23,12 @@ use Rattle.ipc_dict.specs.Tallied.{Tallied}
 use Rattle.ipc_dict.proofs.Sending.{sent_is, tallied_ids}
 use Rattle.ipc_stream.specs.OpenStreams.{CanBeSent, IsGoingOn}
 use Rattle.ipc_stream.specs.Dictionaries.{SendsBatch}
-use Rattle.ipc_stream.specs.Messages.{SetDictionaries, all_bytes}
+use Rattle.ipc_stream.specs.Messages.{SetDictionaries, all_bytes, bytes_of}
 use Rattle.ipc_stream.specs.Parts.{RefusesPairs, TellsRows, head_of}
 use Rattle.ipc_stream.specs.declared.message.Message.{Message}
 use Rattle.ipc_stream.specs.Writing.{AcceptsBatch}
-use Rattle.ipc_stream.proofs.BatchSent.{batch_sent, laid_counts, plan_can, short_tallied}
+use Rattle.ipc_stream.proofs.BatchSent.{batch_sent, bytes_end, laid_counts, plan_can, short_tallied}
+use Rattle.ipc_stream.proofs.PlanFinds.{plan_finds}
 use Rattle.ipc_stream.proofs.HeldRows.{accepted_pairs}
 use Rattle.ipc_stream.proofs.batch_messages.held_messages.Goals as goal
 
@@ -102,17 +103,21 @@ returns-clause-messages c = λ s b going h.
     let set = subst (λ (sends : List (ℤ × List (List Value))). SetDictionaries limits s sends c.in_ok-messages.messages.items)
     (c.sends.ensures ∙ ap (λ xs. sends_of xs os) same) (c.in_ok-messages.ensures.set s going.columns_are can) in
     let count : c.row_count-count.result ≡ length b.rows = c.row_count-count.ensures known limits s.fields b.rows h.rows in
-    let tells : (ds : Dictionaries) → FindsRows ds (renumbered (number (tallied s.fields b.rows) os) known) s.fields b.rows
-    → TellsRows limits ds s b c.in_ok-message.message = λ ds found.
+    let numbered = renumbered (number (tallied s.fields b.rows) os) known in
+    let tells : (ds : Dictionaries) → FindsRows ds numbered s.fields b.rows
+    → TellsRows limits ds s b (bytes_of c.in_ok-message.message) = λ ds found.
     let here = subst (λ (xs : List TallyEntry). FindsRows ds (renumbered (number xs os) known) s.fields b.rows) (sym same) found in
     let rows = c.in_ok-parts.ensures.rows known limits s.fields b.rows ds h.rows going.well_formed.each h.accepted.fit here in
-    let numbered = subst (λ (n : ℕ). Rows limits ds s.fields (head_of n c.in_ok-parts.parts) c.in_ok-parts.parts.body.items b.rows)
+    let counted = subst (λ (n : ℕ). Rows limits ds s.fields (head_of n c.in_ok-parts.parts) c.in_ok-parts.parts.body.items b.rows)
     (sym count) rows in
-    subst (λ (ps : List (List ℕ × List ℕ)). TellsRows limits ds s (record { pairs = ps; rows = b.rows }) c.in_ok-message.message) h.pairs
-    (c.in_ok-message.ensures.message ds s b.rows numbered) in
-    subst (λ (ms : List Message). SendsBatch limits s c.args.kept.now b (all_bytes ms)) (sym c.in_ok-push.ensures.items)
-    (batch_sent limits s b c.args.kept.now os c.in_ok-messages.messages.items c.in_ok-message.message going.well_formed
-    h.accepted.within.dictionaries.counted going.counted going.ids settled finds set tells)
+    subst (λ (ps : List (List ℕ × List ℕ)). TellsRows limits ds s (record { pairs = ps; rows = b.rows })
+    (bytes_of c.in_ok-message.message)) h.pairs
+    (c.in_ok-message.ensures.message ds s b.rows counted) in
+    let sent = batch_sent limits s b c.args.kept.now os numbered c.in_ok-messages.messages.items (bytes_of c.in_ok-message.message)
+    h.accepted.within.dictionaries.counted going.counted going.ids settled
+    (λ ds values counts. plan_finds limits s b.rows c.args.kept.now os ds going.well_formed values counts finds) set tells in
+    subst (λ (x : List ℕ). SendsBatch limits s c.args.kept.now b x)
+    (sym (ap all_bytes c.in_ok-push.ensures.items ∙ bytes_end c.in_ok-messages.messages.items c.in_ok-message.message)) sent
 
 pub returns-clause-sent : goal.returns-clause-sent
 returns-clause-sent c = λ s b going h.

@@ -1,0 +1,46 @@
+use Rattle.std.proofs.Common.{◌≡◌, ◌∙◌, ◌++◌, sym, ap, subst, ℕ, List}
+use Rattle.std.proofs.lemmas.Result.{err_from_is_err_and}
+use Rattle.ipc_encode.specs.declared.segments.Segment.{Segment}
+use Rattle.ipc_encode.specs.Segments.{joined}
+use Rattle.ipc_stream.specs.declared.message.Message.{Message}
+use Rattle.ipc_stream.specs.Dictionaries.{SendsBatch}
+use Rattle.ipc_stream.specs.Messages.{all_bytes}
+use Rattle.ipc_stream.specs.Pushed.{with_rows}
+use Rattle.ipc_stream.proofs.SentBytes.{whole_cut, whole_sent}
+use Rattle.ipc_stream.proofs.open_stream.OpenStream.send_columns.Goals as goal
+
+-- the bytes of equal lists
+bytes : (ms ns : List Message) (f g : List ℕ) (ss ts : List Segment) → ms ≡ ns → f ≡ g → ss ≡ ts
+    → all_bytes ms ++ (f ++ joined ss) ≡ all_bytes ns ++ (g ++ joined ts)
+bytes ms ns f g ss ts p q r i = all_bytes (p i) ++ (q i ++ joined (r i))
+
+pub returns-in_err-send_segmented-clause-sends : goal.returns-in_err-send_segmented-clause-sends
+returns-in_err-send_segmented-clause-sends g c = rw (← c.self.view_is) (
+    let p = err_from_is_err_and c.from_residual-in_err-send_segmented.result c.from_residual-in_err-send_segmented.ensures.1 in
+    rw (p.1, p.2, c.in_err-send_segmented.ensures.only)
+    (whole_cut (SendsBatch c.self.inside.limits c.self.inside.schema c.self.inside.kept
+    (with_rows c.args.pairs.now c.args.batch.now.rows)) _ _ _ _ _
+    c.in_ok-messages.ensures.messages (bytes _ _ _ _ _ _ c.as_slice.ensures.value c.as_slice-2.ensures.value c.as_slice-3.ensures.value)
+    c.in_err-send_segmented.ensures.err c.in_err-send_segmented.ensures.failures))
+
+pub returns-clause-sends : goal.returns-clause-sends
+returns-clause-sends g c = rw (← c.self.view_is) (
+    whole_sent (SendsBatch c.self.inside.limits c.self.inside.schema c.self.inside.kept
+    (with_rows c.args.pairs.now c.args.batch.now.rows)) _ _ _ _ _ _
+    c.in_ok-messages.ensures.messages (bytes _ _ _ _ _ _ c.as_slice.ensures.value c.as_slice-2.ensures.value c.as_slice-3.ensures.value)
+    c.in_ok-send_segmented.ensures.ok c.in_ok-send_segmented.ensures.failures)
+
+pub returns-clause-counted : goal.returns-clause-counted
+returns-clause-counted g c =
+    let ids = c.self.invariant.ids ∙ sym c.in_ok-messages.ensures.ids in
+    c.commit.ensures.counted c.self.inside.schema.fields ids c.in_ok-messages.ensures.addressed c.self.invariant.counted
+
+pub invariant_of-self : goal.invariant_of-self
+invariant_of-self g c =
+    let ids = c.self.invariant.ids ∙ sym c.in_ok-messages.ensures.ids in
+    record {
+      well_formed = c.self.invariant.well_formed;
+      columns_are = c.self.invariant.columns_are;
+      ids = c.commit.ensures.ids ∙ c.self.invariant.ids;
+      counted = c.commit.ensures.counted c.self.inside.schema.fields ids c.in_ok-messages.ensures.addressed c.self.invariant.counted;
+    }

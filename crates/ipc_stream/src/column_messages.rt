@@ -1,0 +1,130 @@
+//! Makes the messages of a batch that was read from its columns.
+ghost use Rattle.std.specs.Prelude.{◌≡◌, ◌<◌, ◌++◌, ℕ, List, length, IfErr, IfOk, MatchResult};
+ghost use Rattle.std.specs.List.{AllByRecursion};
+ghost use Rattle.ipc_model.specs.Fits.{RowFits};
+ghost use Rattle.ipc_dict.specs.Planning.{AllSettled, FindsAll};
+ghost use Rattle.ipc_dict.specs.SchemaIds.{ids_of, tally_ids};
+ghost use Rattle.ipc_dict.specs.Sending.{AreAddressed, sent_after, tallied};
+ghost use Rattle.ipc_encode.specs.Segments.{joined};
+ghost use Rattle.ipc_stream.specs.Dictionaries.{AreDictionariesWithin, SendsBatch};
+ghost use Rattle.ipc_stream.specs.Messages.{all_bytes};
+ghost use Rattle.ipc_stream.specs.OpenStreams.{IsGoingOn, Leads};
+ghost use Rattle.ipc_stream.specs.Pushed.{with_rows};
+ghost use Rattle.ipc_stream.specs.Writing.{AcceptsBatch, RefusesBatch};
+
+use crate::batch_messages::dictionary_messages;
+use crate::message::Message;
+use crate::messages::batch_front;
+use ipc_column::Batch;
+use ipc_dict::{Dictionaries, Kept, Plan, Seed, has_short_messages};
+use ipc_encode::{SameNumbers, Segment, SegmentedParts, check_rows, encode_columns};
+use ipc_model::{Items, Limits, Schema, Text, WriteFault};
+use std::alloc::Global;
+
+/// The messages of one batch, none of which is sent yet: those of the dictionaries that it needs,
+/// then its own, whose body is a list of segments (Arrow Columnar Format, "IPC Streaming Format").
+#[derive(Debug, Drop)]
+pub(crate) struct ColumnMessages<'a> {
+    /// The messages of dictionaries.
+    pub(crate) dictionaries: Vec<Message>,
+    /// The bytes of the batch's message before its body.
+    pub(crate) front: Vec<u8>,
+    /// The body of the batch's message.
+    pub(crate) segments: Vec<Segment<'a>>,
+}
+
+impl ColumnMessages<'_> {
+    // Adds the memory of its segments to lists for use by the next batch. Lists for which there is
+    // no room are dropped.
+    pub(crate) fn give_back(self, pool: &mut Vec<Vec<u8>>) {
+        let ColumnMessages {
+            dictionaries: _,
+            front: _,
+            segments,
+        } = self;
+        pool.clear();
+        for segment in segments {
+            if let Segment::Owned(bytes) = segment {
+                let _ = pool.push(bytes);
+            }
+        }
+    }
+}
+
+// Checks that the rows of a batch fit the schema, and plans what it does with each dictionary.
+fn plan_columns(
+    alloc: Global,
+    limits: &Limits,
+    schema: &Schema,
+    columns: &Dictionaries,
+    kept: &Kept,
+    seed: Seed,
+    batch: &Batch,
+) -> Result<Plan, WriteFault>
+    requires { IsGoingOn limits.now schema.now columns.now kept.now }
+    ensures fit { IfOk result
+        (λ plan. AllByRecursion (RowFits schema.now.fields) batch.now.rows) }
+    ensures within { IfOk result
+        (λ plan. AreDictionariesWithin limits.now schema.now.fields batch.now.rows) }
+    ensures tallied { IfOk result
+        (λ plan. plan.entries ≡ tallied schema.now.fields batch.now.rows) }
+    ensures settled { IfOk result (λ plan. AllSettled kept.now plan.entries plan.numbers) }
+    ensures finds { IfOk result (λ plan. FindsAll kept.now plan.entries plan.numbers) }
+    ensures ids { IfOk result (λ plan. tally_ids plan.entries ≡ ids_of schema.now.fields) }
+    ensures addressed { IfOk result (λ plan. AreAddressed schema.now.fields plan.entries) }
+    ensures refused { (pairs : List (List ℕ × List ℕ)) → IfErr result
+        (RefusesBatch limits.now schema.now (with_rows pairs batch.now.rows)) }
+    ensures only { IfErr result (λ fault. ¬ (fault ≡ WriteFault.Write)) }
+{
+    if !has_short_messages(alloc, limits, schema, columns)? {
+        return Err(WriteFault::TooLong);
+    }
+    check_rows(alloc, schema, batch)?;
+    Plan::for_columns(alloc, limits, schema, kept, seed, batch)
+}
+
+// The messages of a batch that was read, with these pairs, and what it does with each dictionary.
+// Segments that are encoded anew are in the memory of the lists in `pool` if there are any.
+pub(crate) fn column_messages<'a>(
+    alloc: Global,
+    limits: &Limits,
+    schema: &Schema,
+    columns: &Dictionaries,
+    kept: &Kept,
+    seed: Seed,
+    pool: &mut Vec<Vec<u8>>,
+    batch: &'a Batch,
+    pairs: &Items<(Text, Text)>,
+) -> Result<(ColumnMessages<'a>, Plan), WriteFault>
+    requires { IsGoingOn limits.now schema.now columns.now kept.now }
+    ensures messages { IfOk result (λ r. SendsBatch limits.now schema.now kept.now
+        (with_rows pairs.now batch.now.rows)
+        (all_bytes r.0.dictionaries.items ++ (r.0.front.items ++ joined r.0.segments.items))) }
+    ensures sent { IfOk result
+        (λ r. Leads kept.now (sent_after schema.now.fields batch.now.rows kept.now) r.1) }
+    ensures judged { MatchResult result
+        (λ r. AcceptsBatch limits.now schema.now (with_rows pairs.now batch.now.rows))
+        (RefusesBatch limits.now schema.now (with_rows pairs.now batch.now.rows)) }
+    ensures only { IfErr result (λ fault. ¬ (fault ≡ WriteFault.Write)) }
+    ensures some { IfOk result (λ r. 0 < length r.0.front.items) }
+    ensures ids { IfOk result (λ r. tally_ids r.1.entries ≡ ids_of schema.now.fields) }
+    ensures addressed { IfOk result (λ r. AreAddressed schema.now.fields r.1.entries) }
+{
+    let plan = plan_columns(alloc, limits, schema, columns, kept, seed, batch)?;
+    let fields = schema.fields.as_slice();
+    let parts = encode_columns(alloc, pool, limits, fields, batch, &plan, &SameNumbers)?;
+    let SegmentedParts {
+        nodes,
+        buffers,
+        segments,
+        len,
+    } = parts;
+    let front = batch_front(alloc, limits, pairs, batch.rows(), nodes, buffers, len)?;
+    let dictionaries = dictionary_messages(alloc, limits, columns, plan.sends())?;
+    let messages = ColumnMessages {
+        dictionaries,
+        front,
+        segments,
+    };
+    Ok((messages, plan))
+}
