@@ -184,6 +184,9 @@ impl fmt::Display for Report {
         if !self.same_table {
             f.write_str("read_table other\n")?;
         }
+        if !self.same_by_columns {
+            f.write_str("from columns other\n")?;
+        }
         match &self.round_trip {
             Some(trip) => write_round_trip(f, trip),
             None => Ok(()),

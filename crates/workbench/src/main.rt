@@ -12,12 +12,14 @@
 //!
 //! A line of `answer` may set limits after the stream, as in `, metadata 39, slots 3`. The answer
 //! has what the library reads in the stream, whether it reads the same when the bytes come in small
-//! pieces, pulled or pushed, and whether the rows come back when they are written.
+//! pieces, pulled or pushed, whether the rows come back when they are written, and whether they are
+//! written alike from columns.
 //! `cases/README.md` describes its lines.
 #![tactic(auto)]
 
 mod answer;
 mod cities;
+mod columns;
 mod cut;
 mod job;
 mod lines;

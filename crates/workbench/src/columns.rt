@@ -1,0 +1,79 @@
+//! Writes the batches of a stream from their columns and from their rows, and compares.
+use crate::request::Request;
+use ipc_model::{BatchRows, Fault, Items, Limits, Schema, Text, WriteFault};
+use ipc_stream::{Batch, Memory, Source, StreamReader, StreamWriter};
+use std::alloc::{AllocError, Global};
+
+// Two writers of one schema, and whether they answered alike so far.
+#[derive(Drop)]
+struct Writers {
+    by_columns: StreamWriter<Memory>,
+    by_rows: StreamWriter<Memory>,
+    same: bool,
+}
+
+fn started(alloc: Global, schema: &Schema) -> Result<StreamWriter<Memory>, WriteFault> {
+    let sink = Memory::new(Vec::new(alloc));
+    Ok(StreamWriter::start(alloc, Limits::standard(), sink, schema)?)
+}
+
+fn ended(writer: StreamWriter<Memory>) -> Result<Vec<u8>, WriteFault> {
+    Ok(writer.finish()?.into_bytes())
+}
+
+impl Writers {
+    fn start(alloc: Global, schema: &Schema) -> Result<Writers, WriteFault> {
+        Ok(Writers {
+            by_columns: started(alloc, schema)?,
+            by_rows: started(alloc, schema)?,
+            same: true,
+        })
+    }
+
+    // Writes a batch in both ways.
+    fn write(
+        &mut self,
+        alloc: Global,
+        batch: &Batch,
+        pairs: Items<(Text, Text)>,
+    ) -> Result<(), Fault> {
+        let rows = batch.to_rows(alloc)?;
+        let by_columns = self.by_columns.write_columns(batch, pairs.clone()?);
+        let by_rows = self.by_rows.write_batch(&BatchRows { pairs, rows });
+        self.same = self.same && by_columns == by_rows;
+        Ok(())
+    }
+
+    // Writes all batches that are read.
+    fn write_all<R: Source>(
+        &mut self,
+        alloc: Global,
+        reader: &mut StreamReader<R>,
+    ) -> Result<(), Fault> {
+        while let Some((batch, pairs)) = reader.next()? {
+            self.write(alloc, &batch, pairs)?;
+        }
+        Ok(())
+    }
+
+    // Whether all answers were the same, and the two streams are.
+    fn is_same(self) -> Result<bool, WriteFault> {
+        let by_columns = ended(self.by_columns)?;
+        let by_rows = ended(self.by_rows)?;
+        Ok(self.same && by_columns.as_slice() == by_rows.as_slice())
+    }
+}
+
+/// Whether the batches before the end or the refusal of a stream are written, or refused, from
+/// their columns exactly as from their rows. It is so where no writer takes the schema.
+pub fn is_same_by_columns(alloc: Global, request: &Request) -> Result<bool, AllocError> {
+    let source = Memory::new(request.stream.clone()?);
+    let Ok(mut reader) = StreamReader::open(alloc, request.limits, source) else {
+        return Ok(true);
+    };
+    let Ok(mut writers) = Writers::start(alloc, reader.schema()) else {
+        return Ok(true);
+    };
+    let _ended = writers.write_all(alloc, &mut reader);
+    Ok(writers.is_same().unwrap_or(false))
+}
