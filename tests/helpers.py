@@ -9,6 +9,7 @@ import subprocess
 import sys
 
 TOP = pathlib.Path(__file__).resolve().parent.parent
+WORKBENCH = TOP / "crates/workbench"
 CHANGE = r"([0-9a-f]+) at (\d+)"
 EACH = r"([0-9a-f]+) at each of (\d+) to (\d+)"
 LIMIT = r"(?:metadata|body|slots|fields|depth|text|pairs) \d+"
@@ -17,6 +18,22 @@ LIMIT = r"(?:metadata|body|slots|fields|depth|text|pairs) \d+"
 def built_program():
     """The path of the built program `arrowstream`, which is built first where it is missing."""
     return subprocess.check_output([TOP / "bin/build"], text=True).splitlines()[-1]
+
+
+def built_workbench():
+    """The path of the built program `workbench`, which is proved and built first where it is
+    missing or a source is newer. Its own few streams are its input then."""
+    program = WORKBENCH / "out/workbench"
+    sources = [*TOP.glob("crates/*/src/*"), *TOP.glob("crates/*/specs/*")]
+    newest = max(path.stat().st_mtime for path in sources)
+    if not program.exists() or program.stat().st_mtime < newest:
+        with open(WORKBENCH / "stdin", "rb") as streams:
+            done = subprocess.run(["rt", "run", "--", "answer"], cwd=WORKBENCH, stdin=streams,
+                                  capture_output=True, check=False)
+        if done.returncode != 0:
+            sys.exit(f"workbench is not built: {done.stderr.decode()[-2000:]}")
+        program.touch()
+    return program
 
 
 def stream_of(case):

@@ -64,16 +64,31 @@ impl Writers {
     }
 }
 
-/// Whether the batches before the end or the refusal of a stream are written, or refused, from
-/// their columns exactly as from their rows. It is so where no writer takes the schema.
-pub fn is_same_by_columns(alloc: Global, request: &Request) -> Result<bool, AllocError> {
-    let source = Memory::new(request.stream.clone()?);
-    let Ok(mut reader) = StreamReader::open(alloc, request.limits, source) else {
-        return Ok(true);
-    };
-    let Ok(mut writers) = Writers::start(alloc, reader.schema()) else {
-        return Ok(true);
-    };
-    let _ended = writers.write_all(alloc, &mut reader);
-    Ok(writers.is_same().unwrap_or(false))
+/// How the batches of a stream are written from their columns.
+#[derive(Clone, Copy, PartialEq, Eq)]
+pub enum ByColumns {
+    /// Exactly as from their rows, or refused as these are. It is so too where no writer takes the
+    /// schema.
+    Same,
+    /// Otherwise.
+    Differs,
+}
+
+impl ByColumns {
+    /// How the batches before the end or the refusal of a stream are written.
+    pub fn of(alloc: Global, request: &Request) -> Result<ByColumns, AllocError> {
+        let source = Memory::new(request.stream.clone()?);
+        let Ok(mut reader) = StreamReader::open(alloc, request.limits, source) else {
+            return Ok(ByColumns::Same);
+        };
+        let Ok(mut writers) = Writers::start(alloc, reader.schema()) else {
+            return Ok(ByColumns::Same);
+        };
+        let _ended = writers.write_all(alloc, &mut reader);
+        Ok(if writers.is_same().unwrap_or(false) {
+            ByColumns::Same
+        } else {
+            ByColumns::Differs
+        })
+    }
 }

@@ -18,6 +18,8 @@ pub enum Job {
     Pull,
     /// Answers each line of standard input, which is a stream.
     Answer,
+    /// Reads each such stream only once, whole.
+    Read,
 }
 
 fn number(words: &mut Args) -> Option<u32> {
@@ -34,6 +36,7 @@ fn named(name: &str, words: &mut Args) -> Option<Job> {
         },
         "pull" => Job::Pull,
         "answer" => Job::Answer,
+        "read" => Job::Read,
         _ => return None,
     })
 }

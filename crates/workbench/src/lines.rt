@@ -1,5 +1,6 @@
 //! The lines of an answer.
 use crate::answer::Answer;
+use crate::columns::ByColumns;
 use crate::cut::Cut;
 use crate::report::{Other, PIECES, Report, RoundTrip, Way};
 use crate::words::{write_dictionary, write_pairs, write_text, write_type, write_value};
@@ -175,6 +176,15 @@ fn write_other<W: fmt::Write>(f: &mut fmt::Formatter<W>, other: &Option<Other>) 
     write!(f, "{}", other.answer)
 }
 
+impl fmt::Display for ByColumns {
+    fn fmt<W: fmt::Write>(&self, f: &mut fmt::Formatter<W>) -> fmt::Result {
+        match self {
+            ByColumns::Same => Ok(()),
+            ByColumns::Differs => f.write_str("from columns other\n"),
+        }
+    }
+}
+
 impl fmt::Display for Report {
     fn fmt<W: fmt::Write>(&self, f: &mut fmt::Formatter<W>) -> fmt::Result {
         write!(f, "{}", self.answer)?;
@@ -184,9 +194,7 @@ impl fmt::Display for Report {
         if !self.same_table {
             f.write_str("read_table other\n")?;
         }
-        if !self.same_by_columns {
-            f.write_str("from columns other\n")?;
-        }
+        write!(f, "{}", self.by_columns)?;
         match &self.round_trip {
             Some(trip) => write_round_trip(f, trip),
             None => Ok(()),

@@ -2,13 +2,14 @@
 //!
 //!     workbench push-rows i64|mixed|dictionary|nested|flat BATCHES ROWS > STREAM
 //!     workbench pull < STREAM
-//!     workbench answer < LINES
+//!     workbench answer|read < LINES
 //!
 //! | job | what it does |
 //! |---|---|
 //! | `push-rows` | makes 1,024 rows, and pushes `ROWS` of them in turn for each batch |
 //! | `pull` | reads standard input with a reader, drops each batch, and counts |
 //! | `answer` | answers each line, a stream in hexadecimal digits, by lines and an empty one |
+//! | `read` | the same, but reads each stream once and whole, and writes it only from columns |
 //!
 //! A line of `answer` may set limits after the stream, as in `, metadata 39, slots 3`. The answer
 //! has what the library reads in the stream, whether it reads the same when the bytes come in small
@@ -45,7 +46,7 @@ use std::{env, io};
 const USAGE: &str = "\
 usage: workbench push-rows i64|mixed|dictionary|nested|flat BATCHES ROWS > STREAM
        workbench pull < STREAM
-       workbench answer < LINES";
+       workbench answer|read < LINES";
 
 fn tell(rt: &HostRuntime, counts: Counts) -> Result<()> {
     let Counts { batches, rows } = counts;
@@ -64,7 +65,8 @@ fn run(rt: &HostRuntime, job: Job) -> Result<()> {
             Ok(())
         }
         Job::Pull => tell(rt, pull_stream(rt.alloc(), rt.reader())?),
-        Job::Answer => answer_lines(rt),
+        Job::Answer => answer_lines(rt, false),
+        Job::Read => answer_lines(rt, true),
     }
 }
 

@@ -1,6 +1,6 @@
 //! Reads a stream in several ways, and compares the answers.
 use crate::answer::Answer;
-use crate::columns::is_same_by_columns;
+use crate::columns::ByColumns;
 use crate::cut::Cut;
 use crate::request::Request;
 use ipc_model::{Fault, Limits, Table};
@@ -59,8 +59,8 @@ pub struct Report {
     pub same_table: bool,
     /// How the table comes back, or `None` if the stream is refused.
     pub round_trip: Option<RoundTrip>,
-    /// Whether its batches are written from columns as they are from rows.
-    pub same_by_columns: bool,
+    /// How its batches are written from their columns.
+    pub by_columns: ByColumns,
 }
 
 // The answer in pieces of the first size for which it differs.
@@ -221,7 +221,7 @@ impl Report {
         let same_table = is_same_table(alloc, request, &answer)?;
         let differences = Differences::of(alloc, request, &answer)?;
         let round_trip = round_trip_of(alloc, &answer);
-        let same_by_columns = is_same_by_columns(alloc, request)?;
+        let by_columns = ByColumns::of(alloc, request)?;
         Ok(Report {
             length: request.stream.len(),
             answer,
@@ -229,7 +229,7 @@ impl Report {
             other: differences.other,
             same_table,
             round_trip,
-            same_by_columns,
+            by_columns,
         })
     }
 }
