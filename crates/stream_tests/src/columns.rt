@@ -1,13 +1,13 @@
 //! Batches that were read and are written to another stream by `write_columns`.
 
 use crate::nested_columns::{add_nested_rows, add_pair, nested_schema, pairs_schema};
-use crate::scripts::{ended, started};
+use crate::scripts::{batch_of, ended, started};
 use crate::tables::{AB, BC, Column, NUMBERS, Rows, int};
 use ipc_model::{
-    BatchRows, DataType, DateUnit, Fault, Field, IntBits, Items, Limits, Row, Schema, TimeUnit,
-    Value, WriteFault,
+    BatchRows, DataType, DateUnit, Field, IntBits, Items, Limits, Row, Schema, TimeUnit, Value,
+    WriteFault,
 };
-use ipc_stream::{Batch, Memory, StreamReader, StreamWriter};
+use ipc_stream::Batch;
 use std::alloc::{AllocError, Global};
 use std::test::Fail;
 
@@ -123,19 +123,6 @@ impl Given {
         writer.write_batch(&BatchRows::new(rows))?;
         ended(writer)
     }
-}
-
-fn next_batch(stream: &mut StreamReader<Memory>) -> Result<Batch, Fault> {
-    match stream.next()? {
-        Some((batch, _pairs)) => Ok(batch),
-        None => Err(Fault::Truncated),
-    }
-}
-
-// The first batch of a stream.
-fn batch_of(alloc: Global, stream: Vec<u8>) -> Result<Batch, Fault> {
-    let source = Memory::new(stream);
-    next_batch(&mut StreamReader::open(alloc, Limits::standard(), source)?)
 }
 
 // The result of sending a batch to a stream of this schema, by its columns or by its rows, and the

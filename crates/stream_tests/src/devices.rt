@@ -13,11 +13,14 @@ use std::test::Fail;
 // A column, and the steps of a writer.
 type Script = (Column, &'static [Step<'static>]);
 
-// Numbers in one call and row by row, and letters whose second batch replaces the dictionary.
-const SCRIPTS: [Script; 3] = [
+// Numbers in one call, row by row and from columns, and letters whose second batch replaces the
+// dictionary.
+const SCRIPTS: [Script; 5] = [
     (Column::Numbers, &[Step::Write(NUMBERS)]),
     (Column::Numbers, &[Step::PushPaired(NUMBERS)]),
+    (Column::Numbers, &[Step::Columns(NUMBERS)]),
     (Column::Letters, &[Step::Write(A), Step::Push(B)]),
+    (Column::Letters, &[Step::Columns(A), Step::Columns(B)]),
 ];
 
 // The numbers of calls of a sink that takes one byte in each, until a writer has started, has taken

@@ -2,8 +2,8 @@
 ghost use Rattle.ipc_stream.specs.Pushed.{Stays};
 
 use crate::tables::{Column, Rows, empty};
-use ipc_model::{BatchRows, Items, Limits, Row, Schema, Text, Value, WriteFault};
-use ipc_stream::{BatchWriter, Memory, Sink, StreamWriter};
+use ipc_model::{BatchRows, Fault, Items, Limits, Row, Schema, Text, Value, WriteFault};
+use ipc_stream::{Batch, BatchWriter, Memory, Sink, StreamReader, StreamWriter};
 use std::alloc::{AllocError, Global};
 
 /// What is asked of a writer.
@@ -19,13 +19,15 @@ pub enum Step<'a> {
     PushPaired(Rows<'a>),
     /// To take this number as a row, and to send nothing.
     LetGo(i64),
+    /// To write a batch of these rows that was read, from its columns.
+    Columns(Rows<'a>),
 }
 
 impl<'a> Step<'a> {
     // The numbers of the rows that may be sent, and whether they have a pair.
     fn parts(self) -> (Rows<'a>, bool) {
         match self {
-            Step::Write(numbers) | Step::Push(numbers) => (numbers, false),
+            Step::Write(numbers) | Step::Push(numbers) | Step::Columns(numbers) => (numbers, false),
             Step::WritePaired(numbers) | Step::PushPaired(numbers) => (numbers, true),
             Step::LetGo(_) => (&[], false),
         }
@@ -40,6 +42,19 @@ pub fn started(alloc: Global, schema: &Schema) -> Result<StreamWriter<Memory>, W
 /// Ends the stream of a writer, and gives its bytes.
 pub fn ended(writer: StreamWriter<Memory>) -> Result<Vec<u8>, WriteFault> {
     Ok(writer.finish()?.into_bytes())
+}
+
+fn next_batch(stream: &mut StreamReader<Memory>) -> Result<Batch, Fault> {
+    match stream.next()? {
+        Some((batch, _pairs)) => Ok(batch),
+        None => Err(Fault::Truncated),
+    }
+}
+
+/// The first batch of a stream.
+pub fn batch_of(alloc: Global, stream: Vec<u8>) -> Result<Batch, Fault> {
+    let source = Memory::new(stream);
+    next_batch(&mut StreamReader::open(alloc, Limits::standard(), source)?)
 }
 
 // Keeps a refusal.
@@ -86,45 +101,79 @@ fn let_go<W: Sink>(
     batch.push(row)
 }
 
-// Takes one step with its batch.
+// A step with what it writes.
+#[derive(Drop)]
+enum Prepared {
+    Write(BatchRows),
+    Push(BatchRows),
+    LetGo(Items<(Text, Text)>, i64),
+    Columns(Batch, Items<(Text, Text)>),
+}
+
+// Takes one step.
 fn take<W: Sink>(
     writer: &mut StreamWriter<W>,
-    step: Step<'_>,
-    batch: BatchRows,
+    step: Prepared,
     faults: &mut Vec<WriteFault>,
 ) -> Result<(), WriteFault> {
     match step {
-        Step::Write(_) | Step::WritePaired(_) => writer.write_batch(&batch),
-        Step::Push(_) | Step::PushPaired(_) => push_rows(writer, batch, faults),
-        Step::LetGo(number) => let_go(writer, batch.pairs, &[Value::Int(number)]),
+        Prepared::Write(batch) => writer.write_batch(&batch),
+        Prepared::Push(batch) => push_rows(writer, batch, faults),
+        Prepared::LetGo(pairs, number) => let_go(writer, pairs, &[Value::Int(number)]),
+        Prepared::Columns(batch, pairs) => writer.write_columns(&batch, pairs),
     }
 }
 
-// The steps with their batches.
-type Prepared<'a> = Vec<(Step<'a>, BatchRows)>;
+// The stream of a column with one batch of these rows.
+fn written(alloc: Global, column: Column, rows: &BatchRows) -> Result<Vec<u8>, WriteFault> {
+    let mut writer = started(alloc, &column.schema(alloc)?)?;
+    writer.write_batch(rows)?;
+    ended(writer)
+}
 
-fn prepared<'a>(
+// The batch that is read from such a stream.
+fn read_back(alloc: Global, column: Column, rows: &BatchRows) -> Result<Batch, AllocError> {
+    let Ok(stream) = written(alloc, column, rows) else {
+        return Err(AllocError);
+    };
+    match batch_of(alloc, stream) {
+        Ok(batch) => Ok(batch),
+        Err(_) => Err(AllocError),
+    }
+}
+
+fn prepared(alloc: Global, column: Column, step: Step<'_>) -> Result<Prepared, AllocError> {
+    let (numbers, is_paired) = step.parts();
+    let batch = column.batch(alloc, numbers, is_paired)?;
+    Ok(match step {
+        Step::Write(_) | Step::WritePaired(_) => Prepared::Write(batch),
+        Step::Push(_) | Step::PushPaired(_) => Prepared::Push(batch),
+        Step::LetGo(number) => Prepared::LetGo(batch.pairs, number),
+        Step::Columns(_) => Prepared::Columns(read_back(alloc, column, &batch)?, batch.pairs),
+    })
+}
+
+fn all_prepared(
     alloc: Global,
     column: Column,
-    steps: &[Step<'a>],
-) -> Result<Prepared<'a>, AllocError> {
-    let mut prepared = Vec::new(alloc);
+    steps: &[Step<'_>],
+) -> Result<Vec<Prepared>, AllocError> {
+    let mut all = Vec::new(alloc);
     for step in steps {
-        let (numbers, is_paired) = step.parts();
-        prepared.push((*step, column.batch(alloc, numbers, is_paired)?))?;
+        all.push(prepared(alloc, column, *step)?)?;
     }
-    Ok(prepared)
+    Ok(all)
 }
 
 // Takes the steps, and returns how many of them were taken without a refusal.
 fn take_all<W: Sink>(
     writer: &mut StreamWriter<W>,
-    steps: Prepared<'_>,
+    steps: Vec<Prepared>,
     faults: &mut Vec<WriteFault>,
 ) -> Result<usize, AllocError> {
     let mut taken = 0usize;
-    for (step, batch) in steps {
-        let answer = take(writer, step, batch, faults);
+    for step in steps {
+        let answer = take(writer, step, faults);
         taken = taken.saturating_add(usize::from(answer.is_ok()));
         keep(faults, answer)?;
     }
@@ -134,7 +183,7 @@ fn take_all<W: Sink>(
 // Takes the steps, and ends the stream.
 fn finished<W: Sink + Drop>(
     writer: StreamWriter<W>,
-    steps: Prepared<'_>,
+    steps: Vec<Prepared>,
     faults: &mut Vec<WriteFault>,
 ) -> Result<(W, usize), AllocError> {
     let mut writer = writer;
@@ -162,7 +211,7 @@ pub fn played<W: Sink + Drop>(
     steps: &[Step<'_>],
 ) -> Result<(W, usize, Vec<WriteFault>), AllocError> {
     let schema = column.schema(alloc)?;
-    let steps = prepared(alloc, column, steps)?;
+    let steps = all_prepared(alloc, column, steps)?;
     let mut faults = Vec::with_capacity(alloc, ROOM)?;
     let (sink, done) = match StreamWriter::start(alloc, limits, sink, &schema) {
         Ok(writer) => finished(writer, steps, &mut faults)?,
