@@ -200,7 +200,6 @@ class Reader:
         self._piece = memoryview(b"")
         self._room = bytearray(_PIECE)
         self._schema: Schema | None = None
-        self._first: Batch | None = None
         self._handle = ctypes.c_void_p()
         self._end: str | None = None
         c.library.arrow_reader_open(limits, self._handle)
