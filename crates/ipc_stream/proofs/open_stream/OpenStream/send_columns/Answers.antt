@@ -12,7 +12,7 @@ use Rattle.ipc_stream.proofs.open_stream.OpenStream.send_columns.Goals as goal
 -- the bytes of equal lists
 bytes : (ms ns : List Message) (f g : List ℕ) (ss ts : List Segment) → ms ≡ ns → f ≡ g → ss ≡ ts
     → all_bytes ms ++ (f ++ joined ss) ≡ all_bytes ns ++ (g ++ joined ts)
-bytes ms ns f g ss ts p q r i = all_bytes (p i) ++ (q i ++ joined (r i))
+bytes ms ns f g ss ts p q r = λ i. all_bytes (p i) ++ (q i ++ joined (r i))
 
 pub returns-in_err-send_segmented-clause-sends : goal.returns-in_err-send_segmented-clause-sends
 returns-in_err-send_segmented-clause-sends g c = rw (← c.self.view_is) (
