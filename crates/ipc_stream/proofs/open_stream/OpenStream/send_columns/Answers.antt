@@ -1,4 +1,4 @@
-use Rattle.std.proofs.Common.{◌≡◌, ◌∙◌, ◌++◌, sym, ap, subst, ℕ, List}
+use Rattle.std.proofs.Common.{◌≡◌, ◌∙◌, ◌++◌, sym, ℕ, List}
 use Rattle.std.proofs.lemmas.Result.{err_from_is_err_and}
 use Rattle.ipc_encode.specs.declared.segments.Segment.{Segment}
 use Rattle.ipc_encode.specs.Segments.{joined}
@@ -34,13 +34,3 @@ pub returns-clause-counted : goal.returns-clause-counted
 returns-clause-counted g c =
     let ids = c.self.invariant.ids ∙ sym c.in_ok-messages.ensures.ids in
     c.commit.ensures.counted c.self.inside.schema.fields ids c.in_ok-messages.ensures.addressed c.self.invariant.counted
-
-pub invariant_of-self : goal.invariant_of-self
-invariant_of-self g c =
-    let ids = c.self.invariant.ids ∙ sym c.in_ok-messages.ensures.ids in
-    record {
-      well_formed = c.self.invariant.well_formed;
-      columns_are = c.self.invariant.columns_are;
-      ids = c.commit.ensures.ids ∙ c.self.invariant.ids;
-      counted = c.commit.ensures.counted c.self.inside.schema.fields ids c.in_ok-messages.ensures.addressed c.self.invariant.counted;
-    }
