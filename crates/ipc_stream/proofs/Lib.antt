@@ -9,7 +9,6 @@ pub mod InForce
 pub mod PlanFinds
 pub mod WithinLimits
 pub mod HeldTallies
-mod HeldColumns
 pub mod BatchSent
 pub mod ColumnRefusals
 pub mod Chains

@@ -216,6 +216,7 @@ impl OpenStream {
         held.push_all(&self.schema, batch.rows.as_slice())?;
         self.send_rows(sink, held)
     }
+
     // Sends the messages of a batch that was read, with these pairs: those of the dictionaries that
     // it needs, and its own. All messages are complete before the first is sent.
     pub(crate) fn send_columns<W: Sink>(

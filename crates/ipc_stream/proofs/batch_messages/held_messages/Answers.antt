@@ -25,7 +25,6 @@ use Rattle.ipc_stream.specs.OpenStreams.{CanBeSent, IsGoingOn}
 use Rattle.ipc_stream.specs.Dictionaries.{SendsBatch}
 use Rattle.ipc_stream.specs.Messages.{SetDictionaries, all_bytes, bytes_of}
 use Rattle.ipc_stream.specs.Parts.{RefusesPairs, TellsRows, head_of}
-use Rattle.ipc_stream.specs.declared.message.Message.{Message}
 use Rattle.ipc_stream.specs.Writing.{AcceptsBatch}
 use Rattle.ipc_stream.proofs.BatchSent.{batch_sent, bytes_end, laid_counts, plan_can, short_tallied}
 use Rattle.ipc_stream.proofs.PlanFinds.{plan_finds}

@@ -1,4 +1,4 @@
-use Rattle.std.proofs.Common.{◌≡◌, ◌∙◌, ◌++◌, ◌≤◌, sym, ap, subst, List, ℕ, length, None, ℤ, Option}
+use Rattle.std.proofs.Common.{◌≡◌, ◌∙◌, ◌++◌, sym, ap, subst, List, ℕ, length, ℤ, Option}
 use Rattle.std.specs.Prelude.{pos}
 use Rattle.std.specs.List.{AllByRecursion}
 use Rattle.std.proofs.lemmas.Result.{err_from_is_err_and}
@@ -29,6 +29,7 @@ use Rattle.ipc_stream.specs.Pushed.{with_rows}
 use Rattle.ipc_stream.proofs.BatchSent.{batch_sent, plan_can, segmented_counts, short_tallied}
 use Rattle.ipc_stream.proofs.ColumnRefusals.{accepted, lengths_refused, pairs_refused}
 use Rattle.ipc_stream.proofs.PlanFinds.{plan_finds_indices}
+use Rattle.ipc_stream.proofs.column_messages.column_messages.Goals.{After-batch_front}
 use Rattle.ipc_stream.proofs.column_messages.column_messages.Goals as goal
 
 -- what was sent has the ids of the plan's entries
@@ -66,7 +67,7 @@ returns-in_err-parts-clause-only c =
     c.in_err-parts.ensures.refused)
 
 -- the parts have a node and the buffers of each field
-counts : (c : goal.After-batch_front) → HasCounts c.args.schema.now.fields (record {
+counts : (c : After-batch_front) → HasCounts c.args.schema.now.fields (record {
   length = pos c.rows.result;
   nodes = c.in_ok-parts.parts.nodes;
   buffers = c.in_ok-parts.parts.buffers;
@@ -81,11 +82,11 @@ counts c = subst (λ (fields : List Field). HasCounts fields (record {
 
 pub returns-in_err-front-clause-judged : goal.returns-in_err-front-clause-judged
 returns-in_err-front-clause-judged c =
-    let here = goal.at.returns-in_err-front-clause-judged c in
     let b = with_rows c.args.pairs.now c.args.batch.now.rows in
     let p = err_from_is_err_and c.from_residual-in_err-front.result c.from_residual-in_err-front.ensures.1 in
     rw (p.1, p.2) (pairs_refused c.args.limits.now c.args.schema.now b c.in_err-front.field-0.0
-    (c.in_err-front.ensures.judged c.args.schema.now (counts here.After-batch_front) c.in_ok-parts.ensures.body))
+    (c.in_err-front.ensures.judged c.args.schema.now (counts (goal.at.returns-in_err-front-clause-judged c).After-batch_front)
+    c.in_ok-parts.ensures.body))
 
 pub returns-in_err-dictionaries-clause-judged : goal.returns-in_err-dictionaries-clause-judged
 returns-in_err-dictionaries-clause-judged c =
@@ -107,13 +108,12 @@ returns-in_err-dictionaries-clause-only c =
 
 pub returns-clause-judged : goal.returns-clause-judged
 returns-clause-judged c =
-    let here = goal.at.returns-clause-judged c in
     let limits = c.args.limits.now in
     let s = c.args.schema.now in
     let rows = c.args.batch.now.rows in
     let within = subst (λ (fields : List Field). IsWithin limits fields rows) c.as_slice-fields.ensures c.in_ok-parts.ensures.within in
     accepted limits s c.args.pairs.now rows c.in_ok-plan.ensures.fit c.in_ok-plan.ensures.within within
-    (c.in_ok-front.ensures.judged s (counts here.After-batch_front) c.in_ok-parts.ensures.body)
+    (c.in_ok-front.ensures.judged s (counts (goal.at.returns-clause-judged c).After-batch_front) c.in_ok-parts.ensures.body)
 
 pub returns-clause-sent : goal.returns-clause-sent
 returns-clause-sent c =

@@ -1,4 +1,4 @@
-use Rattle.std.proofs.Common.{◌≡◌, ◌∙◌, ◌++◌, sym, ap, subst, ℕ, List}
+use Rattle.std.proofs.Common.{◌≡◌, ◌∙◌, ◌++◌, sym, ℕ, List}
 use Rattle.std.proofs.lemmas.Result.{err_from_is_err_and}
 use Rattle.ipc_encode.specs.declared.segments.Segment.{Segment}
 use Rattle.ipc_encode.specs.Segments.{joined}
@@ -12,7 +12,7 @@ use Rattle.ipc_stream.proofs.open_stream.OpenStream.send_columns.Goals as goal
 -- the bytes of equal lists
 bytes : (ms ns : List Message) (f g : List ℕ) (ss ts : List Segment) → ms ≡ ns → f ≡ g → ss ≡ ts
     → all_bytes ms ++ (f ++ joined ss) ≡ all_bytes ns ++ (g ++ joined ts)
-bytes ms ns f g ss ts p q r i = all_bytes (p i) ++ (q i ++ joined (r i))
+bytes ms ns f g ss ts p q r = λ i. all_bytes (p i) ++ (q i ++ joined (r i))
 
 pub returns-in_err-send_segmented-clause-sends : goal.returns-in_err-send_segmented-clause-sends
 returns-in_err-send_segmented-clause-sends g c = rw (← c.self.view_is) (
@@ -34,13 +34,3 @@ pub returns-clause-counted : goal.returns-clause-counted
 returns-clause-counted g c =
     let ids = c.self.invariant.ids ∙ sym c.in_ok-messages.ensures.ids in
     c.commit.ensures.counted c.self.inside.schema.fields ids c.in_ok-messages.ensures.addressed c.self.invariant.counted
-
-pub invariant_of-self : goal.invariant_of-self
-invariant_of-self g c =
-    let ids = c.self.invariant.ids ∙ sym c.in_ok-messages.ensures.ids in
-    record {
-      well_formed = c.self.invariant.well_formed;
-      columns_are = c.self.invariant.columns_are;
-      ids = c.commit.ensures.ids ∙ c.self.invariant.ids;
-      counted = c.commit.ensures.counted c.self.inside.schema.fields ids c.in_ok-messages.ensures.addressed c.self.invariant.counted;
-    }
