@@ -24,3 +24,6 @@ pub returns-clause-kept : goal.returns-clause-kept
 returns-clause-kept c = λ d value kept at got.
     noted_next c.args.entries.now c.note_cell-2.new.entries c.args.field.now d c.args.noted.now.items c.args.entry value
     (c.in_ok-note_cell.ensures.noted value got) at kept
+
+pub returns-then-entry-len-clause-full : goal.returns-then-entry-len-clause-full
+returns-then-entry-len-clause-full c = λ d value at got. c.note_cell.ensures.full value got

@@ -9,7 +9,7 @@ use Rattle.ipc_dict.specs.declared.fault.NoteFault.{NoteFault}
 use Rattle.ipc_dict.specs.Faults.{told_of}
 use Rattle.ipc_dict.specs.Noting.{AllFit, IsFull, note_all}
 use Rattle.ipc_dict.specs.Pairs.{rows_pairs}
-use Rattle.ipc_dict.specs.Planning.{FindsAll}
+use Rattle.ipc_dict.specs.Planning.{FindsAll, KnowsAll}
 use Rattle.ipc_dict.specs.SchemaIds.{ids_of, tally_ids, unused}
 use Rattle.ipc_dict.specs.Sending.{AreAddressed, tallied}
 use Rattle.ipc_dict.specs.Tallied.{Tallied}
@@ -93,3 +93,8 @@ returns-clause-finds c =
     let ids = c.note_columns.ensures.ids ∙ ap (λ (t : Tallied). tally_ids t.entries) c.in_ok-counted.ensures.fresh in
     both c.settle.result c.settle.ensures.entries (c.settle.ensures.finds (c.requires ∙ sym ids))
     (λ plan e h. subst (λ (es : List TallyEntry). FindsAll c.args.kept.now es plan.numbers) (sym e) h)
+
+pub returns-clause-knows : goal.returns-clause-knows
+returns-clause-knows c =
+    both c.settle.result c.settle.ensures.entries c.settle.ensures.knows
+    (λ plan e h. subst (λ (es : List TallyEntry). KnowsAll es plan.numbers) (sym e) h)
