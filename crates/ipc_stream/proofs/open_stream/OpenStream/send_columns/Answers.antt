@@ -34,3 +34,13 @@ pub returns-clause-counted : goal.returns-clause-counted
 returns-clause-counted g c =
     let ids = c.self.invariant.ids ∙ sym c.in_ok-messages.ensures.ids in
     c.commit.ensures.counted c.self.inside.schema.fields ids c.in_ok-messages.ensures.addressed c.self.invariant.counted
+
+pub invariant_of-self-2 : goal.invariant_of-self-2
+invariant_of-self-2 g c =
+    let ids = c.self.invariant.ids ∙ sym c.in_ok-messages.ensures.ids in
+    record {
+      well_formed = c.self.invariant.well_formed;
+      columns_are = c.self.invariant.columns_are;
+      ids = c.commit.ensures.ids ∙ c.self.invariant.ids;
+      counted = c.commit.ensures.counted c.self.inside.schema.fields ids c.in_ok-messages.ensures.addressed c.self.invariant.counted;
+    }
