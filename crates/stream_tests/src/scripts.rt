@@ -142,7 +142,7 @@ fn read_back(alloc: Global, column: Column, rows: &BatchRows) -> Result<Batch, A
     }
 }
 
-fn prepared(alloc: Global, column: Column, step: Step<'_>) -> Result<Prepared, AllocError> {
+fn prepare(alloc: Global, column: Column, step: Step<'_>) -> Result<Prepared, AllocError> {
     let (numbers, is_paired) = step.parts();
     let batch = column.batch(alloc, numbers, is_paired)?;
     Ok(match step {
@@ -153,14 +153,14 @@ fn prepared(alloc: Global, column: Column, step: Step<'_>) -> Result<Prepared, A
     })
 }
 
-fn all_prepared(
+fn prepare_all(
     alloc: Global,
     column: Column,
     steps: &[Step<'_>],
 ) -> Result<Vec<Prepared>, AllocError> {
     let mut all = Vec::new(alloc);
     for step in steps {
-        all.push(prepared(alloc, column, *step)?)?;
+        all.push(prepare(alloc, column, *step)?)?;
     }
     Ok(all)
 }
@@ -211,7 +211,7 @@ pub fn played<W: Sink + Drop>(
     steps: &[Step<'_>],
 ) -> Result<(W, usize, Vec<WriteFault>), AllocError> {
     let schema = column.schema(alloc)?;
-    let steps = all_prepared(alloc, column, steps)?;
+    let steps = prepare_all(alloc, column, steps)?;
     let mut faults = Vec::with_capacity(alloc, ROOM)?;
     let (sink, done) = match StreamWriter::start(alloc, limits, sink, &schema) {
         Ok(writer) => finished(writer, steps, &mut faults)?,
