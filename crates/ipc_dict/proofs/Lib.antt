@@ -18,6 +18,6 @@ pub mod Covered
 pub mod PairsFitEntries
 pub mod PairsFit
 pub mod ShortMessages
-pub mod NoteFaults
+pub mod Refusals
 pub mod FirstPlaces
 pub mod ColumnNotes

@@ -11,5 +11,4 @@ pub mod Within
 pub mod EntryColumns
 pub mod Sending
 pub mod Seeds
-pub mod Faults
 pub mod ColumnNotes

@@ -11,10 +11,10 @@ ghost use Rattle.ipc_dict.specs.Noting.{note_all, AllFit, AllGrow, IsFull};
 ghost use Rattle.ipc_dict.specs.Pairs.{pairs, items_pairs, rows_pairs};
 
 use crate::entry::TallyEntry;
-use crate::fault::NoteFault;
 use crate::recent::Recent;
 use crate::walk::{is_plain, note_each, note_value};
 use ipc_column::{Batch, SlotView};
+use ipc_encode::PushFault;
 use ipc_model::{Field, Value};
 use std::alloc::{AllocError, Global};
 
@@ -81,7 +81,7 @@ fn note_cell(
     batch: &Batch,
     column: usize,
     row: usize,
-) -> Result<(), NoteFault>
+) -> Result<(), PushFault>
     requires row { row < length batch.now.rows }
     requires column { column < batch.now.columns }
     ensures noted { (value : Value)
@@ -90,10 +90,10 @@ fn note_cell(
     ensures fits { OnOk result (AllFit entries.old → AllFit entries.new) }
     ensures full { (value : Value)
         → slice_get (slice_index_or batch.now.rows row []) column ≡ Some value
-        → IfErr result (λ fault. fault ≡ NoteFault.DictionaryFull
+        → IfErr result (λ fault. fault ≡ PushFault.DictionaryFull
         → IsFull (note_all entries.old (pairs field.now value))) }
     ensures memory { IfErr result
-        (λ fault. (fault ≡ NoteFault.DictionaryFull) ⊎ (fault ≡ NoteFault.OutOfMemory)) }
+        (λ fault. (fault ≡ PushFault.DictionaryFull) ⊎ (fault ≡ PushFault.OutOfMemory)) }
     ensures grows { AllGrow entries.old entries.new }
 {
     let value = batch.read_cell(alloc, row, column)?;
@@ -113,7 +113,7 @@ fn note_entry(
     row: usize,
     entry: usize,
     noted: &mut Vec<bool>,
-) -> Result<(), NoteFault>
+) -> Result<(), PushFault>
     requires row { row < length batch.now.rows }
     requires column { column < batch.now.columns }
     ensures noted { (dictionary : List Value) (value : Value)
@@ -130,10 +130,10 @@ fn note_entry(
     ensures full { (dictionary : List Value) (value : Value)
         → slice_get dictionary entry ≡ Some value
         → slice_get (slice_index_or batch.now.rows row []) column ≡ Some value
-        → IfErr result (λ fault. fault ≡ NoteFault.DictionaryFull
+        → IfErr result (λ fault. fault ≡ PushFault.DictionaryFull
         → IsFull (note_all entries.old (pairs field.now value))) }
     ensures memory { IfErr result
-        (λ fault. (fault ≡ NoteFault.DictionaryFull) ⊎ (fault ≡ NoteFault.OutOfMemory)) }
+        (λ fault. (fault ≡ PushFault.DictionaryFull) ⊎ (fault ≡ PushFault.OutOfMemory)) }
     ensures grows { AllGrow entries.old entries.new }
 {
     if entry >= noted.len() {
@@ -159,7 +159,7 @@ fn note_slot(
     slots: &SlotView<'_>,
     slot: usize,
     noted: &mut Vec<bool>,
-) -> Result<(), NoteFault>
+) -> Result<(), PushFault>
     requires column { column < batch.now.columns }
     requires slots { AreOfColumn batch.now.rows column (slot_values slots.now) }
     requires slot { slot < length (slot_values slots.now) }
@@ -172,10 +172,10 @@ fn note_slot(
         (AreNoted entries.new field.now slots.now.column.dictionary noted.new.items) }
     ensures fits { OnOk result (AllFit entries.old → AllFit entries.new) }
     ensures full { (value : Value) → slice_get (slot_values slots.now) slot ≡ Some value
-        → IfErr result (λ fault. fault ≡ NoteFault.DictionaryFull
+        → IfErr result (λ fault. fault ≡ PushFault.DictionaryFull
         → IsFull (note_all entries.old (pairs field.now value))) }
     ensures memory { IfErr result
-        (λ fault. (fault ≡ NoteFault.DictionaryFull) ⊎ (fault ≡ NoteFault.OutOfMemory)) }
+        (λ fault. (fault ≡ PushFault.DictionaryFull) ⊎ (fault ≡ PushFault.OutOfMemory)) }
     ensures grows { AllGrow entries.old entries.new }
 {
     match slots.entry_at(slot) {
@@ -195,16 +195,16 @@ fn note_column(
     field: &Field,
     batch: &Batch,
     column: usize,
-) -> Result<(), NoteFault>
+) -> Result<(), PushFault>
     requires { column < batch.now.columns }
     ensures noted { OnOk result (entries.new
         ≡ note_all entries.old (items_pairs (pairs field.now) (cells column batch.now.rows))) }
     ensures fits { OnOk result (AllFit entries.old → AllFit entries.new) }
-    ensures full { IfErr result (λ fault. fault ≡ NoteFault.DictionaryFull
+    ensures full { IfErr result (λ fault. fault ≡ PushFault.DictionaryFull
         → IsFull (note_all entries.old
         (items_pairs (pairs field.now) (cells column batch.now.rows)))) }
     ensures memory { IfErr result
-        (λ fault. (fault ≡ NoteFault.DictionaryFull) ⊎ (fault ≡ NoteFault.OutOfMemory)) }
+        (λ fault. (fault ≡ PushFault.DictionaryFull) ⊎ (fault ≡ PushFault.OutOfMemory)) }
     ensures grows { AllGrow entries.old entries.new }
 {
     let slots = batch.slots(column);
@@ -226,16 +226,16 @@ fn note_field(
     field: &Field,
     batch: &Batch,
     column: usize,
-) -> Result<(), NoteFault>
+) -> Result<(), PushFault>
     requires { column < batch.now.columns }
     ensures noted { OnOk result (entries.new
         ≡ note_all entries.old (items_pairs (pairs field.now) (cells column batch.now.rows))) }
     ensures fits { OnOk result (AllFit entries.old → AllFit entries.new) }
-    ensures full { IfErr result (λ fault. fault ≡ NoteFault.DictionaryFull
+    ensures full { IfErr result (λ fault. fault ≡ PushFault.DictionaryFull
         → IsFull (note_all entries.old
         (items_pairs (pairs field.now) (cells column batch.now.rows)))) }
     ensures memory { IfErr result
-        (λ fault. (fault ≡ NoteFault.DictionaryFull) ⊎ (fault ≡ NoteFault.OutOfMemory)) }
+        (λ fault. (fault ≡ PushFault.DictionaryFull) ⊎ (fault ≡ PushFault.OutOfMemory)) }
     ensures grows { AllGrow entries.old entries.new }
 {
     if is_plain(field) {
@@ -252,16 +252,16 @@ fn note_columns(
     recent: &mut Recent,
     fields: &[Field],
     batch: &Batch,
-) -> Result<(), NoteFault>
+) -> Result<(), PushFault>
     requires apart { AreApart fields.now }
     requires columns { batch.now.columns ≡ length fields.now }
     ensures noted { OnOk result
         (entries.new ≡ note_all entries.old (rows_pairs fields.now batch.now.rows)) }
     ensures fits { OnOk result (AllFit entries.old → AllFit entries.new) }
-    ensures full { IfErr result (λ fault. fault ≡ NoteFault.DictionaryFull
+    ensures full { IfErr result (λ fault. fault ≡ PushFault.DictionaryFull
         → IsFull (note_all entries.old (rows_pairs fields.now batch.now.rows))) }
     ensures memory { IfErr result
-        (λ fault. (fault ≡ NoteFault.DictionaryFull) ⊎ (fault ≡ NoteFault.OutOfMemory)) }
+        (λ fault. (fault ≡ PushFault.DictionaryFull) ⊎ (fault ≡ PushFault.OutOfMemory)) }
     ensures grows { AllGrow entries.old entries.new }
 {
     let width = batch.columns();
@@ -279,20 +279,20 @@ fn note_rows(
     recent: &mut Recent,
     fields: &[Field],
     batch: &Batch,
-) -> Result<(), NoteFault>
+) -> Result<(), PushFault>
     ensures noted { OnOk result
         (entries.new ≡ note_all entries.old (rows_pairs fields.now batch.now.rows)) }
     ensures fits { OnOk result (AllFit entries.old → AllFit entries.new) }
-    ensures full { IfErr result (λ fault. fault ≡ NoteFault.DictionaryFull
+    ensures full { IfErr result (λ fault. fault ≡ PushFault.DictionaryFull
         → IsFull (note_all entries.old (rows_pairs fields.now batch.now.rows))) }
     ensures memory { IfErr result
-        (λ fault. (fault ≡ NoteFault.DictionaryFull) ⊎ (fault ≡ NoteFault.OutOfMemory)) }
+        (λ fault. (fault ≡ PushFault.DictionaryFull) ⊎ (fault ≡ PushFault.OutOfMemory)) }
     ensures grows { AllGrow entries.old entries.new }
 {
     let mut row = Vec::new(alloc);
     for number in 0..batch.rows() {
         let Ok(()) = batch.read_row(alloc, number, &mut row) else {
-            return Err(NoteFault::OutOfMemory);
+            return Err(PushFault::OutOfMemory);
         };
         note_each(entries, recent, fields, row.as_slice())?;
     }
@@ -308,14 +308,14 @@ pub(crate) fn note_batch(
     recent: &mut Recent,
     fields: &[Field],
     batch: &Batch,
-) -> Result<(), NoteFault>
+) -> Result<(), PushFault>
     ensures noted { OnOk result
         (entries.new ≡ note_all entries.old (rows_pairs fields.now batch.now.rows)) }
     ensures fits { OnOk result (AllFit entries.old → AllFit entries.new) }
-    ensures full { IfErr result (λ fault. fault ≡ NoteFault.DictionaryFull
+    ensures full { IfErr result (λ fault. fault ≡ PushFault.DictionaryFull
         → IsFull (note_all entries.old (rows_pairs fields.now batch.now.rows))) }
     ensures memory { IfErr result
-        (λ fault. (fault ≡ NoteFault.DictionaryFull) ⊎ (fault ≡ NoteFault.OutOfMemory)) }
+        (λ fault. (fault ≡ PushFault.DictionaryFull) ⊎ (fault ≡ PushFault.OutOfMemory)) }
     ensures grows { AllGrow entries.old entries.new }
 {
     if batch.columns() == fields.len() && are_all_apart(fields) {

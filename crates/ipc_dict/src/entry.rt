@@ -8,8 +8,8 @@ ghost use Rattle.ipc_dict.specs.Noting.{note_entry, note_one, noted_place, AllFi
 ghost use Rattle.ipc_dict.specs.Noting.{Grows, AllGrow};
 
 use crate::distinct::DistinctValues;
-use crate::fault::NoteFault;
 use crate::recent::{Recent, spot_of};
+use ipc_encode::PushFault;
 use ipc_model::Value;
 
 /// The distinct values of one dictionary.
@@ -45,16 +45,16 @@ pub(crate) fn find(entries: &[TallyEntry], id: i64) -> Option<usize>
 }
 
 // Notes one value of a dictionary, which may be at this position. Returns its position.
-fn note_in(entry: &mut TallyEntry, guess: usize, value: &Value) -> Result<usize, NoteFault>
+fn note_in(entry: &mut TallyEntry, guess: usize, value: &Value) -> Result<usize, PushFault>
     ensures noted { OnOk result (entry.new ≡ note_entry value.now entry.old) }
     ensures fits { OnOk result
         (length entry.old.values ≤ entry.old.limit → length entry.new.values ≤ entry.new.limit) }
     ensures full { IfErr result
-        (λ fault. fault ≡ NoteFault.DictionaryFull
+        (λ fault. fault ≡ PushFault.DictionaryFull
         → (entry.new ≡ note_entry value.now entry.old)
         × (entry.new.limit < length entry.new.values)) }
     ensures memory { IfErr result
-        (λ fault. (fault ≡ NoteFault.DictionaryFull) ⊎ (fault ≡ NoteFault.OutOfMemory)) }
+        (λ fault. (fault ≡ PushFault.DictionaryFull) ⊎ (fault ≡ PushFault.OutOfMemory)) }
     ensures grows { Grows entry.old entry.new }
 {
     if let Some(place) = entry.values.index_near(guess, value) {
@@ -62,7 +62,7 @@ fn note_in(entry: &mut TallyEntry, guess: usize, value: &Value) -> Result<usize,
     }
     let place = entry.values.len();
     if entry.values.add(value)? && entry.values.len() > entry.limit {
-        return Err(NoteFault::DictionaryFull);
+        return Err(PushFault::DictionaryFull);
     }
     Ok(place)
 }
@@ -73,13 +73,13 @@ pub(crate) fn note_one(
     recent: &mut Recent,
     id: i64,
     value: &Value,
-) -> Result<(), NoteFault>
+) -> Result<(), PushFault>
     ensures noted { OnOk result (entries.new ≡ note_one entries.old id value.now) }
     ensures fits { OnOk result (AllFit entries.old → AllFit entries.new) }
     ensures full { IfErr result
-        (λ fault. fault ≡ NoteFault.DictionaryFull → IsFull (note_one entries.old id value.now)) }
+        (λ fault. fault ≡ PushFault.DictionaryFull → IsFull (note_one entries.old id value.now)) }
     ensures memory { IfErr result
-        (λ fault. (fault ≡ NoteFault.DictionaryFull) ⊎ (fault ≡ NoteFault.OutOfMemory)) }
+        (λ fault. (fault ≡ PushFault.DictionaryFull) ⊎ (fault ≡ PushFault.OutOfMemory)) }
     ensures grows { AllGrow entries.old entries.new }
 {
     let Some(at) = find(entries, id) else {

@@ -7,7 +7,6 @@ mod column_notes;
 mod columns;
 mod distinct;
 mod entry;
-mod fault;
 mod kept;
 mod messages;
 mod plan;
@@ -20,7 +19,6 @@ mod walk;
 
 pub use distinct::DistinctValues;
 pub use entry::TallyEntry;
-pub use fault::NoteFault;
 pub use ipc_dictionaries::{Dictionaries, one_column};
 pub use kept::{Kept, KeptEntry};
 pub use messages::has_short_messages;

@@ -8,13 +8,12 @@ ghost use Rattle.ipc_dict.specs.SchemaIds.{ids_of, unused, kept_ids, tally_bound
 ghost use Rattle.ipc_dict.specs.Sending.{AreAddressed};
 ghost use Rattle.ipc_dict.specs.Planning.{AllSettled, FindsAll, FindsNoted, KnowsAll};
 ghost use Rattle.ipc_dict.specs.EntryColumns.{AreEntriesCounted};
-ghost use Rattle.ipc_dict.specs.Faults.{told_of};
+ghost use Rattle.ipc_encode.specs.Faults.{write_fault};
 ghost use Rattle.ipc_dict.specs.Within.{AllWithin, IsOfLimits, IsOverLimit};
 
 use crate::column_notes::note_batch;
 use crate::columns::EntryColumns;
 use crate::entry::{TallyEntry, place_in};
-use crate::fault::NoteFault;
 use crate::kept::Kept;
 use crate::plan::Plan;
 use crate::recent::Recent;
@@ -23,7 +22,7 @@ use crate::seed::Seed;
 use crate::settle::settle;
 use crate::walk::note_each;
 use ipc_column::Batch;
-use ipc_encode::IndexOf;
+use ipc_encode::{IndexOf, PushFault};
 use ipc_model::{Field, Items, Limits, Schema, Value, WriteFault};
 use std::alloc::{AllocError, Global};
 use std::marker::Model;
@@ -145,49 +144,13 @@ impl Tally {
     ///
     /// - W7 `DictionaryFull`: exactly if a dictionary would have more distinct values than an index
     ///   type of its fields counts.
-    /// - W8 `TooManyRows`: a dictionary would have more than `limits.slots` values.
+    /// - W8 `TooMany`: a dictionary would have more than `limits.slots` values.
     /// - W6 `TooLong`: as the one column of their message, the values would have more data than
     ///   offsets reach, or more than `limits.body` bytes (Arrow Columnar Format, "Array lengths").
     /// - W11 `OutOfMemory`: memory for a value ran out.
     /// - W10 `Failed`: the call comes after W11.
-    pub fn note(&mut self, row: &[Value]) -> Result<(), WriteFault>
-        ensures noted { OnOk result (self.new ≡ record self.old {
-          entries = note_all self.old.entries (row_pairs self.old.fields row.now);
-        }) }
-        // The fields, the limits and the ids never change, whatever the result is.
-        ensures fields { self.new.fields ≡ self.old.fields }
-        ensures limits { self.new.limits ≡ self.old.limits }
-        ensures ids { tally_ids self.new.entries ≡ tally_ids self.old.entries }
-        ensures fits { AllFit self.new.entries }
-        ensures within { AllWithin self.new.limits self.new.fields self.new.entries }
-        ensures unchanged { IfErr result
-            (λ fault. fault ≡ WriteFault.DictionaryFull → self.new ≡ self.old) }
-        ensures as_before { IfErr result (λ fault. IsOfLimits fault → self.new ≡ self.old) }
-        ensures full { IfErr result (λ fault. fault ≡ WriteFault.DictionaryFull
-            → IsFull (note_all self.old.entries (row_pairs self.old.fields row.now))) }
-        // At W6 and W8 a dictionary's column would be longer than the limits allow.
-        ensures over { IfErr result (λ fault. IsOfLimits fault
-            → IsOverLimit self.old.limits self.old.fields
-            (note_all self.old.entries (row_pairs self.old.fields row.now)) fault) }
-        ensures failed { IfErr result
-            (λ fault. fault ≡ WriteFault.OutOfMemory → self.new.failed ≡ true) }
-        // A tally that has failed counts no row.
-        ensures refused { self.old.failed ≡ true → result ≡ Err WriteFault.Failed }
-        ensures still_failed { self.old.failed ≡ true → self.new.failed ≡ true }
-        ensures before { IfErr result
-            (λ fault. fault ≡ WriteFault.Failed → self.old.failed ≡ true) }
-        ensures only { IfErr result (λ fault. ((fault ≡ WriteFault.DictionaryFull)
-            ⊎ IsOfLimits fault)
-            ⊎ ((fault ≡ WriteFault.OutOfMemory) ⊎ (fault ≡ WriteFault.Failed))) }
-    {
-        self.note_row(row)?;
-        Ok(())
-    }
-
-    /// Counts the values of one row as `Tally::note` does. The fault has one byte, for callers that
-    /// call it for each row.
     #[inline(always)]
-    pub fn note_row(&mut self, row: &[Value]) -> Result<(), NoteFault>
+    pub fn note(&mut self, row: &[Value]) -> Result<(), PushFault>
         ensures noted { OnOk result (self.new ≡ record self.old {
           entries = note_all self.old.entries (row_pairs self.old.fields row.now);
         }) }
@@ -198,28 +161,28 @@ impl Tally {
         ensures fits { AllFit self.new.entries }
         ensures within { AllWithin self.new.limits self.new.fields self.new.entries }
         ensures unchanged { IfErr result
-            (λ fault. told_of fault ≡ WriteFault.DictionaryFull → self.new ≡ self.old) }
+            (λ fault. write_fault fault ≡ WriteFault.DictionaryFull → self.new ≡ self.old) }
         ensures as_before { IfErr result
-            (λ fault. IsOfLimits (told_of fault) → self.new ≡ self.old) }
-        ensures full { IfErr result (λ fault. told_of fault ≡ WriteFault.DictionaryFull
+            (λ fault. IsOfLimits (write_fault fault) → self.new ≡ self.old) }
+        ensures full { IfErr result (λ fault. write_fault fault ≡ WriteFault.DictionaryFull
             → IsFull (note_all self.old.entries (row_pairs self.old.fields row.now))) }
         // At W6 and W8 a dictionary's column would be longer than the limits allow.
-        ensures over { IfErr result (λ fault. IsOfLimits (told_of fault)
+        ensures over { IfErr result (λ fault. IsOfLimits (write_fault fault)
             → IsOverLimit self.old.limits self.old.fields
-            (note_all self.old.entries (row_pairs self.old.fields row.now)) (told_of fault)) }
+            (note_all self.old.entries (row_pairs self.old.fields row.now)) (write_fault fault)) }
         ensures failed { IfErr result
-            (λ fault. told_of fault ≡ WriteFault.OutOfMemory → self.new.failed ≡ true) }
+            (λ fault. write_fault fault ≡ WriteFault.OutOfMemory → self.new.failed ≡ true) }
         // A tally that has failed counts no row.
-        ensures refused { self.old.failed ≡ true → result ≡ Err NoteFault.Failed }
+        ensures refused { self.old.failed ≡ true → result ≡ Err PushFault.Failed }
         ensures still_failed { self.old.failed ≡ true → self.new.failed ≡ true }
         ensures before { IfErr result
-            (λ fault. told_of fault ≡ WriteFault.Failed → self.old.failed ≡ true) }
-        ensures only { IfErr result (λ fault. ((told_of fault ≡ WriteFault.DictionaryFull)
-            ⊎ IsOfLimits (told_of fault))
-            ⊎ ((told_of fault ≡ WriteFault.OutOfMemory) ⊎ (told_of fault ≡ WriteFault.Failed))) }
+            (λ fault. write_fault fault ≡ WriteFault.Failed → self.old.failed ≡ true) }
+        ensures only { IfErr result (λ fault. ((write_fault fault ≡ WriteFault.DictionaryFull)
+            ⊎ IsOfLimits (write_fault fault)) ⊎ ((write_fault fault ≡ WriteFault.OutOfMemory)
+            ⊎ (write_fault fault ≡ WriteFault.Failed))) }
     {
         if self.failed {
-            return Err(NoteFault::Failed);
+            return Err(PushFault::Failed);
         }
         if self.is_empty() {
             return Ok(());
@@ -228,7 +191,7 @@ impl Tally {
         let (entries, recent) = (&mut self.entries, &mut self.recent);
         let (marks, columns) = (&mut self.marks, &mut self.columns);
         if let Err(fault) = note_row(entries, recent, marks, columns, fields, row) {
-            self.failed = matches!(fault, NoteFault::OutOfMemory);
+            self.failed = matches!(fault, PushFault::OutOfMemory);
             return Err(fault);
         }
         Ok(())
@@ -244,12 +207,12 @@ impl Tally {
     ///
     /// - W7 `DictionaryFull`: exactly if a dictionary would have more distinct values than an index
     ///   type of its fields counts.
-    /// - W8 `TooManyRows`: a dictionary would have more than `limits.slots` values.
+    /// - W8 `TooMany`: a dictionary would have more than `limits.slots` values.
     /// - W6 `TooLong`: as the one column of their message, the values would have more data than
     ///   offsets reach, or more than `limits.body` bytes (Arrow Columnar Format, "Array lengths").
     /// - W11 `OutOfMemory`: memory for a value or a mark ran out.
     /// - W10 `Failed`: the call comes after W11.
-    pub fn note_columns(&mut self, batch: &Batch) -> Result<(), NoteFault>
+    pub fn note_columns(&mut self, batch: &Batch) -> Result<(), PushFault>
         ensures noted { OnOk result (self.new ≡ record self.old {
           entries = note_all self.old.entries (rows_pairs self.old.fields batch.now.rows);
         }) }
@@ -260,30 +223,31 @@ impl Tally {
         ensures fits { AllFit self.new.entries }
         ensures within { AllWithin self.new.limits self.new.fields self.new.entries }
         ensures unchanged { IfErr result
-            (λ fault. told_of fault ≡ WriteFault.DictionaryFull → self.new ≡ self.old) }
+            (λ fault. write_fault fault ≡ WriteFault.DictionaryFull → self.new ≡ self.old) }
         ensures as_before { IfErr result
-            (λ fault. IsOfLimits (told_of fault) → self.new ≡ self.old) }
-        ensures full { IfErr result (λ fault. told_of fault ≡ WriteFault.DictionaryFull
+            (λ fault. IsOfLimits (write_fault fault) → self.new ≡ self.old) }
+        ensures full { IfErr result (λ fault. write_fault fault ≡ WriteFault.DictionaryFull
             → IsFull (note_all self.old.entries
             (rows_pairs self.old.fields batch.now.rows))) }
         // At W6 and W8 a dictionary's column would be longer than the limits allow.
-        ensures over { IfErr result (λ fault. IsOfLimits (told_of fault)
+        ensures over { IfErr result (λ fault. IsOfLimits (write_fault fault)
             → IsOverLimit self.old.limits self.old.fields
             (note_all self.old.entries (rows_pairs self.old.fields batch.now.rows))
-            (told_of fault)) }
+            (write_fault fault)) }
         ensures failed { IfErr result
-            (λ fault. told_of fault ≡ WriteFault.OutOfMemory → self.new.failed ≡ true) }
+            (λ fault. write_fault fault ≡ WriteFault.OutOfMemory → self.new.failed ≡ true) }
         // A tally that has failed counts no row.
-        ensures refused { self.old.failed ≡ true → result ≡ Err NoteFault.Failed }
+        ensures refused { self.old.failed ≡ true → result ≡ Err PushFault.Failed }
         ensures still_failed { self.old.failed ≡ true → self.new.failed ≡ true }
         ensures before { IfErr result
-            (λ fault. told_of fault ≡ WriteFault.Failed → self.old.failed ≡ true) }
-        ensures only { IfErr result (λ fault. ((told_of fault ≡ WriteFault.DictionaryFull)
-            ⊎ IsOfLimits (told_of fault))
-            ⊎ ((told_of fault ≡ WriteFault.OutOfMemory) ⊎ (told_of fault ≡ WriteFault.Failed))) }
+            (λ fault. write_fault fault ≡ WriteFault.Failed → self.old.failed ≡ true) }
+        ensures only { IfErr result (λ fault. ((write_fault fault ≡ WriteFault.DictionaryFull)
+            ⊎ IsOfLimits (write_fault fault))
+            ⊎ ((write_fault fault ≡ WriteFault.OutOfMemory)
+            ⊎ (write_fault fault ≡ WriteFault.Failed))) }
     {
         if self.failed {
-            return Err(NoteFault::Failed);
+            return Err(PushFault::Failed);
         }
         if self.is_empty() {
             return Ok(());
@@ -293,7 +257,7 @@ impl Tally {
         let (entries, recent) = (&mut self.entries, &mut self.recent);
         let (marks, columns) = (&mut self.marks, &mut self.columns);
         if let Err(fault) = add_batch(alloc, entries, recent, marks, columns, fields, batch) {
-            self.failed = matches!(fault, NoteFault::OutOfMemory);
+            self.failed = matches!(fault, PushFault::OutOfMemory);
             return Err(fault);
         }
         Ok(())
@@ -386,7 +350,7 @@ fn note_row(
     columns: &mut EntryColumns,
     fields: &[Field],
     row: &[Value],
-) -> Result<(), NoteFault>
+) -> Result<(), PushFault>
     requires marks { length marks.old ≡ length entries.old }
     requires columns { AreEntriesCounted fields.now entries.old columns.old }
     ensures noted { OnOk result
@@ -396,16 +360,16 @@ fn note_row(
     ensures fits { AllFit entries.old → AllFit entries.new }
     ensures err { OnErr result (entries.new ≡ entries.old) }
     ensures full { IfErr result
-        (λ fault. told_of fault ≡ WriteFault.DictionaryFull
+        (λ fault. write_fault fault ≡ WriteFault.DictionaryFull
         → IsFull (note_all entries.old (row_pairs fields.now row.now))) }
     ensures counted { AreEntriesCounted fields.now entries.new columns.new }
     ensures limits { columns.new.limits ≡ columns.old.limits }
-    ensures over { IfErr result (λ fault. IsOfLimits (told_of fault)
+    ensures over { IfErr result (λ fault. IsOfLimits (write_fault fault)
         → IsOverLimit columns.old.limits fields.now
-        (note_all entries.old (row_pairs fields.now row.now)) (told_of fault)) }
+        (note_all entries.old (row_pairs fields.now row.now)) (write_fault fault)) }
     ensures memory { IfErr result
-        (λ fault. ((told_of fault ≡ WriteFault.DictionaryFull) ⊎ IsOfLimits (told_of fault))
-        ⊎ (told_of fault ≡ WriteFault.OutOfMemory)) }
+        (λ fault. ((write_fault fault ≡ WriteFault.DictionaryFull) ⊎ IsOfLimits (write_fault fault))
+        ⊎ (write_fault fault ≡ WriteFault.OutOfMemory)) }
 {
     mark(entries, marks);
     if let Err(fault) = note_counted(entries, recent, marks, columns, fields, row) {
@@ -423,24 +387,24 @@ fn note_counted(
     columns: &mut EntryColumns,
     fields: &[Field],
     row: &[Value],
-) -> Result<(), NoteFault>
+) -> Result<(), PushFault>
     requires marks { marks.now ≡ lens entries.old }
     requires columns { AreEntriesCounted fields.now entries.old columns.old }
     ensures noted { OnOk result
         (entries.new ≡ note_all entries.old (row_pairs fields.now row.now)) }
     ensures fits { OnOk result (AllFit entries.old → AllFit entries.new) }
     ensures full { IfErr result
-        (λ fault. told_of fault ≡ WriteFault.DictionaryFull
+        (λ fault. write_fault fault ≡ WriteFault.DictionaryFull
         → IsFull (note_all entries.old (row_pairs fields.now row.now))) }
     ensures counted { OnOk result (AreEntriesCounted fields.now entries.new columns.new) }
     ensures kept { OnErr result (AreEntriesCounted fields.now entries.old columns.new) }
     ensures limits { columns.new.limits ≡ columns.old.limits }
-    ensures over { IfErr result (λ fault. IsOfLimits (told_of fault)
+    ensures over { IfErr result (λ fault. IsOfLimits (write_fault fault)
         → IsOverLimit columns.old.limits fields.now
-        (note_all entries.old (row_pairs fields.now row.now)) (told_of fault)) }
+        (note_all entries.old (row_pairs fields.now row.now)) (write_fault fault)) }
     ensures memory { IfErr result
-        (λ fault. ((told_of fault ≡ WriteFault.DictionaryFull) ⊎ IsOfLimits (told_of fault))
-        ⊎ (told_of fault ≡ WriteFault.OutOfMemory)) }
+        (λ fault. ((write_fault fault ≡ WriteFault.DictionaryFull) ⊎ IsOfLimits (write_fault fault))
+        ⊎ (write_fault fault ≡ WriteFault.OutOfMemory)) }
     ensures grows { AllGrow entries.old entries.new }
 {
     note_each(entries, recent, fields, row)?;
@@ -460,7 +424,7 @@ fn add_batch(
     columns: &mut EntryColumns,
     fields: &[Field],
     batch: &Batch,
-) -> Result<(), NoteFault>
+) -> Result<(), PushFault>
     requires marks { length marks.old ≡ length entries.old }
     requires columns { AreEntriesCounted fields.now entries.old columns.old }
     ensures noted { OnOk result
@@ -470,16 +434,16 @@ fn add_batch(
     ensures fits { AllFit entries.old → AllFit entries.new }
     ensures err { OnErr result (entries.new ≡ entries.old) }
     ensures full { IfErr result
-        (λ fault. told_of fault ≡ WriteFault.DictionaryFull
+        (λ fault. write_fault fault ≡ WriteFault.DictionaryFull
         → IsFull (note_all entries.old (rows_pairs fields.now batch.now.rows))) }
     ensures counted { AreEntriesCounted fields.now entries.new columns.new }
     ensures limits { columns.new.limits ≡ columns.old.limits }
-    ensures over { IfErr result (λ fault. IsOfLimits (told_of fault)
+    ensures over { IfErr result (λ fault. IsOfLimits (write_fault fault)
         → IsOverLimit columns.old.limits fields.now
-        (note_all entries.old (rows_pairs fields.now batch.now.rows)) (told_of fault)) }
+        (note_all entries.old (rows_pairs fields.now batch.now.rows)) (write_fault fault)) }
     ensures memory { IfErr result
-        (λ fault. ((told_of fault ≡ WriteFault.DictionaryFull) ⊎ IsOfLimits (told_of fault))
-        ⊎ (told_of fault ≡ WriteFault.OutOfMemory)) }
+        (λ fault. ((write_fault fault ≡ WriteFault.DictionaryFull) ⊎ IsOfLimits (write_fault fault))
+        ⊎ (write_fault fault ≡ WriteFault.OutOfMemory)) }
 {
     mark(entries, marks);
     if let Err(fault) = count_batch(alloc, entries, recent, marks, columns, fields, batch) {
@@ -498,24 +462,24 @@ fn count_batch(
     columns: &mut EntryColumns,
     fields: &[Field],
     batch: &Batch,
-) -> Result<(), NoteFault>
+) -> Result<(), PushFault>
     requires marks { marks.now ≡ lens entries.old }
     requires columns { AreEntriesCounted fields.now entries.old columns.old }
     ensures noted { OnOk result
         (entries.new ≡ note_all entries.old (rows_pairs fields.now batch.now.rows)) }
     ensures fits { OnOk result (AllFit entries.old → AllFit entries.new) }
     ensures full { IfErr result
-        (λ fault. told_of fault ≡ WriteFault.DictionaryFull
+        (λ fault. write_fault fault ≡ WriteFault.DictionaryFull
         → IsFull (note_all entries.old (rows_pairs fields.now batch.now.rows))) }
     ensures counted { OnOk result (AreEntriesCounted fields.now entries.new columns.new) }
     ensures kept { OnErr result (AreEntriesCounted fields.now entries.old columns.new) }
     ensures limits { columns.new.limits ≡ columns.old.limits }
-    ensures over { IfErr result (λ fault. IsOfLimits (told_of fault)
+    ensures over { IfErr result (λ fault. IsOfLimits (write_fault fault)
         → IsOverLimit columns.old.limits fields.now
-        (note_all entries.old (rows_pairs fields.now batch.now.rows)) (told_of fault)) }
+        (note_all entries.old (rows_pairs fields.now batch.now.rows)) (write_fault fault)) }
     ensures memory { IfErr result
-        (λ fault. ((told_of fault ≡ WriteFault.DictionaryFull) ⊎ IsOfLimits (told_of fault))
-        ⊎ (told_of fault ≡ WriteFault.OutOfMemory)) }
+        (λ fault. ((write_fault fault ≡ WriteFault.DictionaryFull) ⊎ IsOfLimits (write_fault fault))
+        ⊎ (write_fault fault ≡ WriteFault.OutOfMemory)) }
     ensures grows { AllGrow entries.old entries.new }
 {
     note_batch(alloc, entries, recent, fields, batch)?;

@@ -5,8 +5,8 @@ ghost use Rattle.ipc_dict.specs.Noting.{note_all, AllFit, IsFull, AllGrow};
 ghost use Rattle.ipc_dict.specs.Pairs.{pairs, items_pairs, each_pairs};
 
 use crate::entry::{TallyEntry, note_one};
-use crate::fault::NoteFault;
 use crate::recent::Recent;
+use ipc_encode::PushFault;
 use ipc_model::{DataType, Field, Value};
 
 /// Returns true only if neither the field nor a descendant names a dictionary.
@@ -28,14 +28,14 @@ pub(crate) fn note_value(
     recent: &mut Recent,
     field: &Field,
     value: &Value,
-) -> Result<(), NoteFault>
+) -> Result<(), PushFault>
     ensures noted { OnOk result (entries.new ≡ note_all entries.old (pairs field.now value.now)) }
     ensures fits { OnOk result (AllFit entries.old → AllFit entries.new) }
     ensures full { IfErr result
-        (λ fault. fault ≡ NoteFault.DictionaryFull
+        (λ fault. fault ≡ PushFault.DictionaryFull
         → IsFull (note_all entries.old (pairs field.now value.now))) }
     ensures memory { IfErr result
-        (λ fault. (fault ≡ NoteFault.DictionaryFull) ⊎ (fault ≡ NoteFault.OutOfMemory)) }
+        (λ fault. (fault ≡ PushFault.DictionaryFull) ⊎ (fault ≡ PushFault.OutOfMemory)) }
     ensures grows { AllGrow entries.old entries.new }
 {
     if is_plain(field) {
@@ -52,14 +52,14 @@ fn note_named(
     recent: &mut Recent,
     field: &Field,
     value: &Value,
-) -> Result<(), NoteFault>
+) -> Result<(), PushFault>
     ensures noted { OnOk result (entries.new ≡ note_all entries.old (pairs field.now value.now)) }
     ensures fits { OnOk result (AllFit entries.old → AllFit entries.new) }
     ensures full { IfErr result
-        (λ fault. fault ≡ NoteFault.DictionaryFull
+        (λ fault. fault ≡ PushFault.DictionaryFull
         → IsFull (note_all entries.old (pairs field.now value.now))) }
     ensures memory { IfErr result
-        (λ fault. (fault ≡ NoteFault.DictionaryFull) ⊎ (fault ≡ NoteFault.OutOfMemory)) }
+        (λ fault. (fault ≡ PushFault.DictionaryFull) ⊎ (fault ≡ PushFault.OutOfMemory)) }
     ensures grows { AllGrow entries.old entries.new }
 {
     if let Some(dictionary) = field.dictionary {
@@ -91,15 +91,15 @@ fn note_items(
     recent: &mut Recent,
     child: &Field,
     values: &[Value],
-) -> Result<(), NoteFault>
+) -> Result<(), PushFault>
     ensures noted { OnOk result
         (entries.new ≡ note_all entries.old (items_pairs (pairs child.now) values.now)) }
     ensures fits { OnOk result (AllFit entries.old → AllFit entries.new) }
     ensures full { IfErr result
-        (λ fault. fault ≡ NoteFault.DictionaryFull
+        (λ fault. fault ≡ PushFault.DictionaryFull
         → IsFull (note_all entries.old (items_pairs (pairs child.now) values.now))) }
     ensures memory { IfErr result
-        (λ fault. (fault ≡ NoteFault.DictionaryFull) ⊎ (fault ≡ NoteFault.OutOfMemory)) }
+        (λ fault. (fault ≡ PushFault.DictionaryFull) ⊎ (fault ≡ PushFault.OutOfMemory)) }
     ensures grows { AllGrow entries.old entries.new }
 {
     for value in values {
@@ -116,15 +116,15 @@ pub(crate) fn note_each(
     recent: &mut Recent,
     fields: &[Field],
     values: &[Value],
-) -> Result<(), NoteFault>
+) -> Result<(), PushFault>
     ensures noted { OnOk result
         (entries.new ≡ note_all entries.old (each_pairs (map pairs fields.now) values.now)) }
     ensures fits { OnOk result (AllFit entries.old → AllFit entries.new) }
     ensures full { IfErr result
-        (λ fault. fault ≡ NoteFault.DictionaryFull
+        (λ fault. fault ≡ PushFault.DictionaryFull
         → IsFull (note_all entries.old (each_pairs (map pairs fields.now) values.now))) }
     ensures memory { IfErr result
-        (λ fault. (fault ≡ NoteFault.DictionaryFull) ⊎ (fault ≡ NoteFault.OutOfMemory)) }
+        (λ fault. (fault ≡ PushFault.DictionaryFull) ⊎ (fault ≡ PushFault.OutOfMemory)) }
     ensures grows { AllGrow entries.old entries.new }
 {
     for (number, field) in fields.iter().enumerate() {

@@ -1,6 +1,6 @@
 -- The numbers of one column, whose values are rows of one value each.
 use Rattle.std.proofs.Common.{◌≡◌, ◌∙◌, refl, sym, ap, subst, ℕ, ◌+◌, ◌<◌, ◌≤◌, List, [], ◌∷◌, ◌++◌, length, take, append_assoc, arith}
-use Rattle.std.proofs.Common.{Result, Ok, Err, IfErr}
+use Rattle.std.proofs.Common.{inr, Result, Ok, Err, IfErr}
 use Rattle.ipc_model.specs.declared.fault.WriteFault.TheVariants as fault
 use Rattle.ipc_model.specs.declared.layout.Layout.{Layout}
 use Rattle.ipc_model.specs.declared.limits.Limits.{Limits}
@@ -11,13 +11,13 @@ use Rattle.ipc_encode.specs.declared.counts.Counts.{Counts}
 use Rattle.ipc_encode.specs.declared.fault.PushFault.{PushFault}
 use Rattle.ipc_encode.specs.declared.fault.PushFault.TheVariants as push
 use Rattle.ipc_encode.specs.Buffers.{columns, column_buffers, padded}
-use Rattle.ipc_encode.specs.Built.{ArePushesRefused, AreTooMuch, AreWithin, IsCounted, IsPushRefused}
+use Rattle.ipc_encode.specs.Built.{ArePushesRefused, AreWithin, IsCounted, IsPushRefused}
 use Rattle.ipc_encode.specs.CountedColumns.{as_rows}
 use Rattle.ipc_encode.specs.Faults.{write_fault}
 use Rattle.ipc_encode.specs.Limits.{IsTooLong, IsRefused, IsWithin}
 use Rattle.ipc_encode.proofs.Growing.{all_refused, first_refused, own_refused, parts_length}
-use Rattle.ipc_encode.proofs.Held.{rows_refused, rows_too_much, rows_within}
-use Rattle.ipc_encode.proofs.Leaving.{few_leaf, leaf_past, short_leaf}
+use Rattle.ipc_encode.proofs.Held.{rows_refused, rows_within}
+use Rattle.ipc_encode.proofs.Siblings.{few_leaf, short_leaf}
 use Rattle.ipc_encode.proofs.Steps.{cells_append, cells_length}
 
 -- values are the column of their rows
@@ -46,9 +46,11 @@ module _ (limits : Limits) (fields : List Field) (rows : List (List Value)) (l :
   -- one whose buffers aren't
   pub counts_past : (len : ℕ) → shape_of fields ≡ field l bare bare → len ≡ length (padded (column_buffers l (columns rows 0)))
       → limits.body < len → IsTooLong limits fields rows
-  counts_past len shape size more = rows_too_much limits fields rows push.TooLong
-      (subst (λ (s : Shape). AreTooMuch limits limits.body s (columns rows) push.TooLong) (sym shape)
-      (leaf_past limits l (columns rows 0) limits.body len size more))
+  counts_past len shape size more =
+      let whole = parts_length l bare bare (columns rows) in
+      rows_refused limits fields rows push.TooLong
+      (subst (λ (s : Shape). ArePushesRefused limits s (columns rows) push.TooLong) (sym shape)
+      (inr (omega (arith, whole, size, more))))
 
   -- why a column doesn't take one of the values is why the rows with all of them are refused
   pub value_refused : (values : List Value) (i : ℕ) (v : Value) (e : PushFault) → shape_of fields ≡ field l bare bare
@@ -70,6 +72,7 @@ pub not_memory : (e : PushFault) → (e ≡ push.OutOfMemory → ⊥) → write_
 not_memory push.TooLong other e = cc
 not_memory push.TooMany other e = cc
 not_memory push.OutOfMemory other e = other refl
+not_memory push.DictionaryFull other e = cc
 not_memory push.Failed other e = cc
 
 -- a body that is too long refuses the rows

@@ -201,6 +201,7 @@ refused_grow limits shape given more push.TooLong (inr body) = let grown = body_
 refused_grow limits shape given more push.TooMany (inl slots) = inl (long_nodes_grow limits.slots shape given more slots)
 refused_grow limits shape given more push.TooMany (inr items) = inr (long_items_grow shape given more items)
 refused_grow limits shape given more push.OutOfMemory h = h
+refused_grow limits shape given more push.DictionaryFull h = h
 refused_grow limits shape given more push.Failed h = h
 
 -- ---- one of several columns
@@ -213,6 +214,7 @@ own_refused limits l c rest given push.TooLong (inr body) = let size = parts_len
 own_refused limits l c rest given push.TooMany (inl slots) = inl (inl slots)
 own_refused limits l c rest given push.TooMany (inr items) = inr (inl items)
 own_refused limits l c rest given push.OutOfMemory h = h
+own_refused limits l c rest given push.DictionaryFull h = h
 own_refused limits l c rest given push.Failed h = h
 
 pub child_refused : (limits : Limits) (l : Layout) (c rest : Shape) (given : ℕ → List Value) (e : PushFault)
@@ -222,6 +224,7 @@ child_refused limits l c rest given push.TooLong (inr body) = let size = parts_l
 child_refused limits l c rest given push.TooMany (inl slots) = inl (inr (inl slots))
 child_refused limits l c rest given push.TooMany (inr items) = inr (inr (inl items))
 child_refused limits l c rest given push.OutOfMemory h = h
+child_refused limits l c rest given push.DictionaryFull h = h
 child_refused limits l c rest given push.Failed h = h
 
 pub later_refused : (limits : Limits) (l : Layout) (c rest : Shape) (given : ℕ → List Value) (e : PushFault)
@@ -231,6 +234,7 @@ later_refused limits l c rest given push.TooLong (inr body) = let size = parts_l
 later_refused limits l c rest given push.TooMany (inl slots) = inl (inr (inr slots))
 later_refused limits l c rest given push.TooMany (inr items) = inr (inr (inr items))
 later_refused limits l c rest given push.OutOfMemory h = h
+later_refused limits l c rest given push.DictionaryFull h = h
 later_refused limits l c rest given push.Failed h = h
 
 pub first_refused : (limits : Limits) (l : Layout) (c rest : Shape) (given : ℕ → List Value) (e : PushFault)
@@ -249,6 +253,7 @@ first_refused limits l c rest given push.TooMany (inr (inl own)) = inr (inl own)
 first_refused limits l c rest given push.TooMany (inr (inr (inl child))) = inr (inr (inl child))
 first_refused limits l c rest given push.TooMany (inr (inr (inr none))) = absurd none
 first_refused limits l c rest given push.OutOfMemory h = h
+first_refused limits l c rest given push.DictionaryFull h = h
 first_refused limits l c rest given push.Failed h = h
 
 -- why node i doesn't take its values is why all nodes don't take theirs

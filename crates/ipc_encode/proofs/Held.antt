@@ -1,5 +1,5 @@
 -- The columns of the rows that a builder holds.
-use Rattle.std.proofs.Common.{◌≡◌, ◌∙◌, sym, ap, subst, ℕ, suc, ◌+◌, ◌<◌, ◌≤◌, List, [], ◌∷◌, ◌++◌, length, take, drop, arith}
+use Rattle.std.proofs.Common.{refl, ◌≡◌, ◌∙◌, sym, ap, subst, ℕ, suc, ◌+◌, ◌<◌, ◌≤◌, List, [], ◌∷◌, ◌++◌, length, take, drop, arith}
 use Rattle.std.proofs.Common.{inl, inr}
 use Rattle.std.proofs.lemmas.Bool.{cases_lt}
 use Rattle.std.proofs.lemmas.List.{take-append-drop}
@@ -18,7 +18,7 @@ use Rattle.ipc_encode.specs.Faults.{write_fault}
 use Rattle.ipc_encode.specs.Limits.{IsTooMany, IsTooLong, IsWithin, IsRefused}
 use Rattle.ipc_encode.specs.Writing.{AllStored}
 use Rattle.ipc_encode.specs.Numbers.{Numbering}
-use Rattle.ipc_encode.specs.Built.{AreColumns, AreWithin, AreTooMuch, ArePushesRefused}
+use Rattle.ipc_encode.specs.Built.{AreColumns, AreWithin, ArePushesRefused}
 use Rattle.ipc_encode.proofs.Growing.{refused_grow}
 use Rattle.ipc_encode.proofs.PastOffsets.{data_some, items_some}
 use Rattle.ipc_encode.proofs.Siblings.{taken_few, taken_short}
@@ -28,11 +28,6 @@ use Rattle.ipc_encode.proofs.Steps.{cells_append}
 pub columns_push : (rows : List (List Value)) (row : List Value)
     → ◌≡◌ {A = ℕ → List Value} (λ j. columns rows j ++ cell j row ∷ []) (columns (rows ++ row ∷ []))
 columns_push rows row = λ d j. sym (cells_append j rows (row ∷ [])) d
-
--- the columns of more rows
-pub columns_more : (rows more : List (List Value))
-    → ◌≡◌ {A = ℕ → List Value} (λ j. columns rows j ++ cells j more) (columns (rows ++ more))
-columns_more rows more = λ d j. sym (cells_append j rows more) d
 
 -- the texts of all columns are UTF-8
 pub all_stored : (known : Numbering) (limits : Limits) (shape : Shape) (nodes : List Node) (given : ℕ → List Value)
@@ -83,15 +78,8 @@ pub rows_refused : (limits : Limits) (fields : List Field) (rows : List (List Va
 rows_refused limits fields rows push.TooLong h = h
 rows_refused limits fields rows push.TooMany h = inr h
 rows_refused limits fields rows push.OutOfMemory h = h
+rows_refused limits fields rows push.DictionaryFull h = absurd h
 rows_refused limits fields rows push.Failed h = absurd h
-
--- the same of columns that aren't within the limits
-pub rows_too_much : (limits : Limits) (fields : List Field) (rows : List (List Value)) (e : PushFault)
-    → AreTooMuch limits limits.body (shape_of fields) (columns rows) e → IsRefused limits fields rows (write_fault e)
-rows_too_much limits fields rows push.TooLong h = h
-rows_too_much limits fields rows push.TooMany h = inr h
-rows_too_much limits fields rows push.OutOfMemory h = absurd h
-rows_too_much limits fields rows push.Failed h = absurd h
 
 -- why the first rows aren't taken is why all aren't
 pub first_rows_refused : (limits : Limits) (shape : Shape) (rows : List (List Value)) (i : ℕ) (e : PushFault)
@@ -101,15 +89,15 @@ first_rows_refused limits shape rows i e h =
     (λ d j. (sym (cells_append j (take i rows) (drop i rows)) ∙ ap (λ (rs : List (List Value)). cells j rs) (take-append-drop i rows)) d)
     (refused_grow limits shape (columns (take i rows)) (columns (drop i rows)) e h)
 
--- a refusal for what rows are isn't one for memory
-pub no_memory : (limits : Limits) (bytes : ℕ) (shape : Shape) (given : ℕ → List Value) (e : PushFault)
-    → AreTooMuch limits bytes shape given e
-    → write_fault e ≡ fault.OutOfMemory → ⊥
-no_memory limits bytes shape given push.TooLong h e = cc
-no_memory limits bytes shape given push.TooMany h e = cc
-no_memory limits bytes shape given push.OutOfMemory h e = h
-no_memory limits bytes shape given push.Failed h e = h
-
 -- there is room for a row where there are not as many as there may be
 pub not_full : (rows slots : ℕ) → (slots ≤ rows → ⊥) → rows < slots
 not_full rows slots h = elim (cases_lt rows slots) as (λ _. rows < slots) [ inl x ↦ x | inr g ↦ absurd (h g) ]
+
+-- only memory is wanting for rows that are within the limits
+pub only_memory : (limits : Limits) (fields : List Field) (rows : List (List Value)) (e : PushFault) → IsWithin limits fields rows
+    → IsRefused limits fields rows (write_fault e) → e ≡ push.OutOfMemory
+only_memory limits fields rows push.TooLong within h = absurd (within.short h)
+only_memory limits fields rows push.TooMany within h = absurd (within.few h)
+only_memory limits fields rows push.DictionaryFull within h = absurd h
+only_memory limits fields rows push.OutOfMemory within h = refl
+only_memory limits fields rows push.Failed within h = absurd h

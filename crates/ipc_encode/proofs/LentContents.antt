@@ -30,7 +30,7 @@ use Rattle.ipc_encode.specs.Cells.{HasUtf8, SpellsOut, bytes_in, content, ends}
 use Rattle.ipc_encode.specs.Cells.{slots}
 use Rattle.ipc_encode.specs.Pieces.{Bytes, Content}
 use Rattle.ipc_encode.specs.Writing.{AreStored}
-use Rattle.ipc_encode.proofs.LentBytes.{all_append, content_extents, ends_next}
+use Rattle.ipc_encode.proofs.LentBytes.{content_extents, ends_next}
 use Rattle.ipc_encode.proofs.NumberBytes.{num_more, num_none, num_small, unsigned_bytes}
 use Rattle.ipc_encode.proofs.NumberSlots.{null_out}
 use Rattle.ipc_encode.proofs.Steps.{extents}
@@ -247,16 +247,3 @@ slots_stored s l.Lists laid spelled = tt
 slots_stored s l.Structs laid spelled = tt
 slots_stored s (l.FixedLists size) laid spelled = tt
 slots_stored s (l.Indices bits signed id) laid spelled = tt
-
--- values behind others are stored where both are
-pub stored_append : (layout : Layout) (before more : List Value) → AreStored layout before → AreStored layout more
-    → AreStored layout (before ++ more)
-stored_append (l.VariableBytes utf8) before more h g = all_append HasUtf8 before more h g
-stored_append l.Null before more h g = tt
-stored_append l.Bits before more h g = tt
-stored_append (l.Numbers bits signed) before more h g = tt
-stored_append (l.FixedBytes width) before more h g = tt
-stored_append l.Lists before more h g = tt
-stored_append l.Structs before more h g = tt
-stored_append (l.FixedLists size) before more h g = tt
-stored_append (l.Indices bits signed id) before more h g = tt

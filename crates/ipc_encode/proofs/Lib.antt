@@ -2,6 +2,8 @@ pub mod Bits
 pub mod Steps
 pub mod SurelyFit
 pub mod Weights
+pub mod InnerValues
+pub mod RowWeights
 pub mod Packing
 pub mod WholeBytes
 pub mod Sizes
@@ -11,9 +13,8 @@ pub mod Adding
 pub mod Nodes
 pub mod Growing
 pub mod Siblings
-pub mod Leaving
 pub mod Held
-pub mod Spared
+pub mod RowHeadroom
 pub mod SlotParts
 pub mod Marked
 pub mod NumberBytes

@@ -1,7 +1,6 @@
 -- The slots of the children of a column that was read, where they are those that its slots lead to.
 use Rattle.std.proofs.Common.{◌≡◌, ◌∙◌, refl, sym, ap, subst, ℕ, zero, suc, ◌+◌, ◌-◌, ◌*◌, ◌<◌, ◌≤◌, Bool, true, false, cond}
 use Rattle.std.proofs.Common.{List, [], ◌∷◌, ◌++◌, length, map, get_or, Option, Some, None, arith}
-use Rattle.std.proofs.Common.{length-append}
 use Rattle.std.specs.Prelude.{slice_get, ◌&&◌}
 use Rattle.std.proofs.lemmas.Bool.{and_parts, false≢true}
 use Rattle.std.proofs.lemmas.List.{append-nil}
@@ -27,12 +26,12 @@ use Rattle.ipc_column.proofs.Slices.{places}
 use Rattle.ipc_column.proofs.Slots.{bytes_from, order_from}
 use Rattle.ipc_encode.specs.Cells.{all_items, all_parts, cell, is_set, items_in, part, part_in}
 use Rattle.ipc_encode.specs.Marks.{MarksNulls}
-use Rattle.ipc_encode.specs.Pieces.{Items, Valid}
+use Rattle.ipc_encode.specs.Pieces.{Valid}
 use Rattle.ipc_encode.specs.Cells as c
 use Rattle.ipc_encode.proofs.LentBuffers.{buffers_at, list_out, slot_count, slot_is, struct_out}
 use Rattle.ipc_encode.proofs.LentContents.{place_is, start_of}
 use Rattle.ipc_encode.proofs.NumberSlots.{null_out}
-use Rattle.ipc_encode.proofs.Steps.{below_append, extents}
+use Rattle.ipc_encode.proofs.Steps.{below_append}
 
 -- ---- children
 
@@ -119,14 +118,6 @@ runs_join f g at (suc n) each rise =
           ∙ (sym (items_join g (at 0) (at n - at 0) (at (suc n) - at n))
           ∙ ap (λ (k : ℕ). items g (at 0) k) size)))))),
     )
-
--- lists have as many items as their runs are long
-pub items_run : (vs : List Value) → length (all_items vs) ≡ extents Items vs
-items_run [] = refl
-items_run (v ∷ vs) =
-    let more = items_run vs in
-    let size = length-append (c.items v) (all_items vs) in
-    omega (arith, more, size)
 
 -- ---- lists
 

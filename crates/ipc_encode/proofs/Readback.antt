@@ -15,7 +15,7 @@ use Rattle.ipc_column.specs.Values.{is_valid, place, first_of, own_value, value_
 use Rattle.ipc_column.specs.Dictionaries.{Dictionaries}
 use Rattle.ipc_column.specs.Shapes.{dictionary_at}
 use Rattle.ipc_column.specs.Values.{items as slots_from}
-use Rattle.ipc_encode.specs.Pieces.{True, Valid}
+use Rattle.ipc_encode.specs.Pieces.{True}
 use Rattle.ipc_encode.specs.Numbers.{Numbering}
 use Rattle.ipc_encode.specs.Indices.{InColumn, Finds}
 use Rattle.ipc_encode.specs.Pieces.{Number}

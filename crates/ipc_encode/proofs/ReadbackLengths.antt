@@ -10,9 +10,8 @@ use Rattle.ipc_model.specs.declared.layout.Layout.TheVariants as l
 use Rattle.ipc_model.specs.Layouts.{number_bytes, has_validity}
 use Rattle.ipc_column.specs.Dictionaries.{Dictionaries}
 use Rattle.ipc_column.specs.Rules.{HoldValues, HoldOffsets, IsLongEnough, HasWholeBitmap, CountsNulls}
-use Rattle.ipc_encode.specs.Pieces.{Valid, True}
-use Rattle.ipc_encode.specs.Pieces.{Run, ValueSlot}
-use Rattle.ipc_encode.specs.Pieces.{Number, Fixed, Content}
+use Rattle.ipc_encode.specs.Pieces.{True}
+use Rattle.ipc_encode.specs.Pieces.{Number, Fixed}
 use Rattle.ipc_encode.specs.Pieces as p
 use Rattle.ipc_encode.specs.Cells.{flags, nulls}
 use Rattle.ipc_encode.specs.Cells.{slots}

@@ -1,7 +1,7 @@
 -- Buffers that are added one after another to a list of segments.
 use Rattle.std.proofs.Common.{◌≡◌, ◌∙◌, refl, sym, ap, subst, ℕ, ◌+◌, ◌-◌, ◌%◌, ◌≤◌, List, [], ◌∷◌, ◌++◌, length, replicate}
 use Rattle.std.proofs.Common.{append_assoc, length-append, arith}
-use Rattle.std.specs.Prelude.{ℤ, pos}
+use Rattle.std.specs.Prelude.{ℤ}
 use Rattle.std.proofs.lemmas.List.{append-nil, length-replicate}
 use Rattle.ipc_model.specs.declared.limits.Limits.{Limits}
 use Rattle.ipc_encode.specs.declared.fault.PushFault.{PushFault}
@@ -63,27 +63,6 @@ padded_one bs =
     let pad : length zeros ≡ (8 - length bs % 8) % 8 = length-replicate ((8 - length bs % 8) % 8) 0 in
     ap (λ (xs : List ℕ). length xs) (append-nil (bs ++ zeros)) ∙ (length-append bs zeros ∙ ap (λ (n : ℕ). length bs + n) pad)
 
--- a buffer that is added, and then ended
-pub buffer_added : (d mid e : SegmentedDraft) (bs : List ℕ) → mid.buffers.items ≡ d.buffers.items
-    → joined mid.segments.items ≡ joined d.segments.items ++ bs → mid.len ≡ d.len + length bs
-    → e.buffers.items ≡ mid.buffers.items ++ (pos d.len, pos (mid.len - d.len)) ∷ []
-    → joined e.segments.items ≡ joined mid.segments.items ++ replicate ((8 - (mid.len - d.len) % 8) % 8) 0
-    → e.len ≡ mid.len + (8 - (mid.len - d.len) % 8) % 8 → AddsBuffers d e (bs ∷ [])
-buffer_added d mid e bs kept m size r b n =
-    let own : mid.len - d.len ≡ length bs = omega (arith, size) in
-    let zeros = replicate ((8 - length bs % 8) % 8) 0 in
-    let whole = padded_one bs in
-    let end : e.len ≡ mid.len + (8 - length bs % 8) % 8 = n ∙ ap (λ (k : ℕ). mid.len + (8 - k % 8) % 8) own in
-    record {
-      buffers = r ∙ (ap (λ (k : ℕ). mid.buffers.items ++ (pos d.len, pos k) ∷ []) own
-          ∙ ap (λ (rs : List (ℤ × ℤ)). rs ++ (pos d.len, pos (length bs)) ∷ []) kept);
-      body = b ∙ (ap (λ (k : ℕ). joined mid.segments.items ++ replicate ((8 - k % 8) % 8) 0) own
-          ∙ (ap (λ (xs : List ℕ). xs ++ zeros) m
-          ∙ (append_assoc (joined d.segments.items) bs zeros
-          ∙ ap (λ (xs : List ℕ). joined d.segments.items ++ xs) (sym (append-nil (bs ++ zeros))))));
-      len = omega (arith, size, whole, end);
-    }
-
 -- ---- refusals
 
 -- what is refused of a body is refused of a longer one
@@ -91,6 +70,7 @@ pub refused_longer : (limits : Limits) (m n : ℕ) (e : PushFault) → m ≤ n �
 refused_longer limits m n push.TooLong le h = omega (arith, le, h)
 refused_longer limits m n push.TooMany le h = h
 refused_longer limits m n push.OutOfMemory le h = h
+refused_longer limits m n push.DictionaryFull le h = h
 refused_longer limits m n push.Failed le h = h
 
 -- a buffer that is refused before it ends

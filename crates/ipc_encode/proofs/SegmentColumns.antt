@@ -32,10 +32,9 @@ use Rattle.ipc_encode.specs.Writing.{AllStored, AreStored}
 use Rattle.ipc_encode.proofs.Growing.{parts_length}
 use Rattle.ipc_encode.proofs.Held.{all_stored, rows_within}
 use Rattle.ipc_encode.proofs.Indexed.{buffers_size, buffers_with_next}
-use Rattle.ipc_encode.proofs.Leaving.{few_leaf, short_leaf}
 use Rattle.ipc_encode.proofs.SegmentBuffers.{adds_as, adds_both, adds_none}
 use Rattle.ipc_encode.proofs.Siblings.{IsAt, bytes_next, few_next, first, first_within, long_node_at, nodes_next, short_next, some_at}
-use Rattle.ipc_encode.proofs.Siblings.{taken_few, taken_short}
+use Rattle.ipc_encode.proofs.Siblings.{few_leaf, short_leaf, taken_few, taken_short}
 use Rattle.ipc_encode.proofs.Sizes.{long_is}
 
 -- ---- a column without children
@@ -77,6 +76,7 @@ leaf_refused limits len lay vs bs push.TooLong same h =
     inr (omega (arith, whole, size, h))
 leaf_refused limits len lay vs bs push.TooMany same h = absurd h
 leaf_refused limits len lay vs bs push.OutOfMemory same h = h
+leaf_refused limits len lay vs bs push.DictionaryFull same h = h
 leaf_refused limits len lay vs bs push.Failed same h = h
 
 -- its lists have too many items
@@ -142,6 +142,7 @@ own_refused_after limits len lay c vs push.TooMany (inr (inl own)) = inr (inl ow
 own_refused_after limits len lay c vs push.TooMany (inr (inr (inl none))) = absurd none
 own_refused_after limits len lay c vs push.TooMany (inr (inr (inr none))) = absurd none
 own_refused_after limits len lay c vs push.OutOfMemory h = h
+own_refused_after limits len lay c vs push.DictionaryFull h = h
 own_refused_after limits len lay c vs push.Failed h = h
 
 -- its children are refused
@@ -159,6 +160,7 @@ children_refused limits known lay c vs d mid push.TooLong own (inr more) =
 children_refused limits known lay c vs d mid push.TooMany own (inl slots) = inl (inr (inl slots))
 children_refused limits known lay c vs d mid push.TooMany own (inr items) = inr (inr (inl items))
 children_refused limits known lay c vs d mid push.OutOfMemory own h = h
+children_refused limits known lay c vs d mid push.DictionaryFull own h = h
 children_refused limits known lay c vs d mid push.Failed own h = h
 
 -- ---- a column that is encoded in a node
@@ -184,6 +186,7 @@ pushes_refused limits len shape given push.TooLong (inl long) = inl long
 pushes_refused limits len shape given push.TooLong (inr body) = inr (omega (arith, body))
 pushes_refused limits len shape given push.TooMany h = h
 pushes_refused limits len shape given push.OutOfMemory h = h
+pushes_refused limits len shape given push.DictionaryFull h = h
 pushes_refused limits len shape given push.Failed h = h
 
 -- the buffers of columns are refused
@@ -192,6 +195,7 @@ pub buffers_refused : (limits : Limits) (known : Numbering) (len : ℕ) (shape :
 buffers_refused limits known len shape given push.TooLong h = let size = buffers_size known shape given in inr (omega (arith, size, h))
 buffers_refused limits known len shape given push.TooMany h = absurd h
 buffers_refused limits known len shape given push.OutOfMemory h = h
+buffers_refused limits known len shape given push.DictionaryFull h = h
 buffers_refused limits known len shape given push.Failed h = h
 
 -- ---- one field more
@@ -249,6 +253,7 @@ columns_refused limits known i shape given lay c d mid push.TooMany at so (inl s
 columns_refused limits known i shape given lay c d mid push.TooMany at so (inr items) = inr
     (some_at HasLongItems i shape given lay c at items)
 columns_refused limits known i shape given lay c d mid push.OutOfMemory at so h = h
+columns_refused limits known i shape given lay c d mid push.DictionaryFull at so h = h
 columns_refused limits known i shape given lay c d mid push.Failed at so h = h
 
 -- ---- all fields
@@ -306,4 +311,5 @@ rows_refused_after limits fields rows len push.TooLong none (inl long) = inl lon
 rows_refused_after limits fields rows len push.TooLong none (inr more) = inr (omega (arith, none, more))
 rows_refused_after limits fields rows len push.TooMany none h = inr h
 rows_refused_after limits fields rows len push.OutOfMemory none h = h
+rows_refused_after limits fields rows len push.DictionaryFull none h = absurd h
 rows_refused_after limits fields rows len push.Failed none h = absurd h

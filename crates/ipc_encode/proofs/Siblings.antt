@@ -10,13 +10,11 @@ use Rattle.ipc_column.specs.Shapes.{Shape, bare, field}
 use Rattle.ipc_encode.specs.declared.column.Column.{Column}
 use Rattle.ipc_encode.specs.declared.column.Purpose.{Purpose}
 use Rattle.ipc_encode.specs.declared.column.Purpose.TheVariants as purpose
-use Rattle.ipc_encode.specs.declared.fault.PushFault.{PushFault}
-use Rattle.ipc_encode.specs.declared.fault.PushFault.TheVariants as push
 use Rattle.ipc_encode.specs.declared.node.Node.{Node}
 use Rattle.ipc_encode.specs.Cells.{nulls}
 use Rattle.ipc_encode.specs.Buffers.{below, column_buffers, padded, nodes_of, buffers_of}
-use Rattle.ipc_encode.specs.Limits.{HasLongData, HasLongItems, HasLongNode, IsPastOffsets, SomeColumn, SomePastOffsets}
-use Rattle.ipc_encode.specs.Built.{AreNodes, IsNode, HasTaken, AreTooMuch, LeavesOf}
+use Rattle.ipc_encode.specs.Limits.{HasLongNode, IsPastOffsets, SomeColumn, SomePastOffsets}
+use Rattle.ipc_encode.specs.Built.{AreNodes, IsNode, HasTaken}
 use Rattle.ipc_encode.specs.Numbers.{Numbering}
 use Rattle.ipc_encode.proofs.Adding.{joined_append}
 use Rattle.ipc_encode.proofs.Growing.{parts_length}
@@ -146,21 +144,6 @@ short_next (suc i) (field k d rest) given l c at so one (inr (inl child)) = so (
 short_next (suc i) (field k d rest) given l c at so one (inr (inr later)) =
     short_next i rest (λ j. given (suc j)) l c at (λ x. so (inr (inr x))) one later
 
--- no field leaves all bytes
-pub leaves_none : (limits : Limits) (shape : Shape) (given : ℕ → List Value) (bytes : ℕ) → LeavesOf limits
-    (first 0 shape) given bytes bytes
-leaves_none limits shape given bytes = record { few = λ h. h; short = λ h. h; rest = omega arith }
-
--- one field more leaves what it leaves of the rest
-pub leaves_next : (limits : Limits) (i : ℕ) (shape : Shape) (given : ℕ → List Value) (l : Layout) (c : Shape) (bytes left rest : ℕ)
-    → IsAt i shape l c → LeavesOf limits (first i shape) given bytes left → LeavesOf limits (field l c bare) (λ j. given i) left rest
-    → LeavesOf limits (first (suc i) shape) given bytes rest
-leaves_next limits i shape given l c bytes left rest at so one = record {
-  few = few_next limits.slots i shape given l c at so.few one.few;
-  short = short_next i shape given l c at so.short one.short;
-  rest = let size = bytes_next i shape given l c at in omega (arith, size, so.rest, one.rest);
-}
-
 -- ---- one field more that isn't
 
 pub long_node_at : (most i : ℕ) (shape : Shape) (given : ℕ → List Value) (l : Layout) (c : Shape) → IsAt i shape l c
@@ -194,18 +177,6 @@ past_next i shape given l c bytes left at so more =
     let within = first_within (suc i) shape given in
     omega (arith, size, within, so, more)
 
-pub too_much_next : (limits : Limits) (i : ℕ) (shape : Shape) (given : ℕ → List Value) (l : Layout) (c : Shape) (bytes left : ℕ)
-    (e : PushFault)
-    → IsAt i shape l c → length (padded (buffers_of (first i shape) given)) + left ≡ bytes
-    → AreTooMuch limits left (field l c bare) (λ j. given i) e → AreTooMuch limits bytes shape given e
-too_much_next limits i shape given l c bytes left push.TooLong at so (inl long) = inl (some_at HasLongData i shape given l c at long)
-too_much_next limits i shape given l c bytes left push.TooLong at so (inr more) = inr (past_next i shape given l c bytes left at so more)
-too_much_next limits i shape given l c bytes left push.TooMany at so (inl slots) =
-    inl (long_node_at limits.slots i shape given l c at slots)
-too_much_next limits i shape given l c bytes left push.TooMany at so (inr items) = inr (some_at HasLongItems i shape given l c at items)
-too_much_next limits i shape given l c bytes left push.OutOfMemory at so h = absurd h
-too_much_next limits i shape given l c bytes left push.Failed at so h = absurd h
-
 -- ---- columns that have taken values are within the limits
 
 counted_of : (known : Numbering) (p : Purpose) (limits : Limits) (l : Layout) (vs : List Value) (column : Column)
@@ -232,3 +203,15 @@ taken_short known p limits (field l c rest) (m ∷ ms) given h (inr (inl child))
     h.0.1 child
 taken_short known p limits (field l c rest) (m ∷ ms) given h (inr (inr later)) = taken_short known p limits rest ms
     (λ j. given (suc j)) h.1 later
+
+-- ---- a column without children
+
+pub few_leaf : (most : ℕ) (l : Layout) (vs : List Value) → (most < length vs → ⊥) → HasLongNode most (field l bare bare) (λ j. vs) → ⊥
+few_leaf most l vs few (inl own) = few own
+few_leaf most l vs few (inr (inl none)) = none
+few_leaf most l vs few (inr (inr none)) = none
+
+pub short_leaf : (l : Layout) (vs : List Value) → (IsPastOffsets l vs → ⊥) → SomePastOffsets (field l bare bare) (λ j. vs) → ⊥
+short_leaf l vs short (inl own) = short own
+short_leaf l vs short (inr (inl none)) = none
+short_leaf l vs short (inr (inr none)) = none

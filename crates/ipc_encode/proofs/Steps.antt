@@ -7,7 +7,7 @@ use Rattle.std.proofs.lemmas.List.{append-nil}
 use Rattle.ipc_model.specs.declared.value.Value.{Value}
 use Rattle.ipc_model.specs.declared.layout.Layout.{Layout}
 use Rattle.ipc_model.specs.declared.layout.Layout.TheVariants as l
-use Rattle.ipc_encode.specs.Pieces.{Flag, Run, Valid, ValueSlot, Content}
+use Rattle.ipc_encode.specs.Pieces.{Flag, Run, Valid, ValueSlot}
 use Rattle.ipc_encode.specs.Pieces as p
 use Rattle.ipc_encode.specs.Cells.{cell, cells, is_set, flags, nulls, content, slot_bytes, slots, extent, ends, offsets, items, part}
 use Rattle.ipc_encode.specs.Cells.{fixed_items, all_fixed_items}

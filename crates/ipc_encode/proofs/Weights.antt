@@ -1,11 +1,7 @@
 -- The weight of columns, by which lists and structs are surely within the limits.
-use Rattle.std.proofs.Common.{◌≡◌, ◌∙◌, refl, sym, ap, subst, ℕ, zero, suc, ◌+◌, ◌*◌, ◌<◌, ◌≤◌, List, [], ◌∷◌, ◌++◌, length}
-use Rattle.std.proofs.Common.{length-append, get_or, replicate, arith, inl, inr}
-use Rattle.std.specs.List.{AllByRecursion}
-use Rattle.std.specs.Prelude.{Option, IfSome}
-use Rattle.std.proofs.Math.Nat.{mul-add, suc-mul}
-use Rattle.std.proofs.lemmas.Option.{IfSome_then}
-use Rattle.std.proofs.lemmas.List.{append-nil, length-replicate}
+use Rattle.std.proofs.Common.{◌≡◌, ◌∙◌, refl, sym, ap, subst, ℕ, zero, suc, ◌+◌, ◌<◌, ◌≤◌, List, [], ◌∷◌, ◌++◌, length}
+use Rattle.std.proofs.Common.{length-append, arith, inl, inr}
+use Rattle.std.proofs.lemmas.List.{append-nil}
 use denote.Hole.Carrier
 use Rattle.ipc_model.specs.Limits.{max_data}
 use Rattle.ipc_model.specs.declared.limits.Limits.{Limits}
@@ -22,12 +18,13 @@ use Rattle.ipc_model.specs.declared.value.Value.TheViews.{out-Value, roll-Value,
 use Rattle.ipc_model.specs.Fits.{Fits, EachFits, InnerFit, IsOwn}
 use Rattle.ipc_model.proofs.FitsLemmas.{fits_parts}
 use Rattle.ipc_column.specs.Shapes.{Shape, bare, field}
-use Rattle.ipc_encode.specs.Buffers.{below, nulls_below, padded, buffers_of}
+use Rattle.ipc_encode.specs.Buffers.{below, padded, buffers_of}
 use Rattle.ipc_encode.specs.Cells.{cell, items, items_in, fixed_items}
-use Rattle.ipc_encode.specs.Columns.{datum, data_in, PassesOffsets}
+use Rattle.ipc_encode.specs.Columns.{data_in, PassesOffsets}
 use Rattle.ipc_encode.specs.Limits.{HasLongNode, SomePastOffsets}
-use Rattle.ipc_encode.specs.Built.{TakeAtMost, weight_of}
-use Rattle.ipc_encode.proofs.Below.{fixed_are, parts_are, null_gives, nulls_give}
+use Rattle.ipc_encode.specs.Built.{TakeAtMost}
+use Rattle.ipc_encode.specs.Weights.{weight_of}
+use Rattle.ipc_encode.proofs.Below.{fixed_are, parts_are}
 use Rattle.ipc_encode.proofs.Growing.{parts_length}
 use Rattle.ipc_encode.proofs.Siblings.{IsAt, first}
 use Rattle.ipc_encode.proofs.Sizes.{long_from}
@@ -136,7 +133,7 @@ takes_more limits shape given least most h =
 
 -- ---- what stands inside a value
 
-null_inside : (kind : DataType) (fs : List Field) → InnerFit Fits kind fs o.Null
+pub null_inside : (kind : DataType) (fs : List Field) → InnerFit Fits kind fs o.Null
 null_inside t.List [] = tt
 null_inside t.List (f ∷ fs) = tt
 null_inside (t.FixedSizeList size) [] = tt
@@ -195,15 +192,15 @@ inside_fits f v w e own inner =
     subst (λ (T : Type 0). T) (sym (fits_parts f v))
     (own, subst (λ (u : Value-F Value). InnerFit Fits (out-Field f).kind (out-Field f).children u) (sym e) inner)
 
-out_null : (value : Value) → value ≡ v.Null → out-Value value ≡ o.Null
+pub out_null : (value : Value) → value ≡ v.Null → out-Value value ≡ o.Null
 unfolding out-Value roll-Value Carrier.roll
 out_null value e = ap out-Value e ∙ out-roll-Value o.Null
 
-out_list : (value : Value) (vs : List Value) → value ≡ v.List vs → out-Value value ≡ o.List vs
+pub out_list : (value : Value) (vs : List Value) → value ≡ v.List vs → out-Value value ≡ o.List vs
 unfolding out-Value roll-Value Carrier.roll
 out_list value vs e = ap out-Value e ∙ out-roll-Value (o.List vs)
 
-out_struct : (value : Value) (vs : List Value) → value ≡ v.Struct vs → out-Value value ≡ o.Struct vs
+pub out_struct : (value : Value) (vs : List Value) → value ≡ v.Struct vs → out-Value value ≡ o.Struct vs
 unfolding out-Value roll-Value Carrier.roll
 out_struct value vs e = ap out-Value e ∙ out-roll-Value (o.Struct vs)
 
@@ -229,27 +226,6 @@ struct_fits f value fs us vs those same e own inner =
 
 -- ---- what a value gives to the children
 
--- so many nulls of a column, and those that they give to its children
-pub nulls_weigh : (l : Layout) (c : Shape) (count : ℕ)
-    → weight_of 0 (field l c bare) (λ j. replicate count v.Null)
-    ≡ count * (6 + datum l v.Null) + weight_of 0 c (λ j. replicate (count * nulls_below l) v.Null)
-nulls_weigh l c count =
-    let size = length-replicate count v.Null in
-    let amount = data_nulls l count in
-    let inner = ap (λ (g : ℕ → List Value). weight_of 0 c g) (λ d j. nulls_give l count j d) in
-    let split = mul-add count 6 (datum l v.Null) in
-    omega (arith, size, amount, inner, split)
-  where
-    data_nulls : (l : Layout) (n : ℕ) → data_in l (replicate n v.Null) ≡ n * datum l v.Null
-    data_nulls l zero = omega arith
-    data_nulls l (suc n) = let more = data_nulls l n in let step = suc-mul n (datum l v.Null) in omega (arith, more, step)
-
--- a null gives its children nulls
-pub null_given : (layout : Layout) (value : Value) (count : ℕ) → count ≡ nulls_below layout → value ≡ v.Null
-    → ◌≡◌ {A = ℕ → List Value} (λ j. replicate count v.Null) (below layout (value ∷ []))
-null_given layout value count e is = λ d j. sym (ap (λ (w : Value). below layout (w ∷ []) j) is ∙ (null_gives layout j
-    ∙ ap (λ (n : ℕ). replicate n v.Null) (sym e))) d
-
 -- a list gives its items
 pub list_given : (layout : Layout) (value : Value) (us vs : List Value) → layout ≡ l.Lists → us ≡ vs → value ≡ v.List vs
     → ◌≡◌ {A = ℕ → List Value} (λ j. us) (below layout (value ∷ []))
@@ -265,46 +241,3 @@ fixed_given layout size value us vs e same is =
 pub struct_given : (layout : Layout) (value : Value) (us vs : List Value) → layout ≡ l.Structs → us ≡ vs → value ≡ v.Struct vs
     → ◌≡◌ {A = ℕ → List Value} (λ j. cell j us ∷ []) (below layout (value ∷ []))
 struct_given layout value us vs e same is = rw (e, same) (λ d j. ap (λ (w : Value). w ∷ []) (sym (parts_are value vs is j)) d)
-
--- what is left behind a value and what it gives to the children
-pub given_left : (layout own : Layout) (children : Shape) (value : Value) (given : ℕ → List Value) (left : Option ℕ) (some bytes : ℕ)
-    → own ≡ layout → 6 + datum own value + some ≤ bytes → given ≡ below own (value ∷ [])
-    → IfSome left (λ rest. weight_of 0 children given + rest ≤ some)
-    → IfSome left (λ rest. weight_of 0 (field layout children bare) (λ j. value ∷ []) + rest ≤ bytes)
-given_left layout own children value given left some bytes laid fewer e h =
-    subst (λ (l : Layout). IfSome left (λ rest. weight_of 0 (field l children bare) (λ j. value ∷ []) + rest ≤ bytes)) laid
-    (IfSome_then left (subst (λ (g : ℕ → List Value). IfSome left (λ rest. weight_of 0 children g + rest ≤ some)) e h)
-    (λ rest sum. omega (arith, sum, fewer)))
-
--- ---- one item more
-
-all_more : (P : Value → Type 0) (vs : List Value) (v : Value) → AllByRecursion P vs → P v → AllByRecursion P (vs ++ v ∷ [])
-all_more P [] v all one = (one, tt)
-all_more P (w ∷ vs) v all one = (all.0, all_more P vs v all.1 one)
-
-pub none_inside : (fs : List Field) → InnerFit Fits t.List fs (o.List [])
-none_inside [] = tt
-none_inside (f ∷ fs) = tt
-
--- one item more that fits the first child
-pub items_fit : (fs : List Field) (vs : List Value) (v : Value) (d : Field) → InnerFit Fits t.List fs (o.List vs)
-    → Fits (get_or fs 0 d) v → InnerFit Fits t.List fs (o.List (vs ++ v ∷ []))
-items_fit [] vs v d all one = tt
-items_fit (f ∷ fs) vs v d all one = all_more (Fits f) vs v all one
-
--- one item more weighs what it weighs in the only column
-pub item_weighs : (shape : Shape) (l : Layout) (c : Shape) (vs : List Value) (v : Value) → IsAt 0 shape l c → first 1 shape ≡ shape
-    → weight_of 0 shape (λ j. vs ++ v ∷ []) ≡ weight_of 0 shape (λ j. vs) + weight_of 0 (field l c bare) (λ j. v ∷ [])
-item_weighs shape l c vs v at whole =
-    let more = weight_more 0 shape (λ j. vs) (λ j. v ∷ []) in
-    let same = ap (λ (s : Shape). weight_of 0 s (λ j. v ∷ [])) whole in
-    let one = weight_next 0 0 shape (λ j. v ∷ []) l c at in
-    omega (arith, more, same, one)
-
--- ---- parts
-
--- a part of a row is its cell
-pub cell_at : (row : List Value) (i : ℕ) (d : Value) → i < length row → get_or row i d ≡ cell i row
-cell_at [] i d h = absurd (omega arith)
-cell_at (w ∷ row) zero d h = refl
-cell_at (w ∷ row) (suc i) d h = cell_at row i d (omega arith)

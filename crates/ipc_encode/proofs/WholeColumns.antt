@@ -1,23 +1,17 @@
 -- Columns that lie whole, one by one.
 use Rattle.std.proofs.Common.{◌≡◌, refl, subst, ℕ, zero, suc, ◌+◌, ◌<◌, inl, inr, List, [], ◌∷◌, length, get_or, Some}
 use Rattle.std.proofs.Common.{arith}
-use Rattle.std.specs.Prelude.{Bool, slice_get, slice_set}
+use Rattle.std.specs.Prelude.{slice_get}
 use Rattle.std.proofs.lemmas.Bool.{cases_lt}
 use Rattle.ipc_model.specs.declared.layout.Layout.{Layout}
-use Rattle.ipc_model.specs.declared.layout.Layout.TheVariants as l
-use Rattle.ipc_model.specs.declared.limits.Limits.{Limits}
-use Rattle.ipc_model.specs.declared.schema.IntBits.{IntBits}
 use Rattle.ipc_model.specs.declared.value.Value.{Value}
 use Rattle.ipc_column.specs.Nested.{Nested}
 use Rattle.ipc_column.specs.Shapes.{Shape, bare, field}
 use Rattle.ipc_encode.specs.declared.column.Column.{Column}
-use Rattle.ipc_encode.specs.declared.fault.PushFault.{PushFault}
 use Rattle.ipc_encode.specs.declared.node.Node.{Node}
-use Rattle.ipc_encode.specs.Built.{AreNodes, ArePushesRefused, IsNode}
+use Rattle.ipc_encode.specs.Built.{AreNodes, IsNode}
 use Rattle.ipc_encode.specs.Lying.{AreWhole, IsWhole}
-use Rattle.ipc_encode.proofs.Growing.{first_refused, later_refused}
 use Rattle.ipc_encode.proofs.NestedSlots.{some_same}
-use Rattle.ipc_encode.proofs.Nodes.{AreMixed}
 use Rattle.ipc_encode.proofs.Siblings.{IsAt}
 
 -- the node of a field
@@ -58,62 +52,9 @@ whole_all P (field l c rest) (m ∷ ms) (v ∷ vs) before given h size each = (
       (λ i m k e w at is. each (suc i) (omega arith) k e w at is),
 )
 
--- there are as many nodes as columns
-pub whole_many : (P : Layout → List Value → Column → Type 0) (shape : Shape) (nodes : List Node) (views : List Nested)
-    (before given : ℕ → List Value)
-    → AreNodes P shape nodes before → AreWhole shape views given → length nodes ≡ length views
-whole_many P bare [] [] before given h w = refl
-whole_many P bare [] (v ∷ vs) before given h w = absurd w
-whole_many P bare (m ∷ ms) views before given h w = absurd h
-whole_many P (field l c rest) [] views before given h w = absurd h
-whole_many P (field l c rest) (m ∷ ms) [] before given h w = absurd w
-whole_many P (field l c rest) (m ∷ ms) (v ∷ vs) before given h w =
-    let more = whole_many P rest ms vs (λ j. before (suc j)) (λ j. given (suc j)) h.1 w.1 in omega (arith, more)
-
 -- what holds of the first numbers and of the next
 pub first_and_next : (Q : ℕ → Type 0) (i : ℕ) → ((j : ℕ) → j < i → Q j) → Q i → (j : ℕ) → j < i + 1 → Q j
 first_and_next Q i before next j m = elim (cases_lt j i) as (λ _. Q j) [
   | inl under ↦ before j under
   | inr over ↦ subst Q (let same : i ≡ j = omega (arith, m, over) in same) next
 ]
-
--- ---- nodes that take their values one after another
-
--- node i has its new values
-pub mixed_more_at : (Q P : Layout → List Value → Column → Type 0) (i : ℕ) (shape : Shape) (nodes : List Node) (old new : ℕ → List Value)
-    (n d : Node) → i < length nodes
-    → ((l : Layout) (c : Shape) → IsAt i shape l c → IsNode P l c (get_or nodes i d) (old i) → IsNode Q l c n (new i))
-    → AreMixed Q P i shape nodes old new → AreMixed Q P (suc i) shape (slice_set nodes i n) old new
-mixed_more_at Q P i bare [] old new n d l step h = absurd (omega arith)
-mixed_more_at Q P zero bare (m ∷ ms) old new n d l step h = absurd h
-mixed_more_at Q P (suc i) bare (m ∷ ms) old new n d l step h = absurd h
-mixed_more_at Q P zero (field k c rest) [] old new n d l step h = absurd h
-mixed_more_at Q P (suc i) (field k c rest) [] old new n d l step h = absurd h
-mixed_more_at Q P zero (field k c rest) (m ∷ ms) old new n d l step h = (step k c (refl, refl) h.0, h.1)
-mixed_more_at Q P (suc i) (field k c rest) (m ∷ ms) old new n d l step h =
-    (h.0, mixed_more_at Q P i rest ms (λ j. old (suc j)) (λ j. new (suc j)) n d (omega arith) step h.1)
-
--- why node i doesn't take its values is why all nodes don't take theirs
-pub mixed_refused_at : (limits : Limits) (Q P : Layout → List Value → Column → Type 0) (i : ℕ) (shape : Shape) (nodes : List Node)
-    (old new : ℕ → List Value) (d : Node) (e : PushFault) → i < length nodes
-    → ((l : Layout) (c : Shape) → IsAt i shape l c → IsNode P l c (get_or nodes i d) (old i)
-    → ArePushesRefused limits (field l c bare) (λ j. new i) e)
-    → AreMixed Q P i shape nodes old new → ArePushesRefused limits shape new e
-mixed_refused_at limits Q P i bare [] old new d e l step h = absurd (omega arith)
-mixed_refused_at limits Q P zero bare (m ∷ ms) old new d e l step h = absurd h
-mixed_refused_at limits Q P (suc i) bare (m ∷ ms) old new d e l step h = absurd h
-mixed_refused_at limits Q P zero (field k c rest) [] old new d e l step h = absurd h
-mixed_refused_at limits Q P (suc i) (field k c rest) [] old new d e l step h = absurd h
-mixed_refused_at limits Q P zero (field k c rest) (m ∷ ms) old new d e l step h =
-    first_refused limits k c rest new e (step k c (refl, refl) h.0)
-mixed_refused_at limits Q P (suc i) (field k c rest) (m ∷ ms) old new d e l step h =
-    later_refused limits k c rest new e
-    (mixed_refused_at limits Q P i rest ms (λ j. old (suc j)) (λ j. new (suc j)) d e (omega arith) step h.1)
-
--- ---- layouts
-
--- a layout of numbers
-pub record AreNumbersLaid (layout : Layout) : Type 0 where
-  pub bits : IntBits
-  pub signed : Bool
-  pub laid : layout ≡ l.Numbers bits signed

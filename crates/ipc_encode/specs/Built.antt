@@ -1,5 +1,5 @@
 -- The rows that a builder stores (Message.fbs, RecordBatch).
-use Rattle.std.specs.Prelude.{◌≡◌, ℕ, suc, ◌+◌, ◌*◌, ◌<◌, ◌≤◌, true, false}
+use Rattle.std.specs.Prelude.{◌≡◌, ℕ, suc, ◌+◌, ◌<◌, ◌≤◌, true, false}
 use Rattle.std.specs.Prelude.{List, [], ◌∷◌, ◌++◌, length, ◌⊎◌, ⊤}
 use Rattle.ipc_model.specs.declared.limits.Limits.{Limits}
 use Rattle.ipc_model.specs.declared.schema.Field.{Field}
@@ -11,7 +11,6 @@ use Rattle.ipc_encode.specs.declared.counts.Counts.{Counts}
 use Rattle.ipc_encode.specs.declared.fault.PushFault.{PushFault}
 use Rattle.ipc_encode.specs.declared.fault.PushFault.TheVariants as fault
 use Rattle.ipc_encode.specs.declared.node.Node.{Node, out-Node}
-use Rattle.ipc_encode.specs.declared.spare.Spare.{Spare}
 use Rattle.ipc_encode.specs.declared.column.Purpose.{Purpose}
 use Rattle.ipc_encode.specs.declared.column.Purpose.TheVariants as purpose
 use Rattle.ipc_column.specs.Shapes.{Shape, bare, field, shape_of}
@@ -22,6 +21,7 @@ use Rattle.ipc_encode.specs.Numbers.{Numbering}
 use Rattle.ipc_encode.specs.Indices.{AgreeOn}
 use Rattle.ipc_encode.specs.Limits.{HasLongData, HasLongItems, HasLongNode, IsPastOffsets}
 use Rattle.ipc_encode.specs.Limits.{IsWithin, SomeColumn, SomePastOffsets}
+use Rattle.ipc_encode.specs.Weights.{weight_of}
 use Rattle.ipc_encode.specs.Writing.{AreStored}
 
 -- the counts of a column of this layout with these values, which are within the limits
@@ -85,19 +85,11 @@ pub record AreWithin (limits : Limits) (shape : Shape) (given : ℕ → List Val
   pub short : ¬ SomePastOffsets shape given
   pub body : length (padded (buffers_of shape given)) ≤ limits.body
 
--- the weight of columns of this shape with these values, at every level: `each` for a column, 6 for
--- each slot, and the data. With 25 for `each`, it is at least the bytes of their buffers
-abbrev pub weight_of : ℕ → Shape → (ℕ → List Value) → ℕ
-weight_of each bare given = 0
-weight_of each (field l children rest) given =
-    each + 6 * length (given 0) + data_in l (given 0) + weight_of each children (below l (given 0))
-    + weight_of each rest (λ j. given (suc j))
-
--- these rows stay within the limits if values of less weight than the headroom are added, in any
--- columns
-abbrev pub HasSpare : Limits → List Field → List (List Value) → Spare → Type 0
-HasSpare limits fields rows spare = (added : ℕ → List Value)
-    → weight_of 0 (shape_of fields) added < spare.weight
+-- values that weigh less than the headroom together, in any columns, are within the limits with
+-- these rows
+abbrev pub HasHeadroom : Limits → List Field → List (List Value) → ℕ → Type 0
+HasHeadroom limits fields rows headroom = (added : ℕ → List Value)
+    → weight_of 0 (shape_of fields) added < headroom
     → AreWithin limits (shape_of fields) (λ j. columns rows j ++ added j)
 
 -- the builder stores exactly these rows of these fields, which are within the limits; `indices`
@@ -110,7 +102,7 @@ pub record HasRows (indices : Numbering) (limits : Limits) (fields : List Field)
   pub count : builder.rows ≡ length rows
   pub columns_are : AreColumns indices limits (shape_of fields) builder.nodes.items (columns rows)
   pub within : IsWithin limits fields rows
-  pub has_spare : HasSpare limits fields rows builder.spare
+  pub has_headroom : HasHeadroom limits fields rows builder.headroom
 
 -- why a column does not take the last of these values: too many slots or items of lists, more bytes
 -- than its offsets can address, more than a body may have, or out of memory
@@ -120,6 +112,7 @@ IsPushRefused limits layout values fault.TooLong =
 IsPushRefused limits layout values fault.TooMany =
     (limits.slots < length values) ⊎ HasLongItems layout values
 IsPushRefused limits layout values fault.OutOfMemory = ⊤
+IsPushRefused limits layout values fault.DictionaryFull = ⊥
 IsPushRefused limits layout values fault.Failed = ⊥
 
 -- why columns of this shape, or columns below them, do not take the last of these values: too many
@@ -130,6 +123,7 @@ ArePushesRefused limits shape given fault.TooLong = SomeColumn HasLongData shape
 ArePushesRefused limits shape given fault.TooMany =
     HasLongNode limits.slots shape given ⊎ SomeColumn HasLongItems shape given
 ArePushesRefused limits shape given fault.OutOfMemory = ⊤
+ArePushesRefused limits shape given fault.DictionaryFull = ⊥
 ArePushesRefused limits shape given fault.Failed = ⊥
 
 -- columns of this shape with these values are within the limits of slots and offsets, and their
@@ -139,23 +133,6 @@ pub record TakeAtMost (limits : Limits) (most : ℕ) (shape : Shape) (given : �
   pub few : ¬ HasLongNode limits.slots shape given
   pub short : ¬ SomePastOffsets shape given
   pub bytes : length (padded (buffers_of shape given)) ≤ most
-
--- the buffers of columns with these values leave `left` of this many bytes, and each column is
--- within the limits of slots and offsets
-pub record LeavesOf (limits : Limits) (shape : Shape) (given : ℕ → List Value)
-    (bytes left : ℕ) : Type 0 where
-  pub few : ¬ HasLongNode limits.slots shape given
-  pub short : ¬ SomePastOffsets shape given
-  pub rest : length (padded (buffers_of shape given)) + left ≡ bytes
-
--- why columns are not within the limits, or their buffers not within this many bytes
-abbrev pub AreTooMuch : Limits → ℕ → Shape → (ℕ → List Value) → PushFault → Type 0
-AreTooMuch limits bytes shape given fault.TooLong = SomeColumn HasLongData shape given
-    ⊎ (bytes < length (padded (buffers_of shape given)))
-AreTooMuch limits bytes shape given fault.TooMany =
-    HasLongNode limits.slots shape given ⊎ SomeColumn HasLongItems shape given
-AreTooMuch limits bytes shape given fault.OutOfMemory = ⊥
-AreTooMuch limits bytes shape given fault.Failed = ⊥
 
 -- a growth of the builder's memory was refused earlier
 abbrev pub HasFailed : Builder → Type 0

@@ -50,6 +50,7 @@ abbrev pub IsBodyRefused : Limits → ℕ → PushFault → Type 0
 IsBodyRefused limits len fault.TooLong = limits.body < len
 IsBodyRefused limits len fault.TooMany = ⊥
 IsBodyRefused limits len fault.OutOfMemory = ⊤
+IsBodyRefused limits len fault.DictionaryFull = ⊥
 IsBodyRefused limits len fault.Failed = ⊥
 
 -- why columns of this shape with these values are not added to a body of `len` bytes: too many
@@ -60,6 +61,7 @@ AreRefusedAfter limits len shape given fault.TooLong = SomeColumn HasLongData sh
 AreRefusedAfter limits len shape given fault.TooMany =
     HasLongNode limits.slots shape given ⊎ SomeColumn HasLongItems shape given
 AreRefusedAfter limits len shape given fault.OutOfMemory = ⊤
+AreRefusedAfter limits len shape given fault.DictionaryFull = ⊥
 AreRefusedAfter limits len shape given fault.Failed = ⊥
 
 -- the parts are exactly these nodes and buffers, and their segments are the body, so equal rows

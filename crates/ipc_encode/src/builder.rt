@@ -15,29 +15,25 @@ ghost use Rattle.ipc_encode.specs.Writing.{IsDrafted};
 ghost use Rattle.ipc_encode.specs.Limits.{IsRefused, IsTooLong, IsWithin};
 ghost use Rattle.ipc_encode.specs.Built.{AreColumns, ArePushesRefused, AreWithin, HasFailed};
 ghost use Rattle.ipc_encode.specs.Built.{HasRows};
-ghost use Rattle.ipc_encode.specs.Built.{HasSpare, HoldsAgreeing};
+ghost use Rattle.ipc_encode.specs.Built.{HoldsAgreeing};
 ghost use Rattle.ipc_encode.specs.Indices.{FindsRows};
 ghost use Rattle.ipc_encode.specs.Numbers.{Numbering, renumbered, told};
 ghost use Rattle.ipc_encode.specs.Faults.{write_fault};
+ghost use Rattle.ipc_encode.specs.Weights.{capped, row_weight};
 
-use crate::column::{MAX_DATA, Purpose};
+use crate::column::Purpose;
 use crate::fault::PushFault;
-use crate::fitting::{fit, left_behind_all};
+use crate::fitting::{fit, remaining_all};
 use crate::fresh::new_nodes;
+use crate::headroom::headroom;
 use crate::index::{IndexOf, Renumber};
 use crate::node::Node;
 use crate::parts::{Draft, Parts, add_nodes};
 use crate::room::Room;
-use crate::spare::Spare;
-use crate::sure::{Look, look_for, row_surely_fits};
-use crate::sure_inside::{have_spare, left_of_row};
 use crate::tree::take_parts;
 use ipc_model::{Field, Items, Limits, Row, Value, WriteFault};
 use std::alloc::{AllocError, Global};
 use std::mem;
-
-// The headroom that is computed in addition to a row's weight, so that later rows fit into it.
-const MORE: u64 = 1 << 20;
 
 /// Builds a record batch from rows, one at a time (Message.fbs, RecordBatch).
 ///
@@ -50,11 +46,8 @@ pub struct Builder {
     rows: usize,
     limits: Limits,
     failed: bool,
-    // The depth of the check of a row.
-    look: Look,
-    // The headroom after the rows that are held. Only the check of lists and structs uses it, and
-    // updates it. If no column has children, it is 0.
-    spare: Spare,
+    // Further rows that weigh less than this together are within the limits.
+    headroom: u64,
     // What it holds has no meaning; the body takes its room.
     body: Vec<u8>,
 }
@@ -68,7 +61,7 @@ fn check_len(nodes: &[Node], limits: &Limits) -> Result<(), WriteFault>
         → AreColumns known limits.now (shape_of fields) nodes.now (columns rows)
         → IfErr result (λ fault. (fault ≡ WriteFault.TooLong) × IsTooLong limits.now fields rows) }
 {
-    match left_behind_all(nodes, Purpose::Keep, limits.body) {
+    match remaining_all(nodes, Purpose::Keep, limits.body) {
         Some(_) => Ok(()),
         None => Err(WriteFault::TooLong),
     }
@@ -146,14 +139,12 @@ impl Builder {
         let Room { nodes, body } = room;
         let nodes = new_nodes(fields, nodes, alloc)?;
         check_len(&nodes, limits)?;
-        let look = look_for(&nodes);
         Ok(Builder {
             nodes,
             rows: 0,
             limits: *limits,
             failed: false,
-            look,
-            spare: Spare { weight: 0 },
+            headroom: 0,
             body,
         })
     }
@@ -176,14 +167,12 @@ impl Builder {
         let mut nodes = new_nodes(fields, Vec::new(alloc), alloc)?;
         push_rows(&mut nodes, rows, limits, indices)?;
         check_len(&nodes, limits)?;
-        let look = look_for(&nodes);
         Ok(Builder {
             nodes,
             rows: rows.len(),
             limits: *limits,
             failed: false,
-            look,
-            spare: Spare { weight: 0 },
+            headroom: 0,
             body: Vec::new(alloc),
         })
     }
@@ -204,44 +193,55 @@ impl Builder {
         self.rows >= self.limits.slots as usize
     }
 
-    /// Checks that the rows that are held and this row are together within the limits. It takes no
-    /// memory, and the rows are unchanged.
+    /// Checks that the rows that are held and this row are together within the limits. `weight` is
+    /// the weight of the row, as `row_weight` returns it, or more. It takes no memory, and the rows
+    /// are unchanged.
     ///
     /// Errors:
     ///
-    /// - W8 `TooManyRows`: there would be more than `limits.slots` rows, or more than
-    ///   `limits.slots` items in all lists of a column.
+    /// - W8 `TooMany`: there would be more than `limits.slots` rows, or more than `limits.slots`
+    ///   items in all lists of a column.
     /// - W6 `TooLong`: a binary or UTF-8 column would have more than 2^31 - 1 bytes of data,
     ///   whatever the limits, or the body more than `limits.body` bytes.
     /// - W10 `Failed`: the call comes after W11.
-    pub fn fits(&mut self, row: &[Value]) -> Result<(), WriteFault>
+    #[inline(always)]
+    pub fn fits(&mut self, row: &[Value], weight: u64) -> Result<(), PushFault>
         ensures within { (known : Numbering) (limits : Limits) (fields : List Field)
             (rows : List (List Value))
             → HasRows known limits fields rows self.old
+            → capped (row_weight fields row.now) ≤ weight
             → OnOk result (IsWithin limits fields (rows ++ row.now ∷ [])) }
         ensures refused { (known : Numbering) (limits : Limits) (fields : List Field)
             (rows : List (List Value))
             → HasRows known limits fields rows self.old
-            → IfErr result (λ fault. IsRefused limits fields (rows ++ row.now ∷ []) fault
-            × ¬ (fault ≡ WriteFault.OutOfMemory)) }
+            → IfErr result (λ fault. IsRefused limits fields (rows ++ row.now ∷ [])
+            (write_fault fault) × ¬ (fault ≡ PushFault.OutOfMemory)) }
         ensures kept { (known : Numbering) (limits : Limits) (fields : List Field)
             (rows : List (List Value))
             → HasRows known limits fields rows self.old
             → HasRows known limits fields rows self.new }
-        ensures failed { HasFailed self.old → result ≡ Err WriteFault.Failed }
+        ensures room { OnOk result (self.new.rows < self.new.limits.slots) }
+        ensures failed { HasFailed self.old → result ≡ Err PushFault.Failed }
         ensures still_failed { HasFailed self.old → HasFailed self.new }
     {
         if self.failed {
-            return Err(WriteFault::Failed);
+            return Err(PushFault::Failed);
         }
-        self.fit_row(row)?;
-        Ok(())
+        if self.is_full() {
+            return Err(PushFault::TooMany);
+        }
+        let headroom = self.headroom;
+        if weight < headroom {
+            return Ok(());
+        }
+        self.fits_exactly(row)
     }
 
-    /// Checks a row as `Builder::fits` does, for callers that check each row: a fault has one byte.
-    /// It does not check whether the builder has failed.
-    #[inline(always)]
-    pub fn fit_row(&mut self, row: &[Value]) -> Result<(), PushFault>
+    // Computes the headroom, and checks one more row by the sizes of the buffers.
+    #[cold]
+    #[inline(never)]
+    fn fits_exactly(&mut self, row: &[Value]) -> Result<(), PushFault>
+        requires { self.old.rows < self.old.limits.slots }
         ensures within { (known : Numbering) (limits : Limits) (fields : List Field)
             (rows : List (List Value))
             → HasRows known limits fields rows self.old
@@ -250,161 +250,59 @@ impl Builder {
             (rows : List (List Value))
             → HasRows known limits fields rows self.old
             → IfErr result (λ fault. IsRefused limits fields (rows ++ row.now ∷ [])
-            (write_fault fault) × ¬ (write_fault fault ≡ WriteFault.OutOfMemory)) }
+            (write_fault fault) × ¬ (fault ≡ PushFault.OutOfMemory)) }
         ensures kept { (known : Numbering) (limits : Limits) (fields : List Field)
             (rows : List (List Value))
             → HasRows known limits fields rows self.old
             → HasRows known limits fields rows self.new }
-        ensures still_failed { HasFailed self.old → HasFailed self.new }
+        ensures rows { self.new.rows ≡ self.old.rows }
+        ensures limits { self.new.limits ≡ self.old.limits }
+        ensures failed { self.new.failed ≡ self.old.failed }
     {
-        if self.is_full() {
-            return Err(PushFault::TooMany);
-        }
-        fit(&mut self.nodes, row, &self.limits)?;
-        Ok(())
-    }
-
-    // The headroom after a row with lists or structs, as `spare_behind` returns it. The columns are
-    // weighed again.
-    #[cold]
-    #[inline(never)]
-    fn spare_anew(&self, fields: &[Field], row: &[Value]) -> Option<Spare>
-        ensures fits { IfSome result (λ spare. EachFits Fits fields.now row.now) }
-        ensures spare { (known : Numbering) (limits : Limits) (rows : List (List Value))
-            → HasRows known limits fields.now rows self.now
-            → IfSome result (λ spare. (0 < spare.weight)
-            × HasSpare limits fields.now (rows ++ row.now ∷ []) spare) }
-    {
-        let most = MAX_DATA as u64;
-        let left = left_of_row(fields, row, &self.nodes, most)?;
-        let weight = most - left;
-        let more = left.min(MORE);
-        if have_spare(&self.nodes, weight + more, &self.limits) {
-            return Some(Spare { weight: more + 1 });
-        }
-        if have_spare(&self.nodes, weight, &self.limits) {
-            return Some(Spare { weight: 1 });
-        }
-        None
-    }
-
-    // The headroom after a row with lists or structs, as `spare_behind` returns it.
-    #[inline(never)]
-    fn spare_inside(&self, fields: &[Field], row: &[Value]) -> Option<Spare>
-        ensures fits { IfSome result (λ spare. EachFits Fits fields.now row.now) }
-        ensures spare { (known : Numbering) (limits : Limits) (rows : List (List Value))
-            → HasRows known limits fields.now rows self.now
-            → IfSome result (λ spare. (0 < spare.weight)
-            × HasSpare limits fields.now (rows ++ row.now ∷ []) spare) }
-    {
-        match left_of_row(fields, row, &self.nodes, self.spare.weight) {
-            Some(left) if left > 0 => Some(Spare { weight: left }),
-            _ => self.spare_anew(fields, row),
-        }
-    }
-
-    // The headroom after a row without lists and structs, as `spare_behind` returns it: it is 0 and
-    // is not used. None if the row may not fit.
-    #[inline(always)]
-    fn spare_beside(&self, fields: &[Field], row: &[Value]) -> Option<Spare>
-        requires { self.now.rows < self.now.limits.slots }
-        ensures fits { (known : Numbering) (limits : Limits) (rows : List (List Value))
-            → HasRows known limits fields.now rows self.now
-            → IfSome result (λ spare. EachFits Fits fields.now row.now) }
-        ensures within { (known : Numbering) (limits : Limits) (rows : List (List Value))
-            → HasRows known limits fields.now rows self.now → IfSome result
-            (λ spare. AreWithin limits (shape_of fields.now) (columns (rows ++ row.now ∷ []))) }
-        ensures none { IfSome result (λ spare. spare.weight ≡ 0) }
-    {
-        if row_surely_fits(fields, &self.nodes, row, self.rows, &self.limits) {
-            return Some(Spare { weight: 0 });
-        }
-        None
-    }
-
-    /// Fast accept of a row: returns a headroom if the row conforms to the fields and is within the
-    /// limits with the rows that are held. Further rows that weigh less than the headroom are
-    /// within the limits too. A row weighs 6 for each slot that it adds to any column, descendants
-    /// included, and the size of its data there (`weight_of`).
-    ///
-    /// Each value is checked once. Pass the headroom to `take_row`. `None` means that this check
-    /// cannot accept the row, for example near the limits: then use `conforms` and `fits`.
-    #[inline(always)]
-    pub fn spare_behind(&self, fields: &[Field], row: &[Value]) -> Option<Spare>
-        ensures conforms { (known : Numbering) (limits : Limits) (rows : List (List Value))
-            → HasRows known limits fields.now rows self.now
-            → IfSome result (λ spare. RowFits fields.now row.now) }
-        ensures within { (known : Numbering) (limits : Limits) (rows : List (List Value))
-            → HasRows known limits fields.now rows self.now
-            → IfSome result (λ spare. IsWithin limits fields.now (rows ++ row.now ∷ [])) }
-        ensures spare { (known : Numbering) (limits : Limits) (rows : List (List Value))
-            → HasRows known limits fields.now rows self.now
-            → IfSome result (HasSpare limits fields.now (rows ++ row.now ∷ [])) }
-    {
-        if self.is_full() || row.len() != fields.len() {
-            return None;
-        }
-        match self.look {
-            Look::Deep => self.spare_inside(fields, row),
-            Look::Flat => self.spare_beside(fields, row),
-        }
+        self.headroom = headroom(&self.nodes, &self.limits);
+        fit(&mut self.nodes, row, &self.limits)
     }
 
     /// Adds one row. For each value other than null in a field with a dictionary it looks up the
-    /// index, or writes 0 if it has none. The row must pass `fits`, and each index must fit the
-    /// field's index type.
+    /// index, or writes 0 if it has none. `weight` is the weight of the row, as `row_weight`
+    /// returns it, or more. The row must conform to the fields, and each index must fit the field's
+    /// index type.
     ///
-    /// Errors: W11 `OutOfMemory` if memory for a list ran out. A row that does not pass `fits` may
-    /// be refused with W6 or W8. After any error the builder has failed, and each later call
-    /// returns W10 `Failed`.
-    pub fn push<I: IndexOf>(&mut self, row: &[Value], indices: &I) -> Result<(), WriteFault>
-        ensures pushed { (limits : Limits) (fields : List Field) (rows : List (List Value))
-            → HasRows (told (I.IndexOf.index indices.now)) limits fields rows self.old
-            → IsWithin limits fields (rows ++ row.now ∷ [])
-            → OnOk result (HasRows (told (I.IndexOf.index indices.now)) limits fields
-            (rows ++ row.now ∷ []) self.new) }
-        ensures refused { (limits : Limits) (fields : List Field) (rows : List (List Value))
-            → HasRows (told (I.IndexOf.index indices.now)) limits fields rows self.old
-            → IfErr result (IsRefused limits fields (rows ++ row.now ∷ [])) }
-        ensures fails { OnErr result (HasFailed self.new) }
-        ensures failed { HasFailed self.old → result ≡ Err WriteFault.Failed }
-    {
-        self.take_row(row, Spare { weight: 0 }, indices)?;
-        Ok(())
-    }
-
-    /// Adds one row as `Builder::push` does, for callers that push each row: a fault has one byte.
-    /// `spare` is the result of `spare_behind` for this row, or `Spare::none`.
+    /// Errors: those of `fits`, after which the rows are unchanged, and W11 `OutOfMemory` if memory
+    /// for a list ran out. After W11 the builder has failed, and each later call returns W10
+    /// `Failed`.
     #[inline(always)]
-    pub fn take_row<I: IndexOf>(
+    pub fn push<I: IndexOf>(
         &mut self,
         row: &[Value],
-        spare: Spare,
+        weight: u64,
         indices: &I,
     ) -> Result<(), PushFault>
         ensures pushed { (limits : Limits) (fields : List Field) (rows : List (List Value))
             → HasRows (told (I.IndexOf.index indices.now)) limits fields rows self.old
-            → IsWithin limits fields (rows ++ row.now ∷ [])
-            → HasSpare limits fields (rows ++ row.now ∷ []) spare
+            → capped (row_weight fields row.now) ≤ weight
             → OnOk result (HasRows (told (I.IndexOf.index indices.now)) limits fields
             (rows ++ row.now ∷ []) self.new) }
         ensures refused { (limits : Limits) (fields : List Field) (rows : List (List Value))
             → HasRows (told (I.IndexOf.index indices.now)) limits fields rows self.old
             → IfErr result (λ fault. IsRefused limits fields (rows ++ row.now ∷ [])
             (write_fault fault)) }
-        ensures fails { OnErr result (HasFailed self.new) }
+        ensures kept { (limits : Limits) (fields : List Field) (rows : List (List Value))
+            → HasRows (told (I.IndexOf.index indices.now)) limits fields rows self.old
+            → capped (row_weight fields row.now) ≤ weight
+            → IfErr result (λ fault. ¬ (fault ≡ PushFault.OutOfMemory)
+            → HasRows (told (I.IndexOf.index indices.now)) limits fields rows self.new) }
+        ensures fails { (limits : Limits) (fields : List Field) (rows : List (List Value))
+            → HasRows (told (I.IndexOf.index indices.now)) limits fields rows self.old
+            → IfErr result (λ fault. fault ≡ PushFault.OutOfMemory → HasFailed self.new) }
         ensures failed { HasFailed self.old → result ≡ Err PushFault.Failed }
     {
-        let had_failed = mem::replace(&mut self.failed, true);
-        if had_failed {
-            return Err(PushFault::Failed);
-        }
-        if self.is_full() {
-            return Err(PushFault::TooMany);
-        }
+        self.fits(row, weight)?;
+        let headroom = self.headroom;
+        self.failed = true;
         take_parts(row, &mut self.nodes, Purpose::Keep, &self.limits, indices)?;
         self.rows += 1;
-        self.spare = spare;
+        self.headroom = headroom.saturating_sub(weight);
         self.failed = false;
         Ok(())
     }

@@ -1,18 +1,9 @@
 ghost use Rattle.std.specs.Prelude.{◌≡◌, ◌≤◌, ◌<◌, ◌+◌, ◌^◌, length, if◌then◌else◌};
-ghost use Rattle.ipc_model.specs.declared.value.Value.TheVariants.{Null};
-ghost use Rattle.ipc_encode.specs.Cells.{cell, is_set, number_bits, content, fixed, items};
+ghost use Rattle.ipc_encode.specs.Cells.{is_set, number_bits, content, fixed, items};
 ghost use Rattle.ipc_encode.specs.Cells.{HasUtf8};
 ghost use Rattle.ipc_encode.specs.Pieces.{Valid, True};
 
 use ipc_model::Value;
-
-/// Returns the value of a row in a column, or null if the row has no such column.
-pub(crate) fn value_at<'a>(row: &'a [Value], column: usize, null: &'a Value) -> &'a Value
-    requires { null.now ≡ Null }
-    ensures { result.now ≡ cell column row.now }
-{
-    row.get(column).unwrap_or(null)
-}
 
 /// Returns whether a value is not null.
 #[inline(always)]

@@ -1,5 +1,5 @@
 //! The buffers of a column, borrowed from the batch where they lie as they are written.
-ghost use Rattle.std.specs.Prelude.{◌≡◌, ◌<◌, ◌≤◌, ◌+◌, ◌*◌, ◌^◌, ℕ, false, List, []};
+ghost use Rattle.std.specs.Prelude.{◌≡◌, ◌<◌, ◌≤◌, ◌+◌, ◌*◌, ℕ, false, List, []};
 ghost use Rattle.std.specs.Prelude.{◌⊎◌, length, take, drop, replicate, IfErr, IfOk, IsTrue, OnOk};
 ghost use Rattle.ipc_scalar.specs.Bytes.{num};
 ghost use Rattle.ipc_model.specs.Limits.{max_data};
@@ -18,14 +18,13 @@ ghost use Rattle.ipc_encode.specs.Segments.{segment_bytes};
 use crate::buffers::{LentContents, lent_contents, lent_marks, lent_widths};
 use crate::column::MAX_DATA;
 use crate::fault::PushFault;
-use crate::lent;
 use crate::lent::{push_each_content, push_ends, push_truths, push_widths};
-use crate::marks::{is_marked_valid, push_validities};
+use crate::marks::is_marked_valid;
 use crate::nested_slots::push_list_ends;
 use crate::numbers::push_some;
 use crate::segments::Segment;
+use crate::{lent, marks};
 use ipc_column::{Numbers, SlotView};
-use ipc_model::Layout;
 use std::alloc::{AllocError, Global};
 
 /// The buffers of binary values or texts, without the first offset, which is 0.
@@ -87,8 +86,7 @@ pub(crate) fn marked_validity<'a>(
     count: usize,
     null_count: usize,
 ) -> Result<Segment<'a>, AllocError>
-    requires bits { HasBits marks.now count }
-    requires few { count < 2 ^ 63 }
+    requires { HasBits marks.now count }
     ensures { (values : List Value) → length values ≡ count → nulls values ≡ null_count
         → MarksNulls marks.now values
         → IfOk result (λ segment. segment_bytes segment ≡ validity_bytes values) }
@@ -100,7 +98,7 @@ pub(crate) fn marked_validity<'a>(
         return Ok(Segment::Borrowed(&marks[..count / 8]));
     }
     let mut validity = pooled_list(alloc, pool);
-    push_validities(&mut validity, 0, 0, marks, count, null_count)?;
+    marks::push_marks(&mut validity, marks, count)?;
     Ok(Segment::Owned(validity))
 }
 
@@ -111,16 +109,18 @@ pub(crate) fn column_validity<'a>(
     view: &SlotView<'a>,
     null_count: usize,
 ) -> Result<Segment<'a>, AllocError>
-    requires few { length (slot_values view.now) < 2 ^ 63 }
-    requires nulls { null_count ≡ nulls (slot_values view.now) }
+    requires { null_count ≡ nulls (slot_values view.now) }
     ensures { IfOk result
         (λ segment. segment_bytes segment ≡ validity_bytes (slot_values view.now)) }
 {
+    if null_count == 0 {
+        return Ok(Segment::Zeros(0));
+    }
     if let Some(marks) = lent_marks(view) {
         return marked_validity(alloc, pool, marks, view.len(), null_count);
     }
     let mut validity = pooled_list(alloc, pool);
-    lent::push_validities(Layout::Bits, &mut validity, 0, 0, view, null_count)?;
+    lent::push_marks(&mut validity, view)?;
     Ok(Segment::Owned(validity))
 }
 
@@ -202,12 +202,11 @@ pub(crate) fn bit_values<'a>(
     pool: &mut Vec<Vec<u8>>,
     view: &SlotView<'a>,
 ) -> Result<Segment<'a>, AllocError>
-    requires { length (slot_values view.now) < 2 ^ 63 }
     ensures { IfOk result (λ segment. segment_bytes segment
         ≡ bitmap (flags True (slot_values view.now))) }
 {
     let mut values = pooled_list(alloc, pool);
-    push_truths(&mut values, 0, view)?;
+    push_truths(&mut values, view)?;
     Ok(Segment::Owned(values))
 }
 
@@ -229,7 +228,7 @@ fn run_ends<'a>(
         return Ok(Segment::Borrowed(lent.ends));
     }
     let mut offsets = pooled_list(alloc, pool);
-    push_ends(&mut offsets, lent, count, 0)?;
+    push_ends(&mut offsets, lent, count)?;
     Ok(Segment::Owned(offsets))
 }
 
@@ -278,7 +277,7 @@ pub(crate) fn list_offsets<'a>(
 {
     let mut offsets = pooled_list(alloc, pool);
     offsets.extend_from_slice(&[0; 4])?;
-    let end = push_list_ends(&mut offsets, view, 0)?;
+    let end = push_list_ends(&mut offsets, view)?;
     if end > MAX_DATA {
         return Err(PushFault::TooMany);
     }

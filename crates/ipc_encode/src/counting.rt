@@ -230,37 +230,4 @@ impl Column {
             Purpose::Count => self.count(value, limits),
         }
     }
-
-    /// Adds or counts one value of a column with children, as `take` does.
-    #[inline(always)]
-    pub(crate) fn take_outer<I: IndexOf>(
-        &mut self,
-        value: &Value,
-        purpose: Purpose,
-        limits: &Limits,
-        indices: &I,
-    ) -> Result<(), PushFault>
-        ensures taken { (layout : Layout) (values : List Value)
-            → HasTaken (told (I.IndexOf.index indices.now)) purpose limits.now layout values
-            self.old
-            → OnOk result
-            (HasTaken (told (I.IndexOf.index indices.now)) purpose limits.now layout
-            (values ++ value.now ∷ []) self.new) }
-        ensures refused { (layout : Layout) (values : List Value)
-            → HasTaken (told (I.IndexOf.index indices.now)) purpose limits.now layout values
-            self.old
-            → IfErr result (IsPushRefused limits.now layout (values ++ value.now ∷ [])) }
-        ensures kept { (known : Numbering) (limits : Limits) (layout : Layout)
-            (values : List Value)
-            → purpose ≡ Count
-            → IsColumn known limits layout values self.old
-            → IsColumn known limits layout values self.new }
-        ensures memory { purpose ≡ Count
-            → IfErr result (λ fault. ¬ (fault ≡ PushFault.OutOfMemory)) }
-    {
-        match purpose {
-            Purpose::Keep => self.push_outer(value, limits, indices),
-            Purpose::Count => self.count(value, limits),
-        }
-    }
 }

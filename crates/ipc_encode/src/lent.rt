@@ -1,21 +1,19 @@
 //! Appends the slots of a column that was read to the buffers of another, without a value for
 //! each.
-ghost use Rattle.std.specs.Prelude.{◌≡◌, ◌<◌, ◌^◌, ◌+◌, ◌++◌, List, true, length, IfSome};
-ghost use Rattle.std.specs.Prelude.{◌≤◌, ◌*◌, ◌%◌, ◌&&◌, ℕ, Bool, false, take, slice_index_or};
+ghost use Rattle.std.specs.Prelude.{◌≡◌, ◌<◌, ◌+◌, ◌++◌, List, [], length, IfSome};
+ghost use Rattle.std.specs.Prelude.{◌≤◌, ◌*◌, ◌&&◌, ℕ, Bool, false, take, slice_index_or};
 ghost use Rattle.std.specs.Prelude.{IfOk, OnOk};
-ghost use Rattle.ipc_model.specs.declared.layout.Layout.{Layout};
 ghost use Rattle.ipc_model.specs.declared.value.Value.{Value};
 ghost use Rattle.ipc_scalar.specs.Bytes.{bit, num};
 ghost use Rattle.ipc_column.specs.Nested.{slot_values};
 ghost use Rattle.ipc_column.specs.Values.{is_valid};
 ghost use Rattle.ipc_encode.specs.Bitmaps.{bitmap};
 ghost use Rattle.ipc_encode.specs.Cells.{ends, flags, nulls, slots};
-ghost use Rattle.ipc_encode.specs.Columns.{validity_in};
 ghost use Rattle.ipc_encode.specs.Marks.{HasBits};
 ghost use Rattle.ipc_encode.specs.Pieces.{Bytes, Content, Fixed, True, Valid};
 
 use crate::buffers::{LentContents, lent_marks, lent_widths, offset_at};
-use crate::flags::{push_bit, set_bits};
+use crate::flags::push_bit;
 use crate::marks;
 use crate::pushing::push_offset;
 use crate::slot_parts::{content, is_true, is_valid, push_fixed};
@@ -45,25 +43,19 @@ pub(crate) fn count_nulls(view: &SlotView<'_>) -> usize
     null_count
 }
 
-// Appends whether each slot is valid to `held` packed bits.
-fn push_marks(bits: &mut Vec<u8>, held: usize, view: &SlotView<'_>) -> Result<(), AllocError>
-    requires { held + length (slot_values view.now) < 2 ^ 63 }
-    ensures { (before : List Value) → length before ≡ held
-        → bits.old.items ≡ bitmap (flags Valid before)
-        → OnOk result (bits.new.items ≡ bitmap (flags Valid (before ++ slot_values view.now))) }
+/// Appends whether each slot is valid to an empty list.
+pub(crate) fn push_marks(bits: &mut Vec<u8>, view: &SlotView<'_>) -> Result<(), AllocError>
+    ensures { bits.old.items ≡ []
+        → OnOk result (bits.new.items ≡ bitmap (flags Valid (slot_values view.now))) }
 {
-    if let Some(marks) = lent_marks(view) {
-        return marks::push_marks(bits, held, marks, view.len());
-    }
     for slot in 0..view.len() {
         let shown = view.at(slot);
-        push_bit(bits, held + slot, is_valid(&shown))?;
+        push_bit(bits, slot, is_valid(&shown))?;
     }
     Ok(())
 }
 
-// Appends bytes of booleans to bits that fill their bytes. If the bitmap marks a slot as null, its
-// bit is 0.
+// Appends bytes of booleans to an empty list. If the bitmap marks a slot as null, its bit is 0.
 fn push_set_bits(
     bits: &mut Vec<u8>,
     truths: &[u8],
@@ -72,10 +64,10 @@ fn push_set_bits(
 ) -> Result<(), AllocError>
     requires truths { count ≤ length truths.now }
     requires marks { HasBits marks.now (8 * count) }
-    ensures { (before more : List Bool) → length before % 8 ≡ 0 → length more ≡ 8 * count
+    ensures { (more : List Bool) → length more ≡ 8 * count
         → ((i : ℕ) → i < length more
         → slice_index_or more i false ≡ (bit truths.now i && is_valid marks.now i))
-        → bits.old.items ≡ bitmap before → OnOk result (bits.new.items ≡ bitmap (before ++ more)) }
+        → bits.old.items ≡ [] → OnOk result (bits.new.items ≡ bitmap more) }
 {
     if marks.is_empty() {
         return bits.extend_from_slice(&truths[..count]);
@@ -86,46 +78,31 @@ fn push_set_bits(
     Ok(())
 }
 
-// Appends whether slots are true to `held` packed bits, one byte at a time. Returns the number of
-// slots, which is 0 if the slots are no bits, or the bits so far do not fill their bytes.
-fn push_truth_bytes(
-    bits: &mut Vec<u8>,
-    held: usize,
-    view: &SlotView<'_>,
-) -> Result<usize, AllocError>
+// Appends whether slots are true to an empty list, one byte at a time. Returns the number of slots,
+// which is 0 if the slots are no bits.
+fn push_truth_bytes(bits: &mut Vec<u8>, view: &SlotView<'_>) -> Result<usize, AllocError>
     ensures within { IfOk result (λ taken. taken ≤ length (slot_values view.now)) }
-    ensures bits { (before : List Value) → length before ≡ held
-        → bits.old.items ≡ bitmap (flags True before)
-        → IfOk result (λ taken. bits.new.items
-        ≡ bitmap (flags True (before ++ take taken (slot_values view.now)))) }
+    ensures bits { bits.old.items ≡ [] → IfOk result
+        (λ taken. bits.new.items ≡ bitmap (flags True (take taken (slot_values view.now)))) }
 {
     let buffers = view.buffers();
     let Layout::Bits = buffers.layout else {
         return Ok(0);
     };
-    if held % 8 != 0 {
-        return Ok(0);
-    }
     let whole = view.len() / 8;
     push_set_bits(bits, buffers.values, buffers.validity, whole)?;
     Ok(whole * 8)
 }
 
-/// Appends whether each slot is true to `held` packed bits.
-pub(crate) fn push_truths(
-    bits: &mut Vec<u8>,
-    held: usize,
-    view: &SlotView<'_>,
-) -> Result<(), AllocError>
-    requires { held + length (slot_values view.now) < 2 ^ 63 }
-    ensures { (before : List Value) → length before ≡ held
-        → bits.old.items ≡ bitmap (flags True before)
-        → OnOk result (bits.new.items ≡ bitmap (flags True (before ++ slot_values view.now))) }
+/// Appends whether each slot is true to an empty list.
+pub(crate) fn push_truths(bits: &mut Vec<u8>, view: &SlotView<'_>) -> Result<(), AllocError>
+    ensures { bits.old.items ≡ []
+        → OnOk result (bits.new.items ≡ bitmap (flags True (slot_values view.now))) }
 {
-    let taken = push_truth_bytes(bits, held, view)?;
+    let taken = push_truth_bytes(bits, view)?;
     for slot in taken..view.len() {
         let shown = view.at(slot);
-        push_bit(bits, held + slot, is_true(&shown))?;
+        push_bit(bits, slot, is_true(&shown))?;
     }
     Ok(())
 }
@@ -168,55 +145,21 @@ pub(crate) fn push_each_content(
     Ok(())
 }
 
-/// Appends the offset at which each of `count` values ends, if the first begins at `start`.
+/// Appends the offset at which each of `count` values ends, if the first begins at 0.
 pub(crate) fn push_ends(
     offsets: &mut Vec<u8>,
     lent: &LentContents<'_>,
     count: usize,
-    start: usize,
 ) -> Result<(), AllocError>
-    requires room { length lent.now.ends.now ≡ 4 * count }
-    requires small { start < 2 ^ 63 }
+    requires { length lent.now.ends.now ≡ 4 * count }
     ensures { (values : List Value) → length values ≡ count
-        → lent.now.ends.now ≡ ends Bytes lent.now.start values
         → ((i : ℕ) → i < count → num lent.now.ends.now (4 * i) 4
         ≡ lent.now.start + length (slots Content (take (i + 1) values)))
-        → OnOk result (offsets.new.items ≡ offsets.old.items ++ ends Bytes start values) }
+        → OnOk result (offsets.new.items ≡ offsets.old.items ++ ends Bytes 0 values) }
 {
-    if lent.start == start {
-        return offsets.extend_from_slice(lent.ends);
-    }
     for slot in 0..count {
         let end = offset_at(lent.ends, slot) as usize;
-        push_offset(offsets, start + end.saturating_sub(lent.start))?;
+        push_offset(offsets, end.saturating_sub(lent.start))?;
     }
     Ok(())
-}
-
-/// Records whether each slot is valid, where `more_nulls` are null, after `held` slots with
-/// `held_nulls` nulls. The layout of the column may have no validity bitmap.
-pub(crate) fn push_validities(
-    layout: Layout,
-    validity: &mut Vec<u8>,
-    held: usize,
-    held_nulls: usize,
-    view: &SlotView<'_>,
-    more_nulls: usize,
-) -> Result<(), AllocError>
-    requires few { held + length (slot_values view.now) < 2 ^ 63 }
-    requires nulls { more_nulls ≡ nulls (slot_values view.now) }
-    ensures { (before : List Value) → length before ≡ held → nulls before ≡ held_nulls
-        → validity.old.items ≡ validity_in layout before
-        → OnOk result (validity.new.items ≡ validity_in layout (before ++ slot_values view.now)) }
-{
-    if layout.own_buffers() == 0 {
-        return Ok(());
-    }
-    if held_nulls == 0 {
-        if more_nulls == 0 {
-            return Ok(());
-        }
-        set_bits(validity, held)?;
-    }
-    push_marks(validity, held, view)
 }

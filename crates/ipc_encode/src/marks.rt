@@ -1,16 +1,15 @@
-//! Appends the validity bitmap of a column that was read to that of another.
-ghost use Rattle.std.specs.Prelude.{◌≡◌, ◌≤◌, ◌<◌, ◌^◌, ◌+◌, ◌++◌, List, length, take, IfOk};
+//! The validity bitmap of a column that was read.
+ghost use Rattle.std.specs.Prelude.{◌≡◌, ◌≤◌, ◌<◌, ◌+◌, List, [], length, take, IfOk};
 ghost use Rattle.std.specs.Prelude.{IfNone, IfSome, IsTrue, OnOk, ℕ, ◌*◌, true};
 ghost use Rattle.ipc_model.specs.declared.value.Value.{Value};
 ghost use Rattle.ipc_scalar.specs.Bytes.{bit};
 ghost use Rattle.ipc_column.specs.Values.{is_valid};
 ghost use Rattle.ipc_encode.specs.Bitmaps.{bitmap};
 ghost use Rattle.ipc_encode.specs.Cells.{flags, nulls};
-ghost use Rattle.ipc_encode.specs.Columns.{validity_bytes};
 ghost use Rattle.ipc_encode.specs.Marks.{HasBits, MarksNulls};
 ghost use Rattle.ipc_encode.specs.Pieces.{Valid};
 
-use crate::flags::{push_bit, set_bits};
+use crate::flags::push_bit;
 use ipc_scalar::{bit, count_clear};
 use std::alloc::AllocError;
 
@@ -41,72 +40,33 @@ pub(crate) fn count_nulls(marks: &[u8], count: usize) -> Option<usize>
     Some(count_clear(marks, count) as usize)
 }
 
-// Appends whether slots are valid to `held` packed bits, one byte at a time. Returns the number of
-// slots, which is 0 if the bits so far do not fill their bytes.
-fn push_mark_bytes(
-    bits: &mut Vec<u8>,
-    held: usize,
-    marks: &[u8],
-    count: usize,
-) -> Result<usize, AllocError>
+// Appends whether slots are valid to an empty list, one byte at a time. Returns the number of
+// slots.
+fn push_mark_bytes(bits: &mut Vec<u8>, marks: &[u8], count: usize) -> Result<usize, AllocError>
     requires { HasBits marks.now count }
     ensures within { IfOk result (λ taken. taken ≤ count) }
-    ensures bits { (before values : List Value) → length before ≡ held → length values ≡ count
-        → MarksNulls marks.now values → bits.old.items ≡ bitmap (flags Valid before)
-        → IfOk result (λ taken. bits.new.items
-        ≡ bitmap (flags Valid (before ++ take taken values))) }
+    ensures bits { (values : List Value) → length values ≡ count → MarksNulls marks.now values
+        → bits.old.items ≡ []
+        → IfOk result (λ taken. bits.new.items ≡ bitmap (flags Valid (take taken values))) }
 {
-    if held % 8 != 0 || marks.is_empty() {
+    if marks.is_empty() {
         return Ok(0);
     }
     bits.extend_from_slice(&marks[..count / 8])?;
     Ok(count / 8 * 8)
 }
 
-/// Appends whether each of `count` slots is valid to `held` packed bits.
-pub(crate) fn push_marks(
-    bits: &mut Vec<u8>,
-    held: usize,
-    marks: &[u8],
-    count: usize,
-) -> Result<(), AllocError>
-    requires bits { HasBits marks.now count }
-    requires few { held + count < 2 ^ 63 }
-    ensures { (before values : List Value) → length before ≡ held → length values ≡ count
-        → MarksNulls marks.now values → bits.old.items ≡ bitmap (flags Valid before)
-        → OnOk result (bits.new.items ≡ bitmap (flags Valid (before ++ values))) }
+/// Appends whether each of `count` slots is valid to an empty list.
+pub(crate) fn push_marks(bits: &mut Vec<u8>, marks: &[u8], count: usize) -> Result<(), AllocError>
+    requires { HasBits marks.now count }
+    ensures { (values : List Value) → length values ≡ count → MarksNulls marks.now values
+        → bits.old.items ≡ [] → OnOk result (bits.new.items ≡ bitmap (flags Valid values)) }
 {
-    let taken = push_mark_bytes(bits, held, marks, count)?;
+    let taken = push_mark_bytes(bits, marks, count)?;
     for slot in taken..count {
-        push_bit(bits, held + slot, is_marked_valid(marks, slot))?;
+        push_bit(bits, slot, is_marked_valid(marks, slot))?;
     }
     Ok(())
-}
-
-/// Records whether each of `count` slots is valid, where `more_nulls` are null, after `held` slots
-/// with `held_nulls` nulls. There is a bitmap only if a slot is null.
-pub(crate) fn push_validities(
-    validity: &mut Vec<u8>,
-    held: usize,
-    held_nulls: usize,
-    marks: &[u8],
-    count: usize,
-    more_nulls: usize,
-) -> Result<(), AllocError>
-    requires bits { HasBits marks.now count }
-    requires few { held + count < 2 ^ 63 }
-    ensures { (before values : List Value) → length before ≡ held → nulls before ≡ held_nulls
-        → length values ≡ count → nulls values ≡ more_nulls → MarksNulls marks.now values
-        → validity.old.items ≡ validity_bytes before
-        → OnOk result (validity.new.items ≡ validity_bytes (before ++ values)) }
-{
-    if held_nulls == 0 {
-        if more_nulls == 0 {
-            return Ok(());
-        }
-        set_bits(validity, held)?;
-    }
-    push_marks(validity, held, marks, count)
 }
 
 // Whether each set bit of the first `count` bytes is also set in another list.

@@ -26,21 +26,16 @@ fn list_end(start: usize, count: usize) -> Result<usize, PushFault>
     }
 }
 
-/// Appends the offset at which the list of each slot ends, if the first begins at `start`. Returns
-/// the last offset, or `TooMany` if 32-bit offsets do not reach it.
-pub(crate) fn push_list_ends(
-    offsets: &mut Vec<u8>,
-    view: &SlotView<'_>,
-    start: usize,
-) -> Result<usize, PushFault>
-    ensures end { IfOk result (λ end. end ≡ start + data_in Lists (slot_values view.now)) }
+/// Appends the offset at which the list of each slot ends, if the first begins at 0. Returns the
+/// last offset, or `TooMany` if 32-bit offsets do not reach it.
+pub(crate) fn push_list_ends(offsets: &mut Vec<u8>, view: &SlotView<'_>) -> Result<usize, PushFault>
+    ensures end { IfOk result (λ end. end ≡ data_in Lists (slot_values view.now)) }
     ensures offsets { OnOk result (offsets.new.items
-        ≡ offsets.old.items ++ ends Items start (slot_values view.now)) }
+        ≡ offsets.old.items ++ ends Items 0 (slot_values view.now)) }
     ensures refused { IfErr result (λ fault. (fault ≡ PushFault.OutOfMemory)
-        ⊎ ((fault ≡ PushFault.TooMany)
-        × (max_data < start + data_in Lists (slot_values view.now)))) }
+        ⊎ ((fault ≡ PushFault.TooMany) × (max_data < data_in Lists (slot_values view.now)))) }
 {
-    let mut end = start;
+    let mut end = 0;
     for slot in 0..view.len() {
         end = list_end(end, item_count(&view.at(slot)))?;
         push_offset(offsets, end)?;

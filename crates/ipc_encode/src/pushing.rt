@@ -2,10 +2,7 @@ ghost use Rattle.std.specs.Prelude.{◌≡◌, ◌++◌, List, [], ◌∷◌, le
 ghost use Rattle.std.specs.Int.{bytes_low_first};
 ghost use Rattle.ipc_model.specs.Layouts.{number_bytes};
 ghost use Rattle.ipc_model.specs.declared.layout.Layout.{Layout};
-ghost use Rattle.ipc_model.specs.declared.layout.Layout.TheVariants.{Bits, Lists, Numbers, Structs};
-ghost use Rattle.ipc_model.specs.declared.layout.Layout.TheVariants.{VariableBytes};
 ghost use Rattle.ipc_model.specs.declared.limits.Limits.{Limits};
-ghost use Rattle.ipc_model.specs.declared.schema.IntBits.TheVariants.{B32, B64};
 ghost use Rattle.ipc_model.specs.declared.value.Value.{Value};
 ghost use Rattle.ipc_encode.specs.Pieces.{Number, Fixed};
 ghost use Rattle.ipc_encode.specs.Cells.{nulls, number_bits, slot_bytes, content, HasUtf8};
@@ -301,199 +298,19 @@ impl Column {
         let counts = self.counts.with(layout, value, limits)?;
         // The value is read before anything is written, and so once.
         let number = number_bits(value);
-        push_validity(layout, &mut self.validity, slots, nulls, value)?;
         push_value(layout, slots, &mut self.values, value, number)?;
         push_end(layout, &mut self.offsets, counts.amount)?;
         push_index(layout, &mut self.indices, value, indices)?;
+        push_validity(layout, &mut self.validity, slots, nulls, value)?;
         self.counts = counts;
         Ok(())
     }
 
-    // Adds one number of 64 bits, or null, as `push` does. After the counts no code tests the
-    // layout: with a match on it before the bytes are appended, the compiler treats that as rare,
-    // and calls it.
-    #[inline(always)]
-    fn push_long(&mut self, signed: bool, value: &Value, limits: &Limits) -> Result<(), PushFault>
-        ensures pushed { (known : Numbering) (values : List Value)
-            → IsColumn known limits.now (Numbers B64 signed) values self.old
-            → OnOk result (IsColumn known limits.now (Numbers B64 signed)
-            (values ++ value.now ∷ []) self.new) }
-        ensures refused { (known : Numbering) (values : List Value)
-            → IsColumn known limits.now (Numbers B64 signed) values self.old
-            → IfErr result
-            (IsPushRefused limits.now (Numbers B64 signed) (values ++ value.now ∷ [])) }
-    {
-        let layout = Layout::Numbers {
-            bits: IntBits::B64,
-            signed,
-        };
-        let Counts { slots, nulls, .. } = self.counts;
-        let counts = self.counts.with(layout, value, limits)?;
-        push_eight(&mut self.values, number_bits(value))?;
-        push_validity_bit(&mut self.validity, slots, nulls, value)?;
-        self.counts = counts;
-        Ok(())
-    }
-
-    // Adds one number of 32 bits, or null, as `push` does.
-    #[inline(always)]
-    fn push_word(&mut self, signed: bool, value: &Value, limits: &Limits) -> Result<(), PushFault>
-        ensures pushed { (known : Numbering) (values : List Value)
-            → IsColumn known limits.now (Numbers B32 signed) values self.old
-            → OnOk result (IsColumn known limits.now (Numbers B32 signed)
-            (values ++ value.now ∷ []) self.new) }
-        ensures refused { (known : Numbering) (values : List Value)
-            → IsColumn known limits.now (Numbers B32 signed) values self.old
-            → IfErr result
-            (IsPushRefused limits.now (Numbers B32 signed) (values ++ value.now ∷ [])) }
-    {
-        let layout = Layout::Numbers {
-            bits: IntBits::B32,
-            signed,
-        };
-        let Counts { slots, nulls, .. } = self.counts;
-        let counts = self.counts.with(layout, value, limits)?;
-        push_four(&mut self.values, number_bits(value))?;
-        push_validity_bit(&mut self.validity, slots, nulls, value)?;
-        self.counts = counts;
-        Ok(())
-    }
-
-    // Adds one number of this width, or null, as `push` does.
-    #[inline(never)]
-    fn push_numbers<I: IndexOf>(
-        &mut self,
-        bits: IntBits,
-        signed: bool,
-        value: &Value,
-        limits: &Limits,
-        indices: &I,
-    ) -> Result<(), PushFault>
-        ensures pushed { (values : List Value)
-            → IsColumn (told (I.IndexOf.index indices.now)) limits.now (Numbers bits signed) values
-            self.old
-            → OnOk result (IsColumn (told (I.IndexOf.index indices.now)) limits.now
-            (Numbers bits signed) (values ++ value.now ∷ []) self.new) }
-        ensures refused { (values : List Value)
-            → IsColumn (told (I.IndexOf.index indices.now)) limits.now (Numbers bits signed) values
-            self.old
-            → IfErr result (IsPushRefused limits.now (Numbers bits signed)
-            (values ++ value.now ∷ [])) }
-    {
-        match bits {
-            IntBits::B64 => self.push_long(signed, value, limits),
-            IntBits::B32 => self.push_word(signed, value, limits),
-            _ => self.push_laid(Layout::Numbers { bits, signed }, value, limits, indices),
-        }
-    }
-
-    // Adds one boolean, or null, as `push` does.
-    #[inline(never)]
-    fn push_truth<I: IndexOf>(
-        &mut self,
-        value: &Value,
-        limits: &Limits,
-        indices: &I,
-    ) -> Result<(), PushFault>
-        ensures pushed { (values : List Value)
-            → IsColumn (told (I.IndexOf.index indices.now)) limits.now Bits values self.old
-            → OnOk result (IsColumn (told (I.IndexOf.index indices.now)) limits.now Bits
-            (values ++ value.now ∷ []) self.new) }
-        ensures refused { (values : List Value)
-            → IsColumn (told (I.IndexOf.index indices.now)) limits.now Bits values self.old
-            → IfErr result (IsPushRefused limits.now Bits (values ++ value.now ∷ [])) }
-    {
-        self.push_laid(Layout::Bits, value, limits, indices)
-    }
-
-    // Adds one binary value or text, or null, as `push` does.
-    #[inline(never)]
-    fn push_run(&mut self, utf8: bool, value: &Value, limits: &Limits) -> Result<(), PushFault>
-        ensures pushed { (known : Numbering) (values : List Value)
-            → IsColumn known limits.now (VariableBytes utf8) values
-            self.old
-            → OnOk result (IsColumn known limits.now
-            (VariableBytes utf8) (values ++ value.now ∷ []) self.new) }
-        ensures refused { (known : Numbering) (values : List Value)
-            → IsColumn known limits.now (VariableBytes utf8) values
-            self.old
-            → IfErr result (IsPushRefused limits.now (VariableBytes utf8)
-            (values ++ value.now ∷ [])) }
-    {
-        let Counts { slots, nulls, .. } = self.counts;
-        let counts = self
-            .counts
-            .with(Layout::VariableBytes { utf8 }, value, limits)?;
-        push_content(&mut self.values, value)?;
-        push_offset(&mut self.offsets, counts.amount)?;
-        push_validity_bit(&mut self.validity, slots, nulls, value)?;
-        self.counts = counts;
-        Ok(())
-    }
-
-    // Adds one list, or null, as `push` does. Its items are in the child.
-    #[inline(never)]
-    fn push_list(&mut self, value: &Value, limits: &Limits) -> Result<(), PushFault>
-        ensures pushed { (known : Numbering) (values : List Value)
-            → IsColumn known limits.now Lists values self.old
-            → OnOk result (IsColumn known limits.now Lists
-            (values ++ value.now ∷ []) self.new) }
-        ensures refused { (known : Numbering) (values : List Value)
-            → IsColumn known limits.now Lists values self.old
-            → IfErr result (IsPushRefused limits.now Lists (values ++ value.now ∷ [])) }
-    {
-        let Counts { slots, nulls, .. } = self.counts;
-        let counts = self.counts.with(Layout::Lists, value, limits)?;
-        push_offset(&mut self.offsets, counts.amount)?;
-        push_validity_bit(&mut self.validity, slots, nulls, value)?;
-        self.counts = counts;
-        Ok(())
-    }
-
-    // Adds one struct, or null, as `push` does. Its values are in the children.
-    #[inline(never)]
-    fn push_struct<I: IndexOf>(
-        &mut self,
-        value: &Value,
-        limits: &Limits,
-        indices: &I,
-    ) -> Result<(), PushFault>
-        ensures pushed { (values : List Value)
-            → IsColumn (told (I.IndexOf.index indices.now)) limits.now Structs values self.old
-            → OnOk result (IsColumn (told (I.IndexOf.index indices.now)) limits.now Structs
-            (values ++ value.now ∷ []) self.new) }
-        ensures refused { (values : List Value)
-            → IsColumn (told (I.IndexOf.index indices.now)) limits.now Structs values self.old
-            → IfErr result (IsPushRefused limits.now Structs (values ++ value.now ∷ [])) }
-    {
-        self.push_laid(Layout::Structs, value, limits, indices)
-    }
-
-    // Adds one value of any other layout, as `push` does.
+    // Adds one value to a column that does not hold numbers of 32 or 64 bits, as `push` does. Each
+    // frequent layout has code of its own.
     #[inline(never)]
     fn push_other<I: IndexOf>(
         &mut self,
-        layout: Layout,
-        value: &Value,
-        limits: &Limits,
-        indices: &I,
-    ) -> Result<(), PushFault>
-        ensures pushed { (values : List Value)
-            → IsColumn (told (I.IndexOf.index indices.now)) limits.now layout values self.old
-            → OnOk result (IsColumn (told (I.IndexOf.index indices.now)) limits.now layout
-            (values ++ value.now ∷ []) self.new) }
-        ensures refused { (values : List Value)
-            → IsColumn (told (I.IndexOf.index indices.now)) limits.now layout values self.old
-            → IfErr result (IsPushRefused limits.now layout (values ++ value.now ∷ [])) }
-    {
-        self.push_laid(layout, value, limits, indices)
-    }
-
-    // Adds one value of any layout, as `push` does. Each layout has a function of its own, so that
-    // none takes stack space for another.
-    #[inline(never)]
-    fn push_any<I: IndexOf>(
-        &mut self,
         value: &Value,
         limits: &Limits,
         indices: &I,
@@ -507,66 +324,13 @@ impl Column {
             → IfErr result (IsPushRefused limits.now layout (values ++ value.now ∷ [])) }
     {
         match self.layout {
-            Layout::Numbers { bits, signed } => {
-                self.push_numbers(bits, signed, value, limits, indices)
+            Layout::Bits => self.push_laid(Layout::Bits, value, limits, indices),
+            Layout::VariableBytes { utf8 } => {
+                self.push_laid(Layout::VariableBytes { utf8 }, value, limits, indices)
             }
-            Layout::Bits => self.push_truth(value, limits, indices),
-            Layout::VariableBytes { utf8 } => self.push_run(utf8, value, limits),
-            Layout::Lists => self.push_list(value, limits),
-            Layout::Structs => self.push_struct(value, limits, indices),
-            layout => self.push_other(layout, value, limits, indices),
-        }
-    }
-
-    // Adds one number, as `push` does. Numbers of 64 and 32 bits are added here in a few steps.
-    #[inline(always)]
-    fn push_int<I: IndexOf>(
-        &mut self,
-        value: &Value,
-        limits: &Limits,
-        indices: &I,
-    ) -> Result<(), PushFault>
-        ensures pushed { (layout : Layout) (values : List Value)
-            → IsColumn (told (I.IndexOf.index indices.now)) limits.now layout values self.old
-            → OnOk result (IsColumn (told (I.IndexOf.index indices.now)) limits.now layout
-            (values ++ value.now ∷ []) self.new) }
-        ensures refused { (layout : Layout) (values : List Value)
-            → IsColumn (told (I.IndexOf.index indices.now)) limits.now layout values self.old
-            → IfErr result (IsPushRefused limits.now layout (values ++ value.now ∷ [])) }
-    {
-        match self.layout {
-            Layout::Numbers {
-                bits: IntBits::B64,
-                signed,
-            } => self.push_long(signed, value, limits),
-            Layout::Numbers {
-                bits: IntBits::B32,
-                signed,
-            } => self.push_word(signed, value, limits),
-            _ => self.push_any(value, limits, indices),
-        }
-    }
-
-    // Adds one value that is no number, as `push` does. Booleans and texts are tested first.
-    #[inline(always)]
-    fn push_rest<I: IndexOf>(
-        &mut self,
-        value: &Value,
-        limits: &Limits,
-        indices: &I,
-    ) -> Result<(), PushFault>
-        ensures pushed { (layout : Layout) (values : List Value)
-            → IsColumn (told (I.IndexOf.index indices.now)) limits.now layout values self.old
-            → OnOk result (IsColumn (told (I.IndexOf.index indices.now)) limits.now layout
-            (values ++ value.now ∷ []) self.new) }
-        ensures refused { (layout : Layout) (values : List Value)
-            → IsColumn (told (I.IndexOf.index indices.now)) limits.now layout values self.old
-            → IfErr result (IsPushRefused limits.now layout (values ++ value.now ∷ [])) }
-    {
-        match self.layout {
-            Layout::Bits => self.push_truth(value, limits, indices),
-            Layout::VariableBytes { utf8 } => self.push_run(utf8, value, limits),
-            _ => self.push_any(value, limits, indices),
+            Layout::Lists => self.push_laid(Layout::Lists, value, limits, indices),
+            Layout::Structs => self.push_laid(Layout::Structs, value, limits, indices),
+            layout => self.push_laid(layout, value, limits, indices),
         }
     }
 
@@ -588,33 +352,28 @@ impl Column {
             → IsColumn (told (I.IndexOf.index indices.now)) limits.now layout values self.old
             → IfErr result (IsPushRefused limits.now layout (values ++ value.now ∷ [])) }
     {
-        match value {
-            Value::Int(_) => self.push_int(value, limits, indices),
-            _ => self.push_rest(value, limits, indices),
-        }
-    }
-
-    /// Adds one value to a column with children, as `push` does. Lists and structs are tested
-    /// first.
-    #[inline(always)]
-    pub(crate) fn push_outer<I: IndexOf>(
-        &mut self,
-        value: &Value,
-        limits: &Limits,
-        indices: &I,
-    ) -> Result<(), PushFault>
-        ensures pushed { (layout : Layout) (values : List Value)
-            → IsColumn (told (I.IndexOf.index indices.now)) limits.now layout values self.old
-            → OnOk result (IsColumn (told (I.IndexOf.index indices.now)) limits.now layout
-            (values ++ value.now ∷ []) self.new) }
-        ensures refused { (layout : Layout) (values : List Value)
-            → IsColumn (told (I.IndexOf.index indices.now)) limits.now layout values self.old
-            → IfErr result (IsPushRefused limits.now layout (values ++ value.now ∷ [])) }
-    {
         match self.layout {
-            Layout::Lists => self.push_list(value, limits),
-            Layout::Structs => self.push_struct(value, limits, indices),
-            _ => self.push_any(value, limits, indices),
+            Layout::Numbers {
+                bits: IntBits::B64,
+                signed,
+            } => {
+                let layout = Layout::Numbers {
+                    bits: IntBits::B64,
+                    signed,
+                };
+                self.push_laid(layout, value, limits, indices)
+            }
+            Layout::Numbers {
+                bits: IntBits::B32,
+                signed,
+            } => {
+                let layout = Layout::Numbers {
+                    bits: IntBits::B32,
+                    signed,
+                };
+                self.push_laid(layout, value, limits, indices)
+            }
+            _ => self.push_other(value, limits, indices),
         }
     }
 }

@@ -202,7 +202,7 @@ fn take_deep<I: IndexOf>(
         limits,
         indices,
     )?;
-    node.column.take_outer(value, purpose, limits, indices)
+    node.column.take(value, purpose, limits, indices)
 }
 
 // What a value of a column of this layout gives to the columns below it.

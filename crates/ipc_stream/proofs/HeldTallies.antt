@@ -17,6 +17,9 @@ use Rattle.ipc_model.specs.declared.table.BatchRows.{BatchRows}
 use Rattle.ipc_model.specs.declared.value.Value.{Value}
 use Rattle.ipc_encode.specs.declared.builder.Builder.{Builder}
 use Rattle.ipc_encode.specs.Built.{HasRows}
+use Rattle.ipc_encode.specs.Faults.{write_fault}
+use Rattle.ipc_encode.specs.declared.fault.PushFault.{PushFault}
+use Rattle.ipc_encode.specs.declared.fault.PushFault.TheVariants as push
 use Rattle.ipc_encode.specs.Indices.{AgreeOn}
 use Rattle.ipc_encode.specs.Numbers.{number_or, told}
 use Rattle.ipc_encode.proofs.Agreeing.{holds_agreeing}
@@ -168,3 +171,23 @@ note_refused limits s b row old fault same full over before only = by fault full
     by (w.Row number cause) full over before (inl (inr (inr e))) = absurd cc
     by (w.Row number cause) full over before (inr (inl e)) = absurd cc
     by (w.Row number cause) full over before (inr (inr e)) = absurd cc
+
+memory_is : (fault : PushFault) → write_fault fault ≡ w.OutOfMemory → fault ≡ push.OutOfMemory
+memory_is push.TooLong e = absurd cc
+memory_is push.TooMany e = absurd cc
+memory_is push.DictionaryFull e = absurd cc
+memory_is push.OutOfMemory e = refl
+memory_is push.Failed e = absurd cc
+
+-- a tally that works is as it was, unless memory for a value ran out
+pub note_keeps : (limits : Limits) (fields : List Field) (rows : List (List Value)) (old new : Tallied) (fault : PushFault)
+    → old ≡ tally_of limits fields rows → (write_fault fault ≡ w.DictionaryFull → new ≡ old)
+    → (IsOfLimits (write_fault fault) → new ≡ old) → (write_fault fault ≡ w.Failed → old.failed ≡ true)
+    → ((write_fault fault ≡ w.DictionaryFull) ⊎ IsOfLimits (write_fault fault))
+    ⊎ ((write_fault fault ≡ w.OutOfMemory) ⊎ (write_fault fault ≡ w.Failed))
+    → (fault ≡ push.OutOfMemory → ⊥) → new ≡ old
+note_keeps limits fields rows old new fault same full over failed (inl (inl e)) other = full e
+note_keeps limits fields rows old new fault same full over failed (inl (inr e)) other = over e
+note_keeps limits fields rows old new fault same full over failed (inr (inl e)) other = absurd (other (memory_is fault e))
+note_keeps limits fields rows old new fault same full over failed (inr (inr e)) other =
+    absurd (true≢false (sym (failed e) ∙ ap (λ (t : Tallied). t.failed) same))

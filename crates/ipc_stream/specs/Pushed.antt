@@ -12,7 +12,7 @@ use Rattle.ipc_model.specs.declared.table.BatchRows.{BatchRows}
 use Rattle.ipc_model.specs.declared.value.Value.{Value}
 use Rattle.ipc_encode.specs.Built.{HasRows}
 use Rattle.ipc_encode.specs.Numbers.{told}
-use Rattle.ipc_dict.specs.Faults.{told_of}
+use Rattle.ipc_encode.specs.Faults.{write_fault}
 use Rattle.ipc_dict.specs.Noting.{noted_place}
 use Rattle.ipc_dict.specs.Sending.{tallied}
 use Rattle.ipc_stream.specs.declared.pushed.PushedRows.{PushedRows}
@@ -77,7 +77,7 @@ RefusesHeld limits s b failed fault = RefusesBatch limits s b fault
 abbrev pub RefusesRow : Limits → Schema → BatchRows → List Value → Untaken → Type 0
 RefusesRow limits s b row u.Misfit = RowFits s.fields row → ⊥
 RefusesRow limits s b row (u.Refused fault) =
-    RefusesHeld limits s (with_row b row) false (told_of fault)
+    RefusesHeld limits s (with_row b row) false (write_fault fault)
 
 -- the state of a writer after a refusal, if nothing was to be sent: W11 makes it fail; after any
 -- other fault it is as it was

@@ -7,9 +7,8 @@ ghost use Rattle.ipc_model.specs.declared.limits.Limits.{Limits};
 ghost use Rattle.ipc_model.specs.declared.schema.Schema.{Schema};
 ghost use Rattle.ipc_model.specs.declared.table.BatchRows.{BatchRows};
 ghost use Rattle.ipc_model.specs.declared.value.Value.{Value};
-ghost use Rattle.ipc_encode.specs.Built.{HasSpare};
 ghost use Rattle.ipc_encode.specs.Limits.{IsWithin};
-ghost use Rattle.ipc_dict.specs.Faults.{told_of};
+ghost use Rattle.ipc_encode.specs.Faults.{write_fault};
 ghost use Rattle.ipc_dict.specs.Within.{HaveShortMessages};
 ghost use Rattle.ipc_stream.specs.Parts.{AcceptsPairs};
 ghost use Rattle.ipc_stream.specs.Writing.{RefusesBatch};
@@ -18,9 +17,9 @@ ghost use Rattle.ipc_stream.specs.Pushed.{no_rows, with_row, with_rows};
 
 use crate::messages::parts_message;
 use crate::untaken::Untaken;
-use ipc_dict::{NoteFault, Seed, Tally};
-use ipc_encode::{Builder, NoIndices, Room, Spare, encode};
-use ipc_model::{Items, Limits, Row, Schema, Text, Value, WriteFault, conforms, is_conforming};
+use ipc_dict::{Seed, Tally};
+use ipc_encode::{Builder, NoIndices, PushFault, Room, encode, row_weight};
+use ipc_model::{Items, Limits, Row, Schema, Text, Value, WriteFault, conforms};
 use std::alloc::Global;
 
 /// The rows of a batch that is not sent yet, and its pairs (Message.fbs, RecordBatch).
@@ -93,84 +92,10 @@ impl PushedRows {
         }
     }
 
-    // Adds one row that conforms, that keeps the columns within the limits, and that leaves this
-    // headroom. After W11 the held batch is unusable; after any other refusal it is unchanged.
-    #[inline(always)]
-    fn take_sure(&mut self, row: &[Value], spare: Spare) -> Result<(), NoteFault>
-        ensures stays { StaysInStream self.old self.new }
-        ensures holds { (limits : Limits) (schema : Schema) (b : BatchRows)
-            → WellFormed limits schema → RowFits schema.fields row.now
-            → IsWithin limits schema.fields (b.rows ++ row.now ∷ [])
-            → HasSpare limits schema.fields (b.rows ++ row.now ∷ []) spare
-            → HoldsBatch limits schema b self.old
-            → OnOk result (HoldsBatch limits schema (with_row b row.now) self.new) }
-        ensures refused { (limits : Limits) (schema : Schema) (b : BatchRows)
-            → WellFormed limits schema → HoldsBatch limits schema b self.old
-            → IfErr result
-            (λ fault. RefusesHeld limits schema (with_row b row.now) false (told_of fault)) }
-        ensures kept { (limits : Limits) (schema : Schema) (b : BatchRows)
-            → WellFormed limits schema
-            → IsWithin limits schema.fields (b.rows ++ row.now ∷ [])
-            → HoldsBatch limits schema b self.old
-            → IfErr result (λ fault. ¬ (told_of fault ≡ WriteFault.OutOfMemory)
-            → HoldsBatch limits schema b self.new) }
-    {
-        self.tally.note_row(row)?;
-        self.builder.take_row(row, spare, &self.tally)?;
-        Ok(())
-    }
-
-    // Validates the columns of a row that conforms, then adds it.
-    #[inline(never)]
-    fn take(&mut self, row: &[Value]) -> Result<(), NoteFault>
-        ensures stays { StaysInStream self.old self.new }
-        ensures holds { (limits : Limits) (schema : Schema) (b : BatchRows)
-            → WellFormed limits schema → RowFits schema.fields row.now
-            → HoldsBatch limits schema b self.old
-            → OnOk result (HoldsBatch limits schema (with_row b row.now) self.new) }
-        ensures refused { (limits : Limits) (schema : Schema) (b : BatchRows)
-            → WellFormed limits schema → HoldsBatch limits schema b self.old
-            → IfErr result
-            (λ fault. RefusesHeld limits schema (with_row b row.now) false (told_of fault)) }
-        ensures kept { (limits : Limits) (schema : Schema) (b : BatchRows)
-            → WellFormed limits schema → HoldsBatch limits schema b self.old
-            → IfErr result (λ fault. ¬ (told_of fault ≡ WriteFault.OutOfMemory)
-            → HoldsBatch limits schema b self.new) }
-    {
-        self.builder.fit_row(row)?;
-        self.take_sure(row, Spare::none())
-    }
-
-    // Takes one row more that may not conform.
-    #[inline(never)]
-    fn take_unsure(&mut self, schema: &Schema, row: &[Value]) -> Result<(), Untaken>
-        requires { HasShortPaths schema.now }
-        ensures stays { StaysInStream self.old self.new }
-        ensures holds { (limits : Limits) (b : BatchRows) → WellFormed limits schema.now
-            → HoldsBatch limits schema.now b self.old
-            → OnOk result (HoldsBatch limits schema.now (with_row b row.now) self.new) }
-        ensures refused { (limits : Limits) (b : BatchRows) → WellFormed limits schema.now
-            → HoldsBatch limits schema.now b self.old
-            → IfErr result (RefusesRow limits schema.now b row.now) }
-        ensures kept { (limits : Limits) (b : BatchRows) → WellFormed limits schema.now
-            → HoldsBatch limits schema.now b self.old
-            → IfErr result (λ why. ¬ (why ≡ Untaken.Refused NoteFault.OutOfMemory)
-            → HoldsBatch limits schema.now b self.new) }
-        ensures misfits { IfErr result
-            (λ why. why ≡ Untaken.Misfit → ¬ RowFits schema.now.fields row.now) }
-    {
-        if !is_conforming(schema, row) {
-            return Err(Untaken::Misfit);
-        }
-        self.take(row)?;
-        Ok(())
-    }
-
     // Adds one row. The refusal is returned in a few bytes: the full fault is large, and is made
     // only when it is needed.
     #[inline(always)]
-    fn take_any(&mut self, schema: &Schema, row: &[Value]) -> Result<(), Untaken>
-        requires { HasShortPaths schema.now }
+    fn take(&mut self, schema: &Schema, row: &[Value]) -> Result<(), Untaken>
         ensures stays { StaysInStream self.old self.new }
         ensures holds { (limits : Limits) (b : BatchRows) → WellFormed limits schema.now
             → HoldsBatch limits schema.now b self.old
@@ -180,15 +105,17 @@ impl PushedRows {
             → IfErr result (RefusesRow limits schema.now b row.now) }
         ensures kept { (limits : Limits) (b : BatchRows) → WellFormed limits schema.now
             → HoldsBatch limits schema.now b self.old
-            → IfErr result (λ why. ¬ (why ≡ Untaken.Refused NoteFault.OutOfMemory)
+            → IfErr result (λ why. ¬ (why ≡ Untaken.Refused PushFault.OutOfMemory)
             → HoldsBatch limits schema.now b self.new) }
         ensures misfits { IfErr result
             (λ why. why ≡ Untaken.Misfit → ¬ RowFits schema.now.fields row.now) }
     {
-        let Some(spare) = self.builder.spare_behind(schema.fields.as_slice(), row) else {
-            return self.take_unsure(schema, row);
+        let Some(weight) = row_weight(schema.fields.as_slice(), row) else {
+            return Err(Untaken::Misfit);
         };
-        self.take_sure(row, spare)?;
+        self.builder.fits(row, weight)?;
+        self.tally.note(row)?;
+        self.builder.push(row, weight, &self.tally)?;
         Ok(())
     }
 
@@ -200,10 +127,10 @@ impl PushedRows {
         requires misfits { why ≡ Untaken.Misfit → ¬ RowFits schema.now.fields row.now }
         ensures refused { (limits : Limits) (b : BatchRows)
             → RefusesRow limits schema.now b row.now why
-            → (¬ (why ≡ Untaken.Refused NoteFault.OutOfMemory)
+            → (¬ (why ≡ Untaken.Refused PushFault.OutOfMemory)
             → HoldsBatch limits schema.now b self.now)
             → RefusesHeld limits schema.now (with_row b row.now) false result }
-        ensures memory { why ≡ Untaken.Refused NoteFault.OutOfMemory
+        ensures memory { why ≡ Untaken.Refused PushFault.OutOfMemory
             → result ≡ WriteFault.OutOfMemory }
     {
         match why {
@@ -221,10 +148,10 @@ impl PushedRows {
         ensures none { OnOk result ⊥ }
         ensures refused { (limits : Limits) (b : BatchRows)
             → RefusesRow limits schema.now b row.now why
-            → (¬ (why ≡ Untaken.Refused NoteFault.OutOfMemory)
+            → (¬ (why ≡ Untaken.Refused PushFault.OutOfMemory)
             → HoldsBatch limits schema.now b self.now)
             → IfErr result (RefusesHeld limits schema.now (with_row b row.now) false) }
-        ensures memory { why ≡ Untaken.Refused NoteFault.OutOfMemory
+        ensures memory { why ≡ Untaken.Refused PushFault.OutOfMemory
             → IfErr result (λ fault. fault ≡ WriteFault.OutOfMemory) }
     {
         Err(self.told(schema, row, why))
@@ -247,7 +174,7 @@ impl PushedRows {
             → IfErr result (λ fault. ¬ (fault ≡ WriteFault.OutOfMemory)
             → HoldsBatch limits schema.now b self.new) }
     {
-        match self.take_any(schema, row) {
+        match self.take(schema, row) {
             Ok(()) => Ok(()),
             Err(why) => self.refuse(schema, row, why),
         }

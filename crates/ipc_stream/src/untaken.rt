@@ -1,6 +1,6 @@
 ghost use Rattle.std.specs.Prelude.{◌≡◌};
 
-use ipc_dict::NoteFault;
+use ipc_encode::PushFault;
 
 /// Why a row is not taken into a batch, in a few bytes.
 #[derive(Clone, Copy, Debug, PartialEq, Eq, Drop)]
@@ -8,15 +8,15 @@ pub(crate) enum Untaken {
     /// The row does not conform.
     Misfit,
     /// With this row a column, a dictionary or the body would be too long, or memory ran out.
-    Refused(NoteFault),
+    Refused(PushFault),
 }
 
-impl From<NoteFault> for Untaken {
+impl From<PushFault> for Untaken {
     ghost use Rattle.ipc_stream.specs.declared.untaken.Untaken.TheVariants.{Refused};
 
     ghost from_gives = { λ fault why. why ≡ Refused fault };
 
-    fn from(fault: NoteFault) -> Untaken {
+    fn from(fault: PushFault) -> Untaken {
         Untaken::Refused(fault)
     }
 }

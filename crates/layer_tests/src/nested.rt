@@ -1,6 +1,6 @@
 //! Rows taken one at a time, byte for byte and up to a limit, of lists and structs too.
 use crate::lists::over;
-use ipc_encode::{Builder, NoIndices, Parts, Renumber, Room, SameNumbers};
+use ipc_encode::{Builder, NoIndices, Parts, Renumber, Room, SameNumbers, row_weight};
 use ipc_model::{DataType, DateUnit, Field, IntBits, Items, Limits, Row, Value, WriteFault};
 use std::alloc::{AllocError, Global};
 use std::mem;
@@ -119,10 +119,11 @@ pub(crate) fn row_of(alloc: Global, text: &[u8]) -> Result<Row, AllocError> {
     Ok(close(alloc, &mut open))
 }
 
-// Takes a row, where it fits.
+// Adds a row if it is within the limits, by the sizes of the buffers alone.
 fn push(builder: &mut Builder, row: &[Value]) -> Result<(), WriteFault> {
-    builder.fits(row)?;
-    builder.push(row, &NoIndices)
+    builder.fits(row, u64::MAX)?;
+    builder.push(row, u64::MAX, &NoIndices)?;
+    Ok(())
 }
 
 // Takes rows.
@@ -389,88 +390,87 @@ fn rows_up_to_their_limits(rt: HostRuntime) {
     }
 }
 
-// Rows, and whether a builder without rows is sure of them at once.
+// A row and its weight, or `None` if it does not conform to the fields.
 #[derive(Clone, Copy)]
-struct Looked {
+struct Weighed {
     kind: Kind,
     row: &'static [u8],
-    is_sure: bool,
+    weight: Option<u64>,
 }
 
-// Values inside lists and structs are looked at too: nulls below them, and how many they are.
-const LOOKED: [Looked; 10] = [
-    Looked {
+// Each slot weighs 6 in every column, and its data 4 for a day, 1 for a number, and 1 for each item
+// of a list.
+const WEIGHED: [Weighed; 11] = [
+    Weighed {
         kind: Kind::DaysAndTexts,
         row: b"1-",
-        is_sure: true,
+        weight: Some(16),
     },
-    Looked {
+    Weighed {
         kind: Kind::DaysAndTexts,
         row: b"1",
-        is_sure: false,
+        weight: None,
     },
-    Looked {
+    Weighed {
+        kind: Kind::DaysAndTexts,
+        row: b"1--",
+        weight: None,
+    },
+    Weighed {
         kind: Kind::ListsAndStructs,
         row: b"[1-3](7[1])",
-        is_sure: true,
+        weight: Some(57),
     },
-    Looked {
+    Weighed {
         kind: Kind::ListsAndStructs,
         row: b"--",
-        is_sure: true,
+        weight: Some(25),
     },
-    Looked {
+    Weighed {
         kind: Kind::ListsAndStructs,
         row: b"[](9)",
-        is_sure: false,
+        weight: None,
     },
-    Looked {
+    Weighed {
         kind: Kind::ListsOfLists,
         row: b"[[1-][]-]",
-        is_sure: true,
+        weight: Some(43),
     },
-    Looked {
+    Weighed {
         kind: Kind::Structs,
         row: b"(1)",
-        is_sure: true,
+        weight: Some(13),
     },
-    Looked {
+    Weighed {
         kind: Kind::Structs,
         row: b"(-)",
-        is_sure: false,
+        weight: None,
     },
-    Looked {
+    Weighed {
         kind: Kind::Twos,
         row: b"[1-]",
-        is_sure: true,
+        weight: Some(20),
     },
-    Looked {
+    Weighed {
         kind: Kind::Twos,
         row: b"[1]",
-        is_sure: false,
+        weight: None,
     },
 ];
 
-// Whether a builder of these fields, without rows, is sure of the row of a text.
-fn is_sure(alloc: Global, fields: &[Field], text: &[u8]) -> Result<bool, WriteFault> {
-    let builder = Builder::new(alloc, fields, &Limits::standard())?;
-    Ok(
-        builder
-            .spare_behind(fields, row_of(alloc, text)?.as_slice())
-            .is_some(),
-    )
-}
-
-// Whether a builder is as sure of a row as is wanted.
-fn is_as_sure(alloc: Global, one: &Looked) -> Result<bool, WriteFault> {
+// The weight of the row of a text.
+fn weight_of(alloc: Global, weighed: &Weighed) -> Result<Option<u64>, AllocError> {
     let mut fields = Vec::new(alloc);
-    add_fields(alloc, &mut fields, one.kind)?;
-    Ok(is_sure(alloc, fields.as_slice(), one.row)? == one.is_sure)
+    add_fields(alloc, &mut fields, weighed.kind)?;
+    Ok(row_weight(&fields, row_of(alloc, weighed.row)?.as_slice()))
 }
 
 #[test]
-fn sure_of_rows_that_fit(rt: HostRuntime) {
-    for (number, one) in LOOKED.iter().enumerate() {
-        assert!(rt; is_as_sure(rt.alloc(), one) == Ok(true), "row {number}");
+fn weights_of_rows(rt: HostRuntime) {
+    for (number, weighed) in WEIGHED.iter().enumerate() {
+        assert!(rt;
+            weight_of(rt.alloc(), weighed) == Ok(weighed.weight),
+            "row {number}"
+        );
     }
 }

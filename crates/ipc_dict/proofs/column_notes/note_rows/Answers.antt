@@ -1,8 +1,7 @@
-use Rattle.std.proofs.Common.{◌≡◌, ◌∙◌, refl, sym, ap, ◌+◌, ◌<◌, ◌≤◌, [], List, length, drop, get_or, arith}
+use Rattle.std.proofs.Common.{◌≡◌, ◌∙◌, refl, sym, ap, ◌+◌, ◌<◌, ◌≤◌, [], length, drop, get_or, arith}
 use Rattle.std.proofs.lemmas.List.{get_or_default}
 use Rattle.std.proofs.lemmas.Result.{err_from_is_err_and}
-use Rattle.ipc_model.specs.declared.value.Value.{Value}
-use Rattle.ipc_dict.specs.Noting.{note_all, IsFull}
+use Rattle.ipc_dict.specs.Noting.{note_all}
 use Rattle.ipc_dict.specs.Pairs.{row_pairs, rows_pairs}
 use Rattle.ipc_dict.proofs.Notes.{all_grow_same, all_grow_trans}
 use Rattle.ipc_dict.proofs.Rows.{rows-end, rows-step}

@@ -5,7 +5,7 @@ use Rattle.ipc_dict.specs.declared.entry.TallyEntry.{TallyEntry}
 use Rattle.ipc_dict.specs.EntryColumns.{AreEntriesCounted}
 use Rattle.ipc_dict.specs.Within.{IsOverLimit}
 use Rattle.ipc_dict.proofs.Notes.{grown_by_none}
-use Rattle.ipc_dict.proofs.NoteFaults.{told_push}
+use Rattle.ipc_dict.proofs.Refusals.{limits_not_full}
 use Rattle.ipc_dict.proofs.EntryColumns.{many_columns, says_limits, up_to_marks}
 use Rattle.ipc_dict.proofs.tally.note_counted.Goals as goal
 
@@ -20,6 +20,17 @@ count-requires-clause-room c =
     ∙ many_columns c.args.fields.now c.args.entries.now c.note_each.new.entries c.args.columns.now c.note_each.ensures.grows
     c.requires.columns
 
+pub returns-in_err-count-clause-full : goal.returns-in_err-count-clause-full
+returns-in_err-count-clause-full c =
+    let limits = c.args.columns.now.limits in
+    let fault = write_fault c.in_err-count.field-0.0 in
+    let old = up_to_marks c.args.fields.now c.args.marks.now c.args.entries.now c.note_each.new.entries c.args.columns.now
+    c.requires.marks c.note_each.ensures.grows c.requires.columns in
+    let told = c.in_err-count.ensures.refused c.args.fields.now old in
+    let p = err_from_is_err_and c.from_residual-in_err-count.result c.from_residual-in_err-count.ensures.1 in
+    rw (p.1, p.2) (λ full.
+    absurd (limits_not_full fault (says_limits limits c.args.fields.now c.note_each.new.entries fault told) full))
+
 pub returns-in_err-count-clause-over : goal.returns-in_err-count-clause-over
 returns-in_err-count-clause-over c =
     let limits = c.args.columns.now.limits in
@@ -28,7 +39,7 @@ returns-in_err-count-clause-over c =
     c.requires.marks c.note_each.ensures.grows c.requires.columns in
     let told = c.in_err-count.ensures.refused c.args.fields.now old in
     let p = err_from_is_err_and c.from_residual-in_err-count.result c.from_residual-in_err-count.ensures.1 in
-    rw (p.1, p.2, told_push c.in_err-count.field-0.0) (λ one.
+    rw (p.1, p.2) (λ one.
     subst (λ (es : List TallyEntry). IsOverLimit limits c.args.fields.now es fault) c.in_ok-note_each.ensures.noted told)
 
 pub returns-in_err-count-clause-memory : goal.returns-in_err-count-clause-memory
@@ -39,7 +50,7 @@ returns-in_err-count-clause-memory c =
     c.requires.marks c.note_each.ensures.grows c.requires.columns in
     let told = c.in_err-count.ensures.refused c.args.fields.now old in
     let p = err_from_is_err_and c.from_residual-in_err-count.result c.from_residual-in_err-count.ensures.1 in
-    rw (p.1, p.2, told_push c.in_err-count.field-0.0) (inl (inr (says_limits limits c.args.fields.now c.note_each.new.entries fault told)))
+    rw (p.1, p.2) (inl (inr (says_limits limits c.args.fields.now c.note_each.new.entries fault told)))
 
 pub returns-in_ok-count-clause-counted : goal.returns-in_ok-count-clause-counted
 returns-in_ok-count-clause-counted c =

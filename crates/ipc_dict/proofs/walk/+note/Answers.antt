@@ -1,7 +1,7 @@
 use Rattle.std.proofs.Common.{rules, ◌≡◌, sym, ap, subst, arith, map, drop, ◌+◌, IfErr, Result, Err}
 use Rattle.std.proofs.lemmas.Result.{err_from_is_err_and}
-use Rattle.ipc_dict.specs.declared.fault.NoteFault.{NoteFault}
-use Rattle.ipc_dict.specs.declared.fault.NoteFault.TheVariants as fault
+use Rattle.ipc_encode.specs.declared.fault.PushFault.{PushFault}
+use Rattle.ipc_encode.specs.declared.fault.PushFault.TheVariants as fault
 use Rattle.ipc_dict.specs.Noting.{note_all, IsFull}
 use Rattle.ipc_dict.specs.Pairs.{pairs, items_pairs, each_pairs}
 use Rattle.ipc_dict.proofs.Notes.{all_grow_trans}
@@ -9,8 +9,8 @@ use Rattle.ipc_dict.proofs.Walks.{items-step, each-step, noted-step, full-step, 
 use Rattle.ipc_dict.proofs.walk.+note.Goals as goal
 
 -- what the exit of a `?` answers
-left : (P : NoteFault → Type 0) {r : Result (Unit {0}) NoteFault} {Q : NoteFault → Type 0} (y : NoteFault)
-    → (x : NoteFault) × (r ≡ Err x) × (x ≡ y) → P y → ((e : NoteFault) → P e → Q e) → IfErr r Q
+left : (P : PushFault → Type 0) {r : Result (Unit {0}) PushFault} {Q : PushFault → Type 0} (y : PushFault)
+    → (x : PushFault) × (r ≡ Err x) × (x ≡ y) → P y → ((e : PushFault) → P e → Q e) → IfErr r Q
 left P {Q = Q} y p h f = subst (λ r. IfErr r Q) (sym p.1) (f p.0 (subst P (sym p.2) h))
 
 pub note_each-returns-in_err-note_value-clause-full : goal.note_each-returns-in_err-note_value-clause-full

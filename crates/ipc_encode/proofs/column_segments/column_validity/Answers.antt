@@ -1,5 +1,12 @@
-use Rattle.std.proofs.Common.{refl, []}
+use Rattle.std.proofs.Common.{◌∙◌, sym, []}
+use Rattle.ipc_column.specs.Nested.{slot_values}
+use Rattle.ipc_encode.proofs.Marked.{some_behind}
+use Rattle.ipc_encode.proofs.Pushes.{no_nulls}
 use Rattle.ipc_encode.proofs.column_segments.column_validity.Goals as goal
 
+pub returns-then-null_count-eq0 : goal.returns-then-null_count-eq0
+returns-then-null_count-eq0 c = sym (no_nulls (slot_values c.args.view.now) (sym c.requires ∙ c.if-null_count-eq0.true))
+
 pub returns : goal.returns
-returns c = c.in_ok-push_validities.ensures [] refl refl c.pooled_list-validity.ensures
+returns c = c.in_ok-push_marks.ensures c.pooled_list-validity.ensures
+    ∙ some_behind [] (slot_values c.args.view.now) (λ _ others. c.if-null_count-eq0.false (c.requires ∙ others))

@@ -1,4 +1,4 @@
-use Rattle.std.proofs.Common.{◌≡◌, ◌∙◌, refl, sym, ap, ℕ, ◌*◌, ◌/◌, ◌≤◌, List, [], length, take, arith}
+use Rattle.std.proofs.Common.{◌≡◌, ◌∙◌, sym, ap, ℕ, ◌*◌, ◌/◌, ◌≤◌, List, [], length, take, arith}
 use Rattle.std.proofs.lemmas.Bool.{eqb-false}
 use Rattle.std.proofs.lemmas.List.{take_all}
 use Rattle.ipc_model.specs.declared.value.Value.{Value}
@@ -12,7 +12,7 @@ pub returns-then-not-is_empty : goal.returns-then-not-is_empty
 returns-then-not-is_empty c = λ values size none marks.
     let b = c.args.marks.now in
     let some : length b ≡ 0 → ⊥ = eqb-false _ _ (sym c.is_empty.ensures ∙ c.if-not-is_empty.true) in
-    let bits : c.args.count ≤ 8 * length b = c.requires.bits (omega (arith, some)) in
+    let bits : c.args.count ≤ 8 * length b = c.requires (omega (arith, some)) in
     let exact : c.args.count / 8 * 8 ≡ length values = omega (arith, c.if-count-eq0.true, size) in
     let all : take (c.args.count / 8 * 8) values ≡ values =
     ap (λ (k : ℕ). take k values) exact ∙ take_all (length values) values (omega arith) in
@@ -23,4 +23,5 @@ returns-then-not-is_empty c = λ values size none marks.
 
 pub returns : goal.returns
 returns c = λ values size none marks.
-    c.in_ok-push_validities.ensures [] values refl refl size none marks c.pooled_list-validity.ensures
+    c.in_ok-push_marks.ensures values size marks c.pooled_list-validity.ensures
+    ∙ some_behind [] values (λ _ others. c.if-null_count-eq0.false (sym none ∙ others))

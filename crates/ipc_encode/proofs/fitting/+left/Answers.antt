@@ -27,35 +27,35 @@ own_bytes known limits p layout children values node counts len h counted is =
     is values counted ∙ ap (λ (l : Layout). length (padded (column_buffers l values)))
     (taken_laid known p limits layout values (out-Node node).column h.0)
 
-pub left_behind-returns-then-len-bytes-clause-none : goal.left_behind-returns-then-len-bytes-clause-none
-left_behind-returns-then-len-bytes-clause-none t c = λ known limits layout children values h e.
+pub remaining-returns-then-len-bytes-clause-none : goal.remaining-returns-then-len-bytes-clause-none
+remaining-returns-then-len-bytes-clause-none t c = λ known limits layout children values h e.
     let own = own_bytes known limits c.args.purpose layout children values c.args.node.now _ c.len-len.result h
     (c.counts.ensures known limits layout values h.0) (λ vs. c.len-len.ensures limits vs) in
     let size = parts_length layout children bare (λ j. values) in
     omega (arith, own, size, c.if-len-bytes.true)
 
-pub left_behind-returns-clause-left : goal.left_behind-returns-clause-left
-left_behind-returns-clause-left t c = λ known limits layout children values h.
+pub remaining-returns-clause-left : goal.remaining-returns-clause-left
+remaining-returns-clause-left t c = λ known limits layout children values h.
     let own = own_bytes known limits c.args.purpose layout children values c.args.node.now _ c.len-len.result h
     (c.counts.ensures known limits layout values h.0) (λ vs. c.len-len.ensures limits vs) in
     let size = parts_length layout children bare (λ j. values) in
     let held = subst (λ (ns : List Node). AreNodes (HasTaken known c.args.purpose limits) children ns (below layout values))
     (sym c.deref.ensures.value) h.1 in
-    IfSome_then c.left_behind_all.result (c.left_behind_all.ensures.left known limits children (below layout values) held)
+    IfSome_then c.remaining_all.result (c.remaining_all.ensures.left known limits children (below layout values) held)
     (λ n e. omega (arith, own, size, e, c.if-len-bytes.false))
 
-pub left_behind-returns-clause-none : goal.left_behind-returns-clause-none
-left_behind-returns-clause-none t c = λ known limits layout children values h e.
+pub remaining-returns-clause-none : goal.remaining-returns-clause-none
+remaining-returns-clause-none t c = λ known limits layout children values h e.
     let own = own_bytes known limits c.args.purpose layout children values c.args.node.now _ c.len-len.result h
     (c.counts.ensures known limits layout values h.0) (λ vs. c.len-len.ensures limits vs) in
     let size = parts_length layout children bare (λ j. values) in
     let held = subst (λ (ns : List Node). AreNodes (HasTaken known c.args.purpose limits) children ns (below layout values))
     (sym c.deref.ensures.value) h.1 in
-    let more = c.left_behind_all.ensures.none known limits children (below layout values) held e in
+    let more = c.remaining_all.ensures.none known limits children (below layout values) held e in
     omega (arith, own, size, more, c.if-len-bytes.false)
 
-pub left_behind_all-returns-in_err-left-clause-none : goal.left_behind_all-returns-in_err-left-clause-none
-left_behind_all-returns-in_err-left-clause-none t c = λ known limits shape given h e.
+pub remaining_all-returns-in_err-left-clause-none : goal.remaining_all-returns-in_err-left-clause-none
+remaining_all-returns-in_err-left-clause-none t c = λ known limits shape given h e.
     let P = HasTaken known c.args.purpose limits in
     let at = at_node P c.loop-node.node-index shape c.args.nodes.now given c.node-item.result c.loop-node-test.true h in
     let held = subst (λ (n : Node). IsNode P at.0 at.1 n (given c.loop-node.node-index)) (sym c.node-item.is) at.3 in
@@ -63,8 +63,8 @@ left_behind_all-returns-in_err-left-clause-none t c = λ known limits shape give
     (c.loop-node.invariant.left known limits shape given h) (c.in_err-left.ensures.none known limits at.0 at.1
     (given c.loop-node.node-index) held refl)
 
-pub left_behind_all-loop-node-preserved : goal.left_behind_all-loop-node-preserved
-left_behind_all-loop-node-preserved t c = record {
+pub remaining_all-loop-node-preserved : goal.remaining_all-loop-node-preserved
+remaining_all-loop-node-preserved t c = record {
   left = λ known limits shape given h.
       let P = HasTaken known c.args.purpose limits in
       let at = at_node P c.loop-node.node-index shape c.args.nodes.now given c.node-item.result c.loop-node-test.true h in
@@ -75,8 +75,8 @@ left_behind_all-loop-node-preserved t c = record {
   fewer = omega (arith, c.in_ok-left.ensures.fewer, c.loop-node.invariant.fewer);
 }
 
-pub left_behind_all-returns-clause-left : goal.left_behind_all-returns-clause-left
-left_behind_all-returns-clause-left t c = λ known limits shape given h.
+pub remaining_all-returns-clause-left : goal.remaining_all-returns-clause-left
+remaining_all-returns-clause-left t c = λ known limits shape given h.
     let all = first_all (HasTaken known c.args.purpose limits) c.loop-node.node-index shape c.args.nodes.now given
     (omega (arith, c.loop-node-test.false, c.loop-node.auto.node-index-end)) h in
     subst (λ (s : Shape). length (padded (buffers_of s given)) + c.loop-node.left ≡ c.args.bytes) all

@@ -8,8 +8,8 @@ use Rattle.ipc_encode.specs.Numbers.{Numbering}
 use Rattle.ipc_encode.proofs.Siblings.{first}
 use Rattle.ipc_encode.proofs.fitting.+left.Given as goal
 
-abbrev pub invariant-left_behind_all-loop-node : goal.invariant-left_behind_all-loop-node
-invariant-left_behind_all-loop-node l = record {
+abbrev pub invariant-remaining_all-loop-node : goal.invariant-remaining_all-loop-node
+invariant-remaining_all-loop-node l = record {
   left : (known : Numbering) (limits : Limits) (shape : Shape) (given : ℕ → List Value) → AreNodes (HasTaken known l.purpose limits)
       shape l.nodes given
       → length (padded (buffers_of (first l.node-index shape) given)) + l.left ≡ l.bytes;

@@ -5,8 +5,8 @@ use Rattle.ipc_encode.specs.Cells.{ends, slots}
 use Rattle.ipc_encode.specs.Pieces.{Bytes, Content}
 use Rattle.ipc_encode.proofs.lent.push_ends.Given as goal
 
--- the ends of the first slots stand behind the offsets that were there
+-- the ends of the first slots are after the offsets that were there
 abbrev pub invariant-loop-slot : goal.invariant-loop-slot
 invariant-loop-slot l = (values : List Value) → length values ≡ l.count
     → ((i : ℕ) → i < l.count → num l.lent.ends.now (4 * i) 4 ≡ l.lent.start + length (slots Content (take (i + 1) values)))
-    → l.offsets.items ≡ l.fn.offsets.items ++ ends Bytes l.start (take l.slot values)
+    → l.offsets.items ≡ l.fn.offsets.items ++ ends Bytes 0 (take l.slot values)

@@ -1,4 +1,4 @@
-use Rattle.std.proofs.Common.{◌∙◌, sym, ap, ◌<◌, ◌++◌, length, take, length-append, arith}
+use Rattle.std.proofs.Common.{◌∙◌, sym, ap, ◌<◌, [], length, take, arith}
 use Rattle.std.proofs.lemmas.List.{length-take-le}
 use Rattle.std.proofs.lemmas.Option.{get_or_from_slice_get}
 use Rattle.ipc_model.specs.declared.value.Value.TheVariants.{Null}
@@ -12,15 +12,13 @@ use Rattle.ipc_encode.proofs.Marked.{flags_next}
 use Rattle.ipc_encode.proofs.lent.push_marks.Goals as goal
 
 pub loop-slot-preserved : goal.loop-slot-preserved
-loop-slot-preserved c = λ before held same.
+loop-slot-preserved c = λ none.
     let slot = c.loop-slot.slot in
     let view = slot_values c.args.view.now in
     let inside : slot < length view = omega (arith, c.loop-slot-test.true, c.loop-slot.auto.slot-end, c.len-slot-end.ensures) in
-    let so_far = before ++ take slot view in
     let front = length-take-le slot view (omega (arith, inside)) in
-    let all = length-append before (take slot view) in
-    let count = flags_length Valid so_far in
+    let count = flags_length Valid (take slot view) in
     let value = get_or_from_slice_get view slot _ Null c.at-shown.ensures.value in
-    c.in_ok-push_bit.ensures (flags Valid so_far) (omega (arith, front, all, count, held)) (c.loop-slot.invariant before held same)
-    ∙ ap bitmap (flags_next Valid before view slot c.is_valid.result inside (c.is_valid.ensures (row (below c.args.view.now)) slot ∙ ap
+    c.in_ok-push_bit.ensures (flags Valid (take slot view)) (omega (arith, front, count)) (c.loop-slot.invariant none)
+    ∙ ap bitmap (flags_next Valid [] view slot c.is_valid.result inside (c.is_valid.ensures (row (below c.args.view.now)) slot ∙ ap
     (is_set Valid) (sym value)))

@@ -11,26 +11,26 @@ use Rattle.ipc_encode.proofs.WholeBytes.{bit_in_front, both_more, bytes_more, fr
 use Rattle.ipc_encode.proofs.lent.push_set_bits.Goals as goal
 
 pub loop-i-preserved : goal.loop-i-preserved
-loop-i-preserved c = λ before more full size told same.
+loop-i-preserved c = λ more size told none_yet.
     let ys = c.args.marks.now in
     let some : length ys ≡ 0 → ⊥ = eqb-false _ _ (sym c.is_empty.ensures ∙ c.if-is_empty.false) in
     c.in_ok-push.ensures.items
     ∙ (ap (λ (bs : List ℕ). bs ++ bit_and (get_or c.args.truths.now c.loop-i.i 0) (get_or ys c.loop-i.i 0) ∷ [])
-    (c.loop-i.invariant before more full size told same)
-    ∙ both_more before more c.args.truths.now ys _ _ c.loop-i.i full (omega (arith, size, c.loop-i-test.true))
+    (c.loop-i.invariant more size told none_yet)
+    ∙ both_more [] more c.args.truths.now ys _ _ c.loop-i.i refl (omega (arith, size, c.loop-i-test.true))
     (λ i m. told i m ∙ ap (λ (f : Bool). bit c.args.truths.now i && f) (let marked : is_valid ys i ≡ bit ys i =
     rw (ne_eqb (length ys) 0 some) refl in marked))
     refl refl (omega (arith, c.type_inv.truths c.loop-i.i)))
 
 pub returns-then-is_empty : goal.returns-then-is_empty
-returns-then-is_empty c = λ before more full size told same.
+returns-then-is_empty c = λ more size told none_yet.
     let bs = c.args.truths.now in
     let n = c.args.count in
     let none : length c.args.marks.now ≡ 0 = eqb-true _ _ (sym c.is_empty.ensures ∙ c.if-is_empty.true) in
     let front = length-take-le n bs (omega (arith, c.requires.truths)) in
     on_ok_weaker c.extend_from_slice.result
-    (λ e. e ∙ (ap (λ (held : List ℕ). held ++ take n bs) same
-    ∙ bytes_more before more (take n bs) full (omega (arith, size, front))
+    (λ e. e ∙ (ap (λ (held : List ℕ). held ++ take n bs) none_yet
+    ∙ bytes_more [] more (take n bs) refl (omega (arith, size, front))
     (front_small n bs (λ k. omega (arith, c.type_inv.truths k)) (omega (arith, c.requires.truths)))
     (λ i m.
     let valid : is_valid c.args.marks.now i ≡ true = rw none refl in
@@ -43,6 +43,6 @@ returns-then-is_empty c = λ before more full size told same.
     and_true false = refl
 
 pub returns : goal.returns
-returns c = λ before more full size told same.
-    c.loop-i.invariant before more full size told same
-    ∙ ap (λ (fs : List Bool). bitmap (before ++ fs)) (take_all (8 * c.loop-i.i) more (omega (arith, size, c.loop-i-test.false)))
+returns c = λ more size told none_yet.
+    c.loop-i.invariant more size told none_yet
+    ∙ ap (λ (fs : List Bool). bitmap fs) (take_all (8 * c.loop-i.i) more (omega (arith, size, c.loop-i-test.false)))

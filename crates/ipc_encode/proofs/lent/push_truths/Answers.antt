@@ -1,4 +1,4 @@
-use Rattle.std.proofs.Common.{◌∙◌, sym, ap, ◌<◌, ◌++◌, length, take, length-append, arith}
+use Rattle.std.proofs.Common.{◌∙◌, sym, ap, ◌<◌, [], length, take, arith}
 use Rattle.std.proofs.lemmas.List.{length-take-le}
 use Rattle.std.proofs.lemmas.Option.{get_or_from_slice_get}
 use Rattle.ipc_model.specs.declared.value.Value.TheVariants.{Null}
@@ -12,15 +12,13 @@ use Rattle.ipc_encode.proofs.Marked.{flags_next}
 use Rattle.ipc_encode.proofs.lent.push_truths.Goals as goal
 
 pub loop-slot-preserved : goal.loop-slot-preserved
-loop-slot-preserved c = λ before held same.
+loop-slot-preserved c = λ none.
     let slot = c.loop-slot.slot in
     let view = slot_values c.args.view.now in
     let inside : slot < length view = omega (arith, c.loop-slot-test.true, c.loop-slot.auto.slot-end, c.len-slot-end.ensures) in
-    let so_far = before ++ take slot view in
     let front = length-take-le slot view (omega (arith, inside)) in
-    let all = length-append before (take slot view) in
-    let count = flags_length True so_far in
+    let count = flags_length True (take slot view) in
     let value = get_or_from_slice_get view slot _ Null c.at-shown.ensures.value in
-    c.in_ok-push_bit.ensures (flags True so_far) (omega (arith, front, all, count, held)) (c.loop-slot.invariant before held same)
-    ∙ ap bitmap (flags_next True before view slot c.is_true.result inside (c.is_true.ensures (row (below c.args.view.now)) slot ∙ ap
+    c.in_ok-push_bit.ensures (flags True (take slot view)) (omega (arith, front, count)) (c.loop-slot.invariant none)
+    ∙ ap bitmap (flags_next True [] view slot c.is_true.result inside (c.is_true.ensures (row (below c.args.view.now)) slot ∙ ap
     (is_set True) (sym value)))

@@ -1,4 +1,4 @@
-use Rattle.std.proofs.Common.{◌≡◌, ◌++◌, List, length, take}
+use Rattle.std.proofs.Common.{◌≡◌, List, [], length, take}
 use Rattle.ipc_model.specs.declared.value.Value.{Value}
 use Rattle.ipc_encode.specs.Bitmaps.{bitmap}
 use Rattle.ipc_encode.specs.Cells.{flags}
@@ -6,7 +6,7 @@ use Rattle.ipc_encode.specs.Marks.{MarksNulls}
 use Rattle.ipc_encode.specs.Pieces.{Valid}
 use Rattle.ipc_encode.proofs.marks.push_marks.Given as goal
 
--- the bits of the first slots stand behind those that were there
+-- the bits of the first slots
 abbrev pub invariant-loop-slot : goal.invariant-loop-slot
-invariant-loop-slot l = (before values : List Value) → length before ≡ l.held → length values ≡ l.count → MarksNulls l.marks values
-    → l.fn.bits.items ≡ bitmap (flags Valid before) → l.bits.items ≡ bitmap (flags Valid (before ++ take l.slot values))
+invariant-loop-slot l = (values : List Value) → length values ≡ l.count → MarksNulls l.marks values → l.fn.bits.items ≡ []
+    → l.bits.items ≡ bitmap (flags Valid (take l.slot values))

@@ -59,22 +59,22 @@ take_deep-returns-clause-taken g t c = λ layout children values h.
     (λ held. subst (λ (l : Layout). AreNodes P children c.take_below.new.nodes (below l (values ++ c.args.value.now ∷ []))) laid
     (c.in_ok-take_below.ensures.taken children values
     (subst (λ (l : Layout). AreNodes P children c.deref_mut.result.now (below l values)) (sym laid) held))) in
-    on_ok_weaker c.take_outer.result (λ own. node_is P layout children (values ++ c.args.value.now ∷ []) _ own lent.1)
-    (c.take_outer.ensures.taken layout values lent.0)
+    on_ok_weaker c.take.result (λ own. node_is P layout children (values ++ c.args.value.now ∷ []) _ own lent.1)
+    (c.take.ensures.taken layout values lent.0)
 
 pub take_deep-returns-clause-refused : goal.take_deep-returns-clause-refused
 take_deep-returns-clause-refused g t c = λ layout children values h.
     let P = HasTaken (told (g.I.IndexOf.index c.args.indices.now)) c.args.purpose c.args.limits.now in
-    IfErr-weaker c.take_outer.result _ _
+    IfErr-weaker c.take.result _ _
     (λ fault told. own_refused c.args.limits.now layout children bare (λ j. values ++ c.args.value.now ∷ []) fault told)
-    (c.take_outer.ensures.refused layout values (lent_column P layout values c.args.node.now c.take_below.new.nodes h.0))
+    (c.take.ensures.refused layout values (lent_column P layout values c.args.node.now c.take_below.new.nodes h.0))
 
 pub take_deep-returns-clause-kept : goal.take_deep-returns-clause-kept
 take_deep-returns-clause-kept g t c = λ known limits layout children values e h.
     let P = IsColumn known limits in
     let lent = lent_node P layout children values values c.args.node.now c.deref_mut.result.now c.take_below.new.nodes
     c.deref_mut.ensures.value c.take_below.auto.nodes h (c.in_ok-take_below.ensures.kept known limits children (below layout values) e) in
-    node_is P layout children values _ (c.take_outer.ensures.kept known limits layout values e lent.0) lent.1
+    node_is P layout children values _ (c.take.ensures.kept known limits layout values e lent.0) lent.1
 
 -- ---- below a column
 

@@ -1,17 +1,20 @@
-use Rattle.std.proofs.Common.{◌≡◌, ◌∙◌, sym, ap, subst, ℕ, ◌+◌, ◌<◌, ◌++◌, ◌∷◌, List, [], length, take, drop, get_or, arith}
+use Rattle.std.proofs.Common.{◌≡◌, ◌∙◌, sym, ap, subst, ℕ, ◌+◌, ◌-◌, ◌^◌, ◌<◌, ◌≤◌, ◌++◌, ◌∷◌, List, [], length, take, drop, get_or, arith}
+use Rattle.std.proofs.Math.Nat.{min-le_right}
 use Rattle.std.specs.List.{Contains}
 use Rattle.std.proofs.lemmas.List.{take_all, take_more, take-append-drop}
 use Rattle.std.proofs.lemmas.Result.{err_from_is_err_and}
 use Rattle.ipc_model.specs.declared.value.Value.{Value}
 use Rattle.ipc_encode.specs.Built.{HasRows}
+use Rattle.ipc_encode.specs.Faults.{write_fault}
 use Rattle.ipc_encode.specs.Indices.{Finds}
 use Rattle.ipc_encode.specs.Limits.{IsRefused, IsWithin}
 use Rattle.ipc_encode.specs.Numbers.{no_indices}
+use Rattle.ipc_encode.specs.Weights.{capped, row_weight}
 use Rattle.ipc_encode.proofs.Growing.{refused_more}
 use Rattle.ipc_dict.specs.SchemaIds.{of_fields}
 use Rattle.ipc_dict.proofs.Covered.{covered}
 use Rattle.ipc_dict.proofs.PairsFit.{column_names}
-use Rattle.ipc_stream.proofs.WithinLimits.{memory_alone, within_first}
+use Rattle.ipc_stream.proofs.WithinLimits.{memory_alone}
 use Rattle.ipc_stream.proofs.messages.plain_parts.Goals as goal
 
 pub returns-in_err-builder-clause-refused : goal.returns-in_err-builder-clause-refused
@@ -35,7 +38,7 @@ returns-in_err-push-clause-refused c = λ within.
     let i = c.loop-row.row-index in
     let here = c.in_err-push.ensures.refused c.args.limits.now c.args.fields.now (take i rows) (c.loop-row.invariant within) in
     let row = c.as_slice.ensures in
-    let fault = c.in_err-push.field-0.0 in
+    let fault = write_fault c.in_err-push.field-0.0 in
     rw (p.1, p.2) (memory_alone c.args.limits.now c.args.fields.now rows fault within
     (subst (λ (rs : List (List Value)). IsRefused c.args.limits.now c.args.fields.now rs fault) (take-append-drop (i + 1) rows)
     (refused_more c.args.limits.now c.args.fields.now (take (i + 1) rows) (drop (i + 1) rows) fault
@@ -48,11 +51,9 @@ loop-row-preserved c = λ within.
     let i = c.loop-row.row-index in
     let is = ap (λ (r : List Value). take i rows ++ r ∷ []) c.as_slice.ensures
     ∙ next rows i c.row-item.result c.loop-row-test.true c.row-item.is in
-    let first = within_first c.args.limits.now c.args.fields.now (take (i + 1) rows) (drop (i + 1) rows)
-    (subst (λ (rs : List (List Value)). IsWithin c.args.limits.now c.args.fields.now rs) (sym (take-append-drop (i + 1) rows)) within) in
+    let light : capped (row_weight c.args.fields.now c.as_slice.result.now) ≤ 2 ^ 64 - 1 = min-le_right _ _ in
     subst (λ (rs : List (List Value)). HasRows no_indices c.args.limits.now c.args.fields.now rs c.push.new.self) is
-    (c.in_ok-push.ensures.pushed c.args.limits.now c.args.fields.now (take i rows) (c.loop-row.invariant within)
-    (subst (λ (rs : List (List Value)). IsWithin c.args.limits.now c.args.fields.now rs) (sym is) first))
+    (c.in_ok-push.ensures.pushed c.args.limits.now c.args.fields.now (take i rows) (c.loop-row.invariant within) light)
 
 pub returns-clause-rows : goal.returns-clause-rows
 returns-clause-rows c = λ fine fit one within.

@@ -5,13 +5,13 @@ use Rattle.ipc_model.specs.declared.fault.WriteFault.TheVariants as w
 use Rattle.ipc_model.specs.declared.limits.Limits.{Limits}
 use Rattle.ipc_model.specs.declared.schema.Field.{Field}
 use Rattle.ipc_dict.specs.declared.entry.TallyEntry.{TallyEntry}
-use Rattle.ipc_dict.specs.declared.fault.NoteFault.{NoteFault}
-use Rattle.ipc_dict.specs.Faults.{told_of}
+use Rattle.ipc_encode.specs.declared.fault.PushFault.{PushFault}
+use Rattle.ipc_encode.specs.Faults.{write_fault}
 use Rattle.ipc_dict.specs.Noting.{AllFit, IsFull, note_all}
 use Rattle.ipc_dict.specs.Pairs.{rows_pairs}
 use Rattle.ipc_dict.specs.Planning.{FindsAll, KnowsAll}
 use Rattle.ipc_dict.specs.SchemaIds.{ids_of, tally_ids, unused}
-use Rattle.ipc_dict.specs.Sending.{AreAddressed, tallied}
+use Rattle.ipc_dict.specs.Sending.{AreAddressed}
 use Rattle.ipc_dict.specs.Tallied.{Tallied}
 use Rattle.ipc_dict.specs.Within.{AllWithin, IsOfLimits, IsOverLimit}
 use Rattle.ipc_dict.proofs.EntryColumns.{over_first}
@@ -35,16 +35,16 @@ returns-in_err-note_columns-clause-full c =
 
 pub returns-in_err-note_columns-clause-over : goal.returns-in_err-note_columns-clause-over
 returns-in_err-note_columns-clause-over c =
-    let fault = told_of c.in_err-note_columns.field-0.0 in
+    let fault = write_fault c.in_err-note_columns.field-0.0 in
     let p = err_from_is_err_and c.from_residual-in_err-note_columns.result c.from_residual-in_err-note_columns.ensures.1 in
     rw (p.1, p.2) (λ one.
     subst (λ (t : Tallied). IsOverLimit t.limits t.fields (note_all t.entries (rows_pairs t.fields c.args.batch.now.rows)) fault)
     c.in_ok-counted.ensures.fresh (c.in_err-note_columns.ensures.over one))
 
 -- a tally that has not failed does not answer that it has
-only_of : (e : NoteFault) → ((told_of e ≡ w.DictionaryFull) ⊎ IsOfLimits (told_of e))
-    ⊎ ((told_of e ≡ w.OutOfMemory) ⊎ (told_of e ≡ w.Failed)) → (told_of e ≡ w.Failed → ⊥)
-    → ((told_of e ≡ w.DictionaryFull) ⊎ IsOfLimits (told_of e)) ⊎ (told_of e ≡ w.OutOfMemory)
+only_of : (e : PushFault) → ((write_fault e ≡ w.DictionaryFull) ⊎ IsOfLimits (write_fault e))
+    ⊎ ((write_fault e ≡ w.OutOfMemory) ⊎ (write_fault e ≡ w.Failed)) → (write_fault e ≡ w.Failed → ⊥)
+    → ((write_fault e ≡ w.DictionaryFull) ⊎ IsOfLimits (write_fault e)) ⊎ (write_fault e ≡ w.OutOfMemory)
 only_of e (inl h) works = inl h
 only_of e (inr (inl memory)) works = inr memory
 only_of e (inr (inr failed)) works = absurd (works failed)

@@ -6,6 +6,7 @@ use Rattle.ipc_model.specs.declared.limits.Limits.{Limits}
 use Rattle.ipc_model.specs.declared.schema.Field.{Field}
 use Rattle.ipc_model.specs.declared.value.Value.{Value}
 use Rattle.ipc_dict.specs.declared.entry.TallyEntry.{TallyEntry}
+use Rattle.ipc_encode.specs.Faults.{write_fault}
 use Rattle.ipc_dict.specs.Counted.{HoldsRows}
 use Rattle.ipc_dict.specs.Noting.{note_all, AllFit, IsFull}
 use Rattle.ipc_dict.specs.Pairs.{row_pairs, rows_pairs}
@@ -35,7 +36,7 @@ returns-in_err-note-clause-full c =
     let rest = rows_pairs fs (drop (i + 1) rs) in
     let step : rows_pairs fs (drop i rs) ≡ one ++ rest =
     rows-step fs rs i r (omega arith) c.row-item.is ∙ ap (λ p. p ++ rest) (sym (λ j. row_pairs (inv.fields j) (c.as_slice.ensures j))) in
-    left (λ e. e ≡ fault.DictionaryFull → IsFull (note_all u.entries one)) c.in_err-note.field-0.0
+    left (λ e. e ≡ fault.DictionaryFull → IsFull (note_all u.entries one)) (write_fault c.in_err-note.field-0.0)
     (err_from_is_err_and c.from_residual-in_err-note.result c.from_residual-in_err-note.ensures.1) c.in_err-note.ensures.full
     (λ e h same.
     full-step (unused fs) u.entries u.entries (rows_pairs fs rs) (rows_pairs fs (drop i rs)) one rest inv.noted step (h same))
@@ -61,7 +62,7 @@ returns-in_err-note-clause-over c =
     let rest = rows_pairs fs (drop (i + 1) rs) in
     let step : rows_pairs fs (drop i rs) ≡ one ++ rest =
     rows-step fs rs i r (omega arith) c.row-item.is ∙ ap (λ p. p ++ rest) (sym (λ j. row_pairs (inv.fields j) (c.as_slice.ensures j))) in
-    left (λ e. IsOfLimits e → IsOverLimit u.limits u.fields (note_all u.entries one) e) c.in_err-note.field-0.0
+    left (λ e. IsOfLimits e → IsOverLimit u.limits u.fields (note_all u.entries one) e) (write_fault c.in_err-note.field-0.0)
     (err_from_is_err_and c.from_residual-in_err-note.result c.from_residual-in_err-note.ensures.1) c.in_err-note.ensures.over
     (λ e h same.
     let here = subst (λ (l : Limits). IsOverLimit l fs (note_all u.entries one) e) inv.limits

@@ -9,7 +9,7 @@ use Rattle.ipc_encode.specs.Built.{AreColumns}
 use Rattle.ipc_encode.specs.Numbers.{told}
 use Rattle.ipc_encode.specs.Limits.{IsRefused}
 use Rattle.ipc_encode.proofs.Held.{built_within, rows_refused}
-use Rattle.ipc_encode.proofs.Spared.{no_spare}
+use Rattle.ipc_encode.proofs.RowHeadroom.{no_headroom}
 use Rattle.ipc_encode.proofs.builder.Builder.of_rows.Goals as goal
 
 pub returns-in_err-push_rows-clause-refused : goal.returns-in_err-push_rows-clause-refused
@@ -59,5 +59,5 @@ returns-clause-rows g c =
       columns_are = subst (λ (ns : List Node). AreColumns known limits (shape_of fields) ns (columns rows)) (sym same) pushed;
       within = built_within known limits fields rows c.deref.result.now (omega (arith, c.if-rows-limits.false)) held
           (c.in_ok-check_len.ensures.within known fields rows held);
-      has_spare = no_spare limits fields rows;
+      has_headroom = no_headroom limits fields rows;
     }

@@ -7,7 +7,7 @@ use Rattle.ipc_encode.specs.Buffers.{columns}
 use Rattle.ipc_encode.specs.Built.{AreColumns}
 use Rattle.ipc_encode.specs.Limits.{IsRefused}
 use Rattle.ipc_encode.proofs.Held.{built_within}
-use Rattle.ipc_encode.proofs.Spared.{no_spare}
+use Rattle.ipc_encode.proofs.RowHeadroom.{no_headroom}
 use Rattle.ipc_encode.proofs.builder.Builder.with_room.Goals as goal
 
 pub returns-in_err-check_len-clause-refused : goal.returns-in_err-check_len-clause-refused
@@ -32,5 +32,5 @@ returns-clause-rows c = λ known.
       columns_are = fresh;
       within = built_within known limits fields [] c.deref.result.now (omega arith) held
           (c.in_ok-check_len.ensures.within known fields [] held);
-      has_spare = no_spare limits fields [];
+      has_headroom = no_headroom limits fields [];
     }
