@@ -7,7 +7,6 @@ use Rattle.std.specs.Option.{IfSome}
 use Rattle.std.proofs.lemmas.Int.{ints}
 use Rattle.std.proofs.lemmas.Bool.Decides.{Decides-int_eq}
 use Rattle.std.proofs.lemmas.List.Elements.{All-contains, All-from_recursion}
-use Rattle.std.proofs.lemmas.List.Quantifiers.{position-Some}
 use Rattle.ipc_model.specs.declared.schema.Dictionary.{Dictionary}
 use Rattle.ipc_model.specs.declared.schema.Field.{Field}
 use Rattle.ipc_model.specs.declared.schema.IntBits.{IntBits}
@@ -88,16 +87,6 @@ module _ (id : ℤ) (n : ℕ) where
     limited-order ds low (k + 1) es rest,
   )
 
-  -- a place is below what the entry may have
-  placed_below : (t : List TallyEntry) (v : Value) (i : ℕ) → Limited t → AllFit t → noted_place t id v ≡ Some i → i < n
-  placed_below [] v i h fit found = absurd cc
-  placed_below (e ∷ es) v i h fit found = by (placed_below es v i h.1 fit.1) (int_eq e.id id) refl found
-    where
-      by : (noted_place es id v ≡ Some i → i < n) → (c : Bool) → int_eq e.id id ≡ c
-          → cond c (place v e.values) (noted_place es id v) ≡ Some i → i < n
-      by rest true q at = omega (arith, (position-Some (same v) e.values i v at).0, fit.0, h.0 q)
-      by rest false q at = rest at
-
   -- so are the values together
   noted_below : (t : List TallyEntry) (xs : List Value) → Limited t → AllFit t → noted_for t id ≡ Some xs → length xs ≤ n
   noted_below [] xs h fit found = absurd cc
@@ -109,15 +98,6 @@ module _ (id : ℤ) (n : ℕ) where
           let same : e.values ≡ xs = cc in
           subst (λ (ys : List Value). length ys ≤ n) same (omega (arith, fit.0, h.0 q))
       by rest false q at = rest at
-
--- the place of a value is one that the index type counts
-pub entry_counts : (fields : List Field) (ps : List (ℤ × Value)) (d : Dictionary) (v : Value) (i : ℕ) → Contains (of_fields fields) d
-    → AllFit (note_all (unused fields) ps) → noted_place (note_all (unused fields) ps) d.id v ≡ Some i → i < count_of d
-entry_counts fields ps d v i named fit found =
-    let low = least_counts (of_fields fields) d named in
-    let limited = limited-order d.id (count_of d) (of_fields fields) low 0 (unused fields) (are_of_schema fields).ordered in
-    let kept = limited-note_all d.id (count_of d) (unused fields) ps limited in
-    placed_below d.id (count_of d) (note_all (unused fields) ps) v i kept fit found
 
 -- the values of a dictionary are no more than each of its index types counts
 pub noted_counts : (fields : List Field) (ps : List (ℤ × Value)) (d : Dictionary) (xs : List Value) → Contains (of_fields fields) d

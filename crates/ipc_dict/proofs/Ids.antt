@@ -1,5 +1,5 @@
 -- Entries whose ids are the same stand side by side.
-use Rattle.std.proofs.Common.{◌≡◌, ℕ, ℤ, Option, List, [], ◌∷◌, length, refl, ap, arith}
+use Rattle.std.proofs.Common.{◌≡◌, ℕ, ℤ, Option, List, [], ◌∷◌, refl, ap}
 use Rattle.ipc_dict.specs.declared.entry.TallyEntry.{TallyEntry}
 use Rattle.ipc_dict.specs.declared.kept.KeptEntry.{KeptEntry}
 use Rattle.ipc_dict.specs.Planning.{SameIds, after_all}
@@ -10,12 +10,6 @@ same_ids [] [] h = tt
 same_ids [] (e ∷ es) h = absurd cc
 same_ids (k ∷ ks) [] h = absurd cc
 same_ids (k ∷ ks) (e ∷ es) h = let head : k.id ≡ e.id = cc in let rest : kept_ids ks ≡ tally_ids es = cc in (head, same_ids ks es rest)
-
-pub same_length : (ks : List KeptEntry) (es : List TallyEntry) → kept_ids ks ≡ tally_ids es → length ks ≡ length es
-same_length [] [] h = refl
-same_length [] (e ∷ es) h = absurd cc
-same_length (k ∷ ks) [] h = absurd cc
-same_length (k ∷ ks) (e ∷ es) h = let rest : kept_ids ks ≡ tally_ids es = cc in omega (arith, same_length ks es rest)
 
 -- where nothing was sent, the ids are those that were asked for
 pub ids_unsent : (ids : List ℤ) → kept_ids (unsent ids) ≡ ids

@@ -1,6 +1,6 @@
 -- One more value among the dictionaries of a tally.
 use Rattle.std.proofs.Common.{◌≡◌, ℕ, zero, suc, ◌<◌, ◌≤◌, inl, inr, ℤ, true, false, ◌++◌, List, [], ◌∷◌, length, take, get_or, set, cond}
-use Rattle.std.proofs.Common.{refl, sym, ap, subst, ◌∙◌, arith, Result, Ok, Err, OnOk, IfOk, IfErr}
+use Rattle.std.proofs.Common.{refl, sym, ap, subst, ◌∙◌, arith, Result, Ok, Err, OnOk, IfOk}
 use Rattle.std.specs.Ordering.{int_eq}
 use Rattle.std.proofs.lemmas.List.{length-append, length-take, take-take}
 use Rattle.std.proofs.Math.Seq.{take-length}
@@ -58,10 +58,6 @@ full-set (e ∷ es) (suc i) y h over = inr (full-set es i y (omega arith) over)
 pub on_ok : {T E P Q : Type 0} (r : Result T E) → OnOk r P → (P → Q) → OnOk r Q
 on_ok (Ok x) h f = f h
 on_ok (Err e) h f = tt
-
-pub if_err : {T E : Type 0} {P Q : E → Type 0} (r : Result T E) → IfErr r P → ((e : E) → P e → Q e) → IfErr r Q
-if_err (Ok x) h f = tt
-if_err (Err e) h f = f e h
 
 pub if_ok : {T E : Type 0} {P Q : T → Type 0} (r : Result T E) → IfOk r P → ((x : T) → P x → Q x) → IfOk r Q
 if_ok (Ok x) h f = f x h
@@ -132,10 +128,6 @@ cut_all (e ∷ es) =
 -- what grew by nothing is as before
 pub grown_by_none : (t u : List TallyEntry) → AllGrow t u → lens u ≡ lens t → u ≡ t
 grown_by_none t u grows same = sym (cut_all u) ∙ ap (λ ns. cut ns u) same ∙ cut_back t u grows
-
-pub fit_push : (t : List TallyEntry) (e : TallyEntry) → AllFit t → length e.values ≤ e.limit → AllFit (t ++ e ∷ [])
-fit_push [] e h k = (k, tt)
-fit_push (x ∷ t) e h k = (h.0, fit_push t e h.1 k)
 
 -- ---- without entries
 

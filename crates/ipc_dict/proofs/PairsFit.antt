@@ -1,6 +1,6 @@
 -- The values of dictionaries fit the columns that their dictionaries are read by.
-use Rattle.std.proofs.Common.{◌≡◌, ◌≢◌, ◌∙◌, refl, sym, ap, subst, ℕ, ◌≤◌, ℤ, Bool, true, false, cond, List, [], ◌∷◌, ◌++◌, map}
-use Rattle.std.proofs.Common.{int_eq, Option, Some, None, IsSome, inl, inr, arith}
+use Rattle.std.proofs.Common.{◌≡◌, ◌∙◌, refl, sym, ap, subst, ℕ, ◌≤◌, ℤ, Bool, true, false, cond, List, [], ◌∷◌, ◌++◌, map}
+use Rattle.std.proofs.Common.{int_eq, Some, None, IsSome, inl, inr}
 use Rattle.std.specs.List.{AllByRecursion, Contains}
 use Rattle.std.proofs.lemmas.Bool.Decides.{Decides-int_eq}
 use Rattle.std.proofs.lemmas.List.Elements.{All-contains, All-from_recursion}
@@ -12,8 +12,7 @@ use Rattle.ipc_model.specs.declared.limits.Limits.{Limits}
 use Rattle.ipc_model.specs.declared.schema.DataType.{DataType}
 use Rattle.ipc_model.specs.declared.schema.DataType.TheVariants as t
 use Rattle.ipc_model.specs.declared.schema.Dictionary.{Dictionary}
-use Rattle.ipc_model.specs.declared.schema.IntBits.{IntBits}
-use Rattle.ipc_model.specs.declared.schema.Field.{Field, out-Field, roll-out-Field, out-roll-Field, fold-roll-Field, map-Field}
+use Rattle.ipc_model.specs.declared.schema.Field.{Field, out-Field, roll-out-Field, fold-roll-Field, map-Field}
 use Rattle.ipc_model.specs.declared.schema.Field.TheOpen.{Field-F}
 use Rattle.ipc_model.specs.declared.schema.Schema.{Schema}
 use Rattle.ipc_model.specs.declared.value.Value.{Value, out-Value}
@@ -22,26 +21,12 @@ use Rattle.ipc_model.specs.declared.layout.Layout.{Layout}
 use Rattle.ipc_model.proofs.FitsLemmas.{fits_roll}
 use Rattle.ipc_column.specs.Shapes as shape
 use Rattle.ipc_column.specs.Shapes.{Shape, bare, field, shape_of}
-use Rattle.ipc_encode.specs.Indices.{InRows}
 use Rattle.ipc_encode.proofs.HeldValues.{all_left}
 use Rattle.ipc_dictionaries.specs.ValuesColumns.{Listed, columns_in, columns_for, values_column}
-use Rattle.ipc_dictionaries.proofs.Named.{NamesOther, all_given, names_other}
+use Rattle.ipc_dictionaries.proofs.Named.{all_given}
 use Rattle.ipc_dict.specs.Pairs.{rows_pairs}
 use Rattle.ipc_dict.specs.SchemaIds.{field_step, of_fields}
-use Rattle.ipc_dict.proofs.Covered.{covered}
-use Rattle.ipc_dict.proofs.PairsFitEntries.{all_among, all_two, dictionaries_given, rows_shown}
-
--- ---- a dictionary that the fields name has a column
-
-pub has_column : (fields : List Field) (d : Dictionary) → Contains (of_fields fields) d → IsSome (columns_for (columns_in fields) d.id)
-has_column fields d named = by (columns_for (columns_in fields) d.id) refl
-  where
-    by : (o : Option (List Field)) → columns_for (columns_in fields) d.id ≡ o → IsSome o
-    by (Some columns) found = refl
-    by None found =
-        let Other : Dictionary → Type 0 = λ x. x.id ≢ d.id in
-        let others = dictionaries_given (NamesOther d.id) Other (λ e x is other. other x is) fields (names_other fields d.id found) in
-        absurd (All-contains Other (of_fields fields) d (All-from_recursion Other (of_fields fields) others) named refl)
+use Rattle.ipc_dict.proofs.PairsFitEntries.{all_among, all_two, rows_shown}
 
 -- ---- a type without inner types
 
@@ -105,13 +90,6 @@ column_fits name kind nullable value leaf own =
 column_entry : (name : List ℕ) (kind : DataType)
     → preorder (values_column name kind) 1 ≡ entry_of (map-Field Field Listing preorder (column_parts name kind)) 1 ∷ []
 column_entry name kind = ap (λ (l : Listing). l 1) (fold-roll-Field Listing preorder_step (column_parts name kind))
-
--- it has neither a dictionary nor children
-pub column_out : (name : List ℕ) (kind : DataType)
-    → ((out-Field (values_column name kind)).dictionary ≡ None) × ((out-Field (values_column name kind)).children ≡ [])
-column_out name kind =
-    let is : out-Field (values_column name kind) ≡ column_parts name kind = out-roll-Field (column_parts name kind) in
-    (ap (λ (f : Field-F Field). f.dictionary) is, ap (λ (f : Field-F Field). f.children) is)
 
 -- and one layout
 pub column_shape : (name : List ℕ) (kind : DataType) → shape_of (values_column name kind ∷ []) ≡ field (type_layout kind) bare bare
@@ -261,17 +239,3 @@ column_leaf limits s id columns fine found =
 pub column_names : (name : List ℕ) (kind : DataType) → of_fields (values_column name kind ∷ []) ≡ []
 column_names name kind =
     ap (λ (ds : List Dictionary). ds ++ []) (fold-roll-Field (List Dictionary) field_step (column_parts name kind))
-
--- it names no dictionary
-pub column_plain : (fields : List Field) (id : ℤ) (columns : List Field) → columns_for (columns_in fields) id ≡ Some columns
-    → of_fields columns ≡ []
-column_plain fields id columns found =
-    let by = read_by fields id columns found in ap of_fields by.column ∙ column_names by.name by.entry.kind
-
--- so that nothing is asked of rows of it
-pub column_covered : (Asked : IntBits → Bool → ℤ → Value → Type 0) (limits : Limits) (s : Schema) (id : ℤ) (columns : List Field)
-    (rows : List (List Value)) → WellFormed limits s → columns_for (columns_in s.fields) id ≡ Some columns → InRows Asked columns rows
-column_covered Asked limits s id columns rows fine found =
-    covered Asked limits columns rows (column_fine limits s id columns fine found)
-    (λ d value named pair. let none : Contains [] d =
-    subst (λ ds. Contains ds d) (column_plain s.fields id columns found) named in absurd (omega (arith, none.1)))

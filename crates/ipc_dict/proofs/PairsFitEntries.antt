@@ -14,9 +14,8 @@ use Rattle.ipc_model.specs.declared.value.Value.{Value, out-Value}
 use Rattle.ipc_model.specs.declared.value.Value.TheOpen.{Value-F}
 use Rattle.ipc_model.proofs.FitsLemmas.{fits_roll}
 use Rattle.ipc_encode.proofs.HeldValues.{all_one, all_both, all_left, all_right}
-use Rattle.ipc_dictionaries.specs.Joined.{joined}
 use Rattle.ipc_dict.specs.Pairs.{Walk, items_pairs, each_pairs, inner_pairs, own_pair, pairs_in, pairs_step, pairs, row_pairs, rows_pairs}
-use Rattle.ipc_dict.specs.SchemaIds.{own, field_step, of_field, of_fields}
+use Rattle.ipc_dict.specs.SchemaIds.{own}
 
 -- each of several entries is among them
 pub all_among : (es : List Entry) → AllByRecursion (λ e. IsAmong e es) es
@@ -27,49 +26,6 @@ all_among (e ∷ es) = (inl refl, all_one (λ x. IsAmong x es) (λ x. IsAmong x 
 pub all_two : {X : Type 0} (P R : X → Type 0) (xs : List X) → AllByRecursion P xs → AllByRecursion R xs → AllByRecursion (λ x. P x × R x) xs
 all_two P R [] p r = tt
 all_two P R (x ∷ xs) p r = ((p.0, r.0), all_two P R xs p.1 r.1)
-
--- ---- the dictionaries
-
-module _ (Q : Entry → Type 0) (P : Dictionary → Type 0) (gives : (e : Entry) (d : Dictionary) → e.dictionary ≡ Some d → Q e → P d) where
-  abbrev Gives : Field → Type 0
-  Gives f = (depth : ℕ) → AllByRecursion Q (preorder f depth) → AllByRecursion P (of_field f)
-
-  abbrev Giving : Type 0
-  Giving = (f : Field) × Gives f
-
-  own_given : (e : Entry) (d : Option Dictionary) → e.dictionary ≡ d → Q e → AllByRecursion P (own d)
-  own_given e None is h = tt
-  own_given e (Some d) is h = (gives e d is h, tt)
-
-  below_given : (depth : ℕ) (cs : List Giving) → AllByRecursion Q (all_at depth (map preorder (map (λ c. c.0) cs)))
-      → AllByRecursion P (joined (map of_field (map (λ c. c.0) cs)))
-  below_given depth [] h = tt
-  below_given depth (c ∷ cs) h =
-      let more = all_at depth (map preorder (map (λ x. x.0) cs)) in
-      all_both P (of_field c.0) (joined (map of_field (map (λ x. x.0) cs))) (c.1 depth (all_left Q (preorder c.0 depth) more h))
-      (below_given depth cs (all_right Q (preorder c.0 depth) more h))
-
-  layer_given : (y : Field-F Giving) → Gives (roll-Field (map-Field Giving Field (λ c. c.0) y))
-  layer_given y depth h =
-      let z : Field-F Field = map-Field Giving Field (λ c. c.0) y in
-      let v : Field-F Listing = map-Field Field Listing preorder z in
-      let all = subst (λ (l : Listing). AllByRecursion Q (l depth)) (fold-roll-Field Listing preorder_step z) h in
-      subst (AllByRecursion P) (sym (fold-roll-Field (List Dictionary) field_step z))
-      (all_both P (own z.dictionary) (joined (map of_field z.children)) (own_given (entry_of v depth) z.dictionary refl all.0)
-      (below_given (depth + 1) y.children all.1))
-
-  field_given : (f : Field) → Gives f
-  field_given = ind-Field Gives (λ x y is. subst (λ z. Gives (roll-Field z)) is (layer_given y))
-
-  -- what the entries say of the dictionaries
-  pub dictionaries_given : (fields : List Field) → AllByRecursion Q (entries fields) → AllByRecursion P (of_fields fields)
-  dictionaries_given [] h = tt
-  dictionaries_given (f ∷ fs) h =
-      let more = all_at 1 (map preorder fs) in
-      all_both P (of_field f) (of_fields fs) (field_given f 1 (all_left Q (preorder f 1) more h))
-      (dictionaries_given fs (all_right Q (preorder f 1) more h))
-
--- ---- the values that rows have there
 
 module _ (Q : Entry → Type 0) (P : ℤ × Value → Type 0)
     (gives : (e : Entry) (d : Dictionary) (nullable : Bool) (value : Value) → e.dictionary ≡ Some d → Q e

@@ -1,11 +1,11 @@
 -- Of all dictionaries of a plan.
 use Rattle.std.proofs.Common.{◌≡◌, ℕ, zero, suc, ◌<◌, ◌+◌, Bool, true, false, cond, ℤ, List, [], ◌∷◌, ◌++◌, length, get_or, take, Option}
-use Rattle.std.proofs.Common.{Some, None, refl, sym, ap, subst, ◌∙◌, arith, int_eq, slice_get, take-suc, add-one, drop, drop-cons}
+use Rattle.std.proofs.Common.{Some, None, refl, sym, ap, subst, ◌∙◌, arith, int_eq, slice_get, take-suc, add-one}
 use Rattle.ipc_model.specs.declared.value.Value.{Value}
 use Rattle.ipc_dict.specs.declared.entry.TallyEntry.{TallyEntry}
 use Rattle.ipc_dict.specs.declared.kept.KeptEntry.{KeptEntry}
 use Rattle.ipc_dict.specs.Distinct.{place}
-use Rattle.ipc_dict.specs.Planning.{IsSettled, AllSettled, number_at, kept_number, number, own_send, sends_of, after, index, after_all}
+use Rattle.ipc_dict.specs.Planning.{IsSettled, AllSettled, number_at, kept_number, number, after, index, after_all}
 use Rattle.ipc_dict.specs.Planning.{sent_for, SameIds, FindsAll, FindsNoted, KnowsAll}
 use Rattle.ipc_dict.specs.Noting.{noted_for, noted_place}
 use Rattle.ipc_encode.specs.Numbers.{number_or}
@@ -79,12 +79,6 @@ module _ (id : ℤ) (from : ℕ) where
   number-absent (m ∷ ns) (p ∷ os) none =
       ap (λ b. cond b (kept_number p from) (number ns os id from)) (none zero m (omega arith))
       ∙ number-absent ns os (λ k d l. none (suc k) d (omega arith))
-
--- one more dictionary that may be sent
-pub sends-step : (ns : List TallyEntry) (os : List (Option (List ℕ))) (i : ℕ) (n : TallyEntry) (o : Option (List ℕ)) → i < length ns
-    → i < length os → n ≡ get_or ns i n → o ≡ get_or os i o
-    → sends_of (drop i ns) (drop i os) ≡ own_send n o ++ sends_of (drop (i + 1) ns) (drop (i + 1) os)
-sends-step ns os i n o h k nis ois = rw (add-one, drop-cons ns i n h, drop-cons os i o k, ← nis, ← ois) refl
 
 pub finds_all : (ss : List KeptEntry) (ns : List TallyEntry) (os : List (Option (List ℕ))) → SameIds ss ns → AllSettled ss ns os
     → FindsAll ss ns os

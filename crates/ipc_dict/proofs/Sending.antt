@@ -245,9 +245,3 @@ pub counted_plan : (fields : List Field) (kept : List KeptEntry) (es : List Tall
     → kept_ids kept ≡ tally_ids es → AreAddressed fields es → AreCounted fields kept → AreCounted fields (after_all kept es os)
 counted_plan fields kept es os ids values before d named =
     few_after d.id (count_of d) kept es os (same_ids kept es ids) (values d named) (before d named)
-
--- what is sent changes no id
-pub ids_sent_after : (fields : List Field) (rows : List (List Value)) (kept : List KeptEntry)
-    → kept_ids (sent_after fields rows kept) ≡ kept_ids kept
-ids_sent_after fields rows [] = refl
-ids_sent_after fields rows (k ∷ kept) = ap (λ l. k.id ∷ l) (ids_sent_after fields rows kept)

@@ -69,19 +69,6 @@ nulls_first values n count few = ap (λ (vs : List Value). values ++ vs) (sym (t
 
 -- ---- a list, a struct, and another value
 
--- a value gives nothing where the column is neither one of lists nor one of structs
-pub leaf_gives : (layout : Layout) (value : Value) → (layout ≡ l.Lists → ⊥) → ((size : ℕ) → layout ≡ l.FixedLists size → ⊥)
-    → (layout ≡ l.Structs → ⊥) → (j : ℕ) → below layout (value ∷ []) j ≡ []
-leaf_gives l.Structs value list fixed struct j = absurd (struct refl)
-leaf_gives (l.FixedLists size) value list fixed struct j = absurd (fixed size refl)
-leaf_gives l.Lists value list fixed struct j = absurd (list refl)
-leaf_gives l.Null value list fixed struct j = refl
-leaf_gives l.Bits value list fixed struct j = refl
-leaf_gives (l.Numbers bits signed) value list fixed struct j = refl
-leaf_gives (l.FixedBytes width) value list fixed struct j = refl
-leaf_gives (l.VariableBytes utf8) value list fixed struct j = refl
-leaf_gives (l.Indices bits signed id) value list fixed struct j = refl
-
 pub parts_are : (value : Value) (values : List Value) → value ≡ v.Struct values → (j : ℕ) → part j value ≡ cell j values
 unfolding out-Value roll-Value Carrier.roll
 parts_are value values e j = ap (λ (w : Value). part j w) e ∙ ap (λ (w : Value-F Value). part_in j w) (out-roll-Value (o.Struct values))

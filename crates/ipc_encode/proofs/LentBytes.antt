@@ -1,8 +1,7 @@
 -- The bytes of slots that were read, and where they end.
-use Rattle.std.proofs.Common.{◌≡◌, ◌∙◌, sym, ap, subst, ℕ, ◌+◌, ◌<◌, true, List, [], ◌∷◌, ◌++◌, length, take}
+use Rattle.std.proofs.Common.{◌≡◌, ◌∙◌, sym, ap, ℕ, ◌+◌, ◌<◌, true, List, [], ◌++◌, length, take}
 use Rattle.std.proofs.Common.{get_or}
 use Rattle.std.specs.Int.{bytes_low_first}
-use Rattle.std.specs.List.{AllByRecursion}
 use Rattle.std.proofs.lemmas.List.{take_more}
 use Rattle.ipc_model.specs.declared.value.Value.{Value}
 use Rattle.ipc_model.specs.declared.value.Value.TheVariants.{Null}
@@ -23,13 +22,3 @@ ends_next run start vs i end m e =
     ap (λ (n : ℕ). ends run start (take i vs) ++ bytes_low_first 0 4 n) e
     ∙ (ap (λ (ws : List Value). ends run start (take i vs) ++ bytes_low_first 0 4 (start + extents run ws)) next
     ∙ (sym (ends_push run start (take i vs) (get_or vs i Null)) ∙ ap (ends run start) (sym next)))
-
--- what is true of values, of one more, and of others
-pub all_append : (P : Value → Type 0) (vs ws : List Value) → AllByRecursion P vs → AllByRecursion P ws → AllByRecursion P (vs ++ ws)
-all_append P [] ws h g = g
-all_append P (v ∷ vs) ws h g = (h.0, all_append P vs ws h.1 g)
-
-pub all_next : (P : Value → Type 0) (vs : List Value) (i : ℕ) → i < length vs → AllByRecursion P (take i vs) → P (get_or vs i Null)
-    → AllByRecursion P (take (i + 1) vs)
-all_next P vs i m h own =
-    subst (AllByRecursion P) (sym (take_more vs i Null m)) (all_append P (take i vs) (get_or vs i Null ∷ []) h (own, tt))

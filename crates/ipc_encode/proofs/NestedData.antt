@@ -22,8 +22,3 @@ items_next vs i m =
     let all = data_append l.Lists (take i vs) (get_or vs i Null ∷ []) in
     let same = ap (data_in l.Lists) (take_more vs i Null m) in
     omega (arith, all, same)
-
--- structs have no data
-pub no_data : (vs : List Value) → data_in l.Structs vs ≡ 0
-no_data [] = omega arith
-no_data (v ∷ vs) = let rest = no_data vs in omega (arith, rest)

@@ -52,13 +52,6 @@ first_all P zero (field k c rest) (m ∷ ms) given e h = absurd (omega arith)
 first_all P (suc i) (field k c rest) (m ∷ ms) given e h =
     ap (λ (s : Shape). field k c s) (first_all P i rest ms (λ j. given (suc j)) (omega arith) h.1)
 
--- a node without children is that of a field without children
-pub leaf_is : (P : Layout → List Value → Column → Type 0) (c : Shape) (nodes : List Node) (given : ℕ → List Value) → length nodes ≡ 0
-    → AreNodes P c nodes given → c ≡ bare
-leaf_is P bare nodes given e h = refl
-leaf_is P (field k c rest) [] given e h = absurd h
-leaf_is P (field k c rest) (m ∷ ms) given e h = absurd (omega arith)
-
 -- it has whatever values are given to its children
 pub leaf_has : (P : Layout → List Value → Column → Type 0) (c : Shape) (nodes : List Node) (given other : ℕ → List Value)
     → length nodes ≡ 0

@@ -125,12 +125,6 @@ weighed_take limits shape given most few light small = record {
   bytes = let bytes = bytes_weight shape given in omega (arith, bytes, light);
 }
 
--- what takes at most so many bytes takes at most more
-pub takes_more : (limits : Limits) (shape : Shape) (given : ℕ → List Value) (least most : ℕ) → TakeAtMost limits most shape given
-    → TakeAtMost limits (least + most) shape given
-takes_more limits shape given least most h =
-    record { few = h.few; short = h.short; bytes = let bytes = h.bytes in omega (arith, bytes) }
-
 -- ---- what stands inside a value
 
 pub null_inside : (kind : DataType) (fs : List Field) → InnerFit Fits kind fs o.Null

@@ -1,7 +1,7 @@
 -- Rows that are pushed one by one.
-use Rattle.std.proofs.Common.{◌≡◌, ◌∙◌, refl, sym, ap, subst, ℕ, ◌++◌, List, [], ◌∷◌, length, length-append, Option, Result, Ok, Err}
-use Rattle.std.proofs.Common.{false, true, inl, inr, arith}
-use Rattle.std.specs.Prelude.{Bool, IsOk, OnOk, IfErr, MatchResult, ◌⊎◌}
+use Rattle.std.proofs.Common.{◌≡◌, ◌∙◌, refl, sym, subst, ℕ, ◌++◌, List, [], ◌∷◌, length, length-append, Result, Ok, Err}
+use Rattle.std.proofs.Common.{false, inl, inr, arith}
+use Rattle.std.specs.Prelude.{IsOk, IfErr, MatchResult, ◌⊎◌}
 use Rattle.std.specs.List.{AllByRecursion}
 use Rattle.std.proofs.Math.Seq.{get_or-append_seam, take-append_seam}
 use Rattle.ipc_model.specs.Fits.{RowFits}
@@ -18,15 +18,13 @@ use Rattle.ipc_model.specs.declared.value.Value.{Value}
 use Rattle.ipc_encode.specs.Limits.{IsRefused, IsWithin}
 use Rattle.ipc_encode.specs.Built.{HasRows}
 use Rattle.ipc_encode.specs.Numbers.{told}
-use Rattle.ipc_dict.specs.declared.kept.KeptEntry.{KeptEntry}
 use Rattle.ipc_dict.specs.Noting.{AllFit, noted_place}
 use Rattle.ipc_dict.specs.Tallied.{Tallied}
 use Rattle.ipc_dict.specs.Within.{AllWithin}
 use Rattle.ipc_stream.specs.declared.pushed.PushedRows.{PushedRows}
 use Rattle.ipc_stream.specs.Writing.{AcceptsBatch, Misfits, long_columns, long_metadata, many_slots, other_pairs}
-use Rattle.ipc_stream.specs.Writing.{NotSentWhole, RefusesBatch}
+use Rattle.ipc_stream.specs.Writing.{RefusesBatch}
 use Rattle.ipc_stream.specs.Parts.{AcceptsPairs, RefusesPairs}
-use Rattle.ipc_stream.specs.Writer.{Writer, Leaves}
 use Rattle.ipc_stream.specs.Pushed.{HoldsBatch, RefusesHeld, no_rows, with_row}
 use Rattle.ipc_stream.proofs.HeldTallies.{tally_of}
 use Rattle.ipc_stream.proofs.MessagesWritten.{all_last, misfit}
@@ -78,30 +76,6 @@ held_row limits s b row old new held fits within tally fit short rows same = rec
   };
 }
 
--- where the builder has the rows that it had, the batch is still held
-pub held_still : (limits : Limits) (s : Schema) (b : BatchRows) (old new : PushedRows) → HoldsBatch limits s b old
-    → new.tally ≡ old.tally → HasRows (told (noted_place old.tally.entries)) limits s.fields b.rows new.builder → new.pairs ≡ old.pairs
-    → HoldsBatch limits s b new
-held_still limits s b old new held same_tally rows same = record {
-  tally = same_tally ∙ held.tally;
-  rows = subst (λ (t : Tallied). HasRows (told (noted_place t.entries)) limits s.fields b.rows new.builder) held.tally rows;
-  pairs = same ∙ held.pairs;
-  accepted = held.accepted;
-}
-
--- what is told of a row by a writer that works is told by any
-pub judged_row : (A : Type 0) (limits : Limits) (s : Schema) (b : BatchRows) (failed : Bool) (r : Result Unit WriteFault) → OnOk r A
-    → IfErr r (RefusesHeld limits s b false) → MatchResult r (λ x. A) (RefusesHeld limits s b failed)
-judged_row A limits s b failed (Ok x) held refused = held
-judged_row A limits s b failed (Err w.BadSchema) held refused = refused
-judged_row A limits s b failed (Err (w.Row number cause)) held refused = refused
-judged_row A limits s b failed (Err w.TooLong) held refused = refused
-judged_row A limits s b failed (Err w.DictionaryFull) held refused = refused
-judged_row A limits s b failed (Err w.TooManyRows) held refused = refused
-judged_row A limits s b failed (Err w.OutOfMemory) held refused = refused
-judged_row A limits s b failed (Err w.Write) held refused = refused
-judged_row A limits s b failed (Err w.Failed) held refused = cc
-
 -- a batch that is held is refused only for a sink that failed, or out of memory
 pub judged_sent : (limits : Limits) (s : Schema) (b : BatchRows) (r : Result Unit WriteFault) → AcceptsBatch limits s b
     → IfErr r (λ fault. (fault ≡ w.Write) ⊎ (fault ≡ w.OutOfMemory))
@@ -137,18 +111,6 @@ refused_pairs limits s pairs w.TooManyRows h = absurd h
 refused_pairs limits s pairs w.Write h = absurd h
 refused_pairs limits s pairs w.Failed h = absurd h
 
--- so is what is told of its columns
-pub refused_columns : (limits : Limits) (s : Schema) (pairs : List (List ℕ × List ℕ)) (fault : WriteFault)
-    → IsRefused limits s.fields [] fault → RefusesHeld limits s (no_rows pairs) false fault
-refused_columns limits s pairs w.TooLong h = long_columns h
-refused_columns limits s pairs w.TooManyRows h = many_slots h
-refused_columns limits s pairs w.OutOfMemory h = tt
-refused_columns limits s pairs w.BadSchema h = absurd h
-refused_columns limits s pairs (w.Row number cause) h = absurd h
-refused_columns limits s pairs w.DictionaryFull h = absurd h
-refused_columns limits s pairs w.Write h = absurd h
-refused_columns limits s pairs w.Failed h = absurd h
-
 -- pairs that are within the limits aren't refused
 pub accepted_pairs : {T : Type 0} (limits : Limits) (s : Schema) (b : BatchRows) (r : Result T WriteFault) → AcceptsBatch limits s b
     → MatchResult r (λ x. AcceptsPairs limits s b.pairs) (λ fault. RefusesPairs limits s b.pairs fault)
@@ -164,30 +126,3 @@ accepted_pairs limits s b (Err w.DictionaryFull) accepts judged = absurd judged
 accepted_pairs limits s b (Err w.TooManyRows) accepts judged = absurd judged
 accepted_pairs limits s b (Err w.Write) accepts judged = absurd judged
 accepted_pairs limits s b (Err w.Failed) accepts judged = absurd judged
-
--- ---- what is left of the writer
-
-module _ (IsWhole : List ℕ → Type 0) (kept : List KeptEntry) (old : Writer) (written : Option (List ℕ)) (failures : ℕ)
-    (works : old.failed ≡ false) where
-  -- where the batch doesn't go out whole, for a sink that failed or out of memory, the writer fails
-  pub leaves_failed : (fault : WriteFault) → (fault ≡ w.Write) ⊎ (fault ≡ w.OutOfMemory)
-      → NotSentWhole IsWhole old.written written old.failures failures fault
-      → Leaves IsWhole kept old (record old { written = written; failures = failures; failed = true }) (Err fault)
-  leaves_failed w.Write only unsent = (works, unsent, refl)
-  leaves_failed w.OutOfMemory only unsent = (
-    works,
-    ap (λ (bytes : Option (List ℕ)). record old { written = bytes; failures = failures; failed = true }) unsent.0
-        ∙ ap (λ (count : ℕ). record old { failures = count; failed = true }) unsent.1,
-  )
-  leaves_failed w.BadSchema (inl e) unsent = cc
-  leaves_failed w.BadSchema (inr e) unsent = cc
-  leaves_failed (w.Row number cause) (inl e) unsent = cc
-  leaves_failed (w.Row number cause) (inr e) unsent = cc
-  leaves_failed w.TooLong (inl e) unsent = cc
-  leaves_failed w.TooLong (inr e) unsent = cc
-  leaves_failed w.DictionaryFull (inl e) unsent = cc
-  leaves_failed w.DictionaryFull (inr e) unsent = cc
-  leaves_failed w.TooManyRows (inl e) unsent = cc
-  leaves_failed w.TooManyRows (inr e) unsent = cc
-  leaves_failed w.Failed (inl e) unsent = cc
-  leaves_failed w.Failed (inr e) unsent = cc

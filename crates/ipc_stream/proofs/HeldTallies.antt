@@ -52,21 +52,6 @@ tallied_next fields rows row =
     ap (note_all (unused fields)) (pairs_end fields rows row)
     ∙ note_all-append (unused fields) (rows_pairs fields rows) (row_pairs fields row)
 
--- the pairs of rows and of more
-pairs_more : (fields : List Field) (rows more : List (List Value))
-    → rows_pairs fields (rows ++ more) ≡ rows_pairs fields rows ++ rows_pairs fields more
-pairs_more fields [] more = refl
-pairs_more fields (r ∷ rows) more =
-    ap (λ ps. row_pairs fields r ++ ps) (pairs_more fields rows more)
-    ∙ sym (append_assoc (row_pairs fields r) (rows_pairs fields rows) (rows_pairs fields more))
-
--- what is tallied with more rows
-pub tallied_more : (fields : List Field) (rows more : List (List Value))
-    → tallied fields (rows ++ more) ≡ note_all (tallied fields rows) (rows_pairs fields more)
-tallied_more fields rows more =
-    ap (note_all (unused fields)) (pairs_more fields rows more)
-    ∙ note_all-append (unused fields) (rows_pairs fields rows) (rows_pairs fields more)
-
 -- each value of the rows keeps the index that it was told, whatever is noted behind them
 places_agree : (limits : Limits) (fields : List Field) (rows all : List (List Value)) (ps : Pairs)
     → tallied fields all ≡ note_all (tallied fields rows) ps → AllByRecursion (IsFieldWellFormed limits) (entries fields)
@@ -101,14 +86,6 @@ pub rows_kept : (limits : Limits) (fields : List Field) (rows : List (List Value
 rows_kept limits fields rows row builder =
     rows_behind limits fields rows (rows ++ row ∷ []) (row_pairs fields row) builder (tallied_next fields rows row)
 
--- with several rows more
-pub rows_kept_with : (limits : Limits) (fields : List Field) (rows more : List (List Value)) (builder : Builder)
-    → AllByRecursion (IsFieldWellFormed limits) (entries fields)
-    → HasRows (told (noted_place (tallied fields rows))) limits fields rows builder
-    → HasRows (told (noted_place (tallied fields (rows ++ more)))) limits fields rows builder
-rows_kept_with limits fields rows more builder =
-    rows_behind limits fields rows (rows ++ more) (rows_pairs fields more) builder (tallied_more fields rows more)
-
 -- the tally of rows
 abbrev pub tally_of : Limits → List Field → List (List Value) → Tallied
 tally_of limits fields rows = record { failed = false; limits = limits; fields = fields; entries = tallied fields rows }
@@ -121,15 +98,6 @@ tally_next limits fields rows row old new same noted =
     noted ∙ ap (λ (t : Tallied). record t { entries = note_all t.entries (row_pairs t.fields row) }) same
     ∙ ap (λ (es : List TallyEntry). record { failed = false; limits = limits; fields = fields; entries = es })
     (sym (tallied_next fields rows row))
-
--- a tally that noted several is that of all
-pub tally_more : (limits : Limits) (fields : List Field) (rows more : List (List Value)) (old new : Tallied)
-    → old ≡ tally_of limits fields rows → new ≡ record old { entries = note_all old.entries (rows_pairs old.fields more) }
-    → new ≡ tally_of limits fields (rows ++ more)
-tally_more limits fields rows more old new same noted =
-    noted ∙ ap (λ (t : Tallied). record t { entries = note_all t.entries (rows_pairs t.fields more) }) same
-    ∙ ap (λ (es : List TallyEntry). record { failed = false; limits = limits; fields = fields; entries = es })
-    (sym (tallied_more fields rows more))
 
 -- why a row isn't noted is why the batch with it is refused
 pub note_refused : (limits : Limits) (s : Schema) (b : BatchRows) (row : List Value) (old : Tallied) (fault : WriteFault)
