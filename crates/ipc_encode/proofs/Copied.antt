@@ -1,6 +1,6 @@
 -- The columns of a batch's rows, taken as they lie.
 use Rattle.std.proofs.Common.{◌≡◌, ◌∙◌, refl, sym, ap, ℕ, zero, suc, ◌+◌, ◌<◌, ◌≤◌, List, [], ◌∷◌, ◌++◌, length, take}
-use Rattle.std.proofs.Common.{get_or, append_assoc, arith}
+use Rattle.std.proofs.Common.{get_or, arith}
 use Rattle.std.specs.List.{AllByRecursion}
 use Rattle.std.proofs.lemmas.List.{take_more}
 use Rattle.std.proofs.lemmas.Option.{get_or_from_slice_get}
@@ -42,11 +42,9 @@ cell_at j (row ∷ rows) zero h = refl
 cell_at j (row ∷ rows) (suc i) h = cell_at j rows i (omega arith)
 
 -- the cells of the rows so far and of the next
-pub cells_next : (before : List Value) (j : ℕ) (rows : List (List Value)) (i : ℕ) → i < length rows
-    → (before ++ take i (cells j rows)) ++ cell j (get_or rows i []) ∷ [] ≡ before ++ take (i + 1) (cells j rows)
-cells_next before j rows i h =
+pub cells_next : (j : ℕ) (rows : List (List Value)) (i : ℕ) → i < length rows
+    → take i (cells j rows) ++ cell j (get_or rows i []) ∷ [] ≡ take (i + 1) (cells j rows)
+cells_next j rows i h =
     let size = cells_length j rows in
     let more = take_more (cells j rows) i Null (omega (arith, size, h)) in
-    append_assoc before (take i (cells j rows)) (cell j (get_or rows i []) ∷ [])
-    ∙ ap (λ (vs : List Value). before ++ vs)
-    (ap (λ (v : Value). take i (cells j rows) ++ v ∷ []) (sym (cell_at j rows i h)) ∙ sym more)
+    ap (λ (v : Value). take i (cells j rows) ++ v ∷ []) (sym (cell_at j rows i h)) ∙ sym more

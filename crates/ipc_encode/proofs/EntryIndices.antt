@@ -1,9 +1,7 @@
 -- The indices of values, of which null has none.
 use Rattle.std.proofs.Common.{◌≡◌, ◌∙◌, refl, ap, ℕ, zero, suc, ◌<◌, Bool, List, [], ◌∷◌, Option, length, get_or}
 use Rattle.std.proofs.Common.{arith}
-use Rattle.std.proofs.Common.{◌++◌, ◌-◌, ◌*◌, ℤ, take, drop, length-append}
-use Rattle.std.proofs.Math.Seq.{drop-append_seam}
-use Rattle.std.proofs.lemmas.List.{take_all}
+use Rattle.std.proofs.Common.{◌-◌, ◌*◌, ℤ}
 use Rattle.std.specs.Prelude.{is_some, not}
 use Rattle.ipc_model.specs.Layouts.{number_bytes}
 use Rattle.ipc_model.specs.declared.layout.Layout.TheVariants as l
@@ -46,12 +44,6 @@ flag_at known vs is i o flag same l e =
       e ∙ (ap (λ (os : List (Option ℕ)). is_some (get_or os i o)) same
           ∙ (ap is_some (index_at known vs i o inside) ∙ valid_index known (get_or vs i Null))),
     )
-
--- the indices that stand behind others
-pub behind_others : (xs ys all : List (Option ℕ)) (start : ℕ) → all ≡ xs ++ ys → start ≡ length xs
-    → take (length all - start) (drop start all) ≡ ys
-behind_others xs ys all start e s =
-    rw (e, s, drop-append_seam xs ys) (take_all _ ys (let size = length-append xs ys in omega (arith, size)))
 
 -- what so many indices take
 pub data_indices : (bits : IntBits) (signed : Bool) (id : ℤ) (vs : List Value)

@@ -1,6 +1,6 @@
 -- The nulls and the flags of values that a bitmap marks.
 use Rattle.std.proofs.Common.{◌≡◌, ◌∙◌, refl, sym, ap, ℕ, zero, suc, ◌+◌, ◌*◌, ◌%◌, ◌<◌, ◌≤◌, Bool, true, false, cond, List, [], ◌∷◌, ◌++◌}
-use Rattle.std.proofs.Common.{length, take, get_or, add-one, append_assoc, replicate, arith}
+use Rattle.std.proofs.Common.{length, take, get_or, add-one, arith}
 use Rattle.std.specs.Prelude.{not}
 use Rattle.std.specs.Int.{from_bool}
 use Rattle.std.proofs.lemmas.Bool.{ne_eqb}
@@ -11,11 +11,9 @@ use Rattle.ipc_model.specs.declared.value.Value.TheVariants.{Null}
 use Rattle.ipc_column.specs.Values.{is_valid}
 use Rattle.ipc_encode.specs.Bitmaps.{bitmap}
 use Rattle.ipc_encode.specs.Cells.{flags, is_set, nulls}
-use Rattle.ipc_encode.specs.Columns.{validity_bytes}
 use Rattle.ipc_encode.specs.Marks.{MarksNulls}
 use Rattle.ipc_encode.specs.Pieces.{Flag, Valid}
 use Rattle.ipc_encode.proofs.Bits.{flag_at, flags_length}
-use Rattle.ipc_encode.proofs.Pushes.{all_valid, no_nulls, some_null}
 use Rattle.ipc_encode.proofs.Steps.{flags_push, nulls_push}
 use Rattle.ipc_encode.proofs.WholeBytes.{bit_in_front, bytes_more, flags_append, front_small}
 
@@ -62,35 +60,11 @@ clear_nulls b vs h some =
     clear_so_far b vs (length vs) h some (omega arith) ∙ ap nulls (take_all (length vs) vs (omega arith))
 
 -- the flags of the values so far and of the next
-pub flags_next : (which : Flag) (before vs : List Value) (i : ℕ) (flag : Bool) → i < length vs
-    → flag ≡ is_set which (get_or vs i Null)
-    → flags which (before ++ take i vs) ++ flag ∷ [] ≡ flags which (before ++ take (i + 1) vs)
-flags_next which before vs i flag l same =
-    let v = get_or vs i Null in
-    let next : (before ++ take i vs) ++ v ∷ [] ≡ before ++ take (i + 1) vs =
-    append_assoc before (take i vs) (v ∷ []) ∙ ap (λ (ws : List Value). before ++ ws) (sym (take_more vs i Null l)) in
-    ap (λ (f : Bool). flags which (before ++ take i vs) ++ f ∷ []) same
-    ∙ (sym (flags_push which (before ++ take i vs) v) ∙ ap (flags which) next)
-
--- no bitmap where no value is null
-pub none_behind : (before values : List Value) → nulls before ≡ 0 → nulls values ≡ 0
-    → validity_bytes before ≡ validity_bytes (before ++ values)
-none_behind before values none more =
-    let both = nulls_append before values in
-    no_nulls before none ∙ sym (no_nulls (before ++ values) (omega (arith, both, none, more)))
-
--- and one where some are
-pub some_behind : (before values : List Value) → (nulls before ≡ 0 → nulls values ≡ 0 → ⊥)
-    → bitmap (flags Valid (before ++ values)) ≡ validity_bytes (before ++ values)
-some_behind before values some =
-    let both = nulls_append before values in
-    sym (some_null (before ++ values) (λ e. some (omega (arith, both, e)) (omega (arith, both, e))))
-
--- a bitmap that begins
-pub begun : (before : List Value) (held : ℕ) (bits : List ℕ) → length before ≡ held → nulls before ≡ 0
-    → bits ≡ bitmap (replicate held true) → bits ≡ bitmap (flags Valid before)
-begun before held bits size none e =
-    e ∙ (ap (λ (n : ℕ). bitmap (replicate n true)) (sym size) ∙ ap bitmap (sym (all_valid before none)))
+pub flags_next : (which : Flag) (vs : List Value) (i : ℕ) (flag : Bool) → i < length vs → flag ≡ is_set which (get_or vs i Null)
+    → flags which (take i vs) ++ flag ∷ [] ≡ flags which (take (i + 1) vs)
+flags_next which vs i flag l same =
+    ap (λ (f : Bool). flags which (take i vs) ++ f ∷ []) same
+    ∙ (sym (flags_push which (take i vs) (get_or vs i Null)) ∙ ap (flags which) (sym (take_more vs i Null l)))
 
 -- no more values are null than there are
 pub nulls_within : (vs : List Value) → nulls vs ≤ length vs

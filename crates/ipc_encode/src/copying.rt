@@ -1,8 +1,7 @@
-//! Adds the values of a column of a batch that was read to a column that is built.
-ghost use Rattle.std.specs.Prelude.{◌≡◌, ◌<◌, ◌++◌, List, [], length, slice_index_or, IfErr, IfOk};
+//! Takes the values of a column of a batch that was read into a column without values.
+ghost use Rattle.std.specs.Prelude.{◌≡◌, ◌<◌, [], length, slice_index_or, IfErr, IfOk};
 ghost use Rattle.std.specs.Prelude.{OnOk};
 ghost use Rattle.ipc_model.specs.declared.layout.Layout.{Layout};
-ghost use Rattle.ipc_model.specs.declared.value.Value.{Value};
 ghost use Rattle.ipc_column.specs.Shapes.{Shape, bare, field};
 ghost use Rattle.ipc_encode.specs.Cells.{cell, cells};
 ghost use Rattle.ipc_encode.specs.Built.{ArePushesRefused, IsColumn, IsNode};
@@ -30,7 +29,8 @@ fn cell_at(alloc: Global, batch: &Batch, row: usize, column: usize) -> Result<Va
     Ok(batch.read_cell(alloc, row, column)?)
 }
 
-// Takes the values of a column of a batch one by one, null where the batch has no such column.
+// Takes the values of a column of a batch one by one into a node without values. They are null if
+// the batch has no such column.
 fn take_each<I: IndexOf>(
     node: &mut Node,
     batch: &Batch,
@@ -38,16 +38,16 @@ fn take_each<I: IndexOf>(
     limits: &Limits,
     indices: &I,
 ) -> Result<(), PushFault>
-    ensures taken { (layout : Layout) (children : Shape) (before : List Value)
+    ensures taken { (layout : Layout) (children : Shape)
         → IsNode (IsColumn (told (I.IndexOf.index indices.now)) limits.now) layout children node.old
-        before
+        []
         → OnOk result (IsNode (IsColumn (told (I.IndexOf.index indices.now)) limits.now) layout
-        children node.new (before ++ cells column batch.now.rows)) }
-    ensures refused { (layout : Layout) (children : Shape) (before : List Value)
+        children node.new (cells column batch.now.rows)) }
+    ensures refused { (layout : Layout) (children : Shape)
         → IsNode (IsColumn (told (I.IndexOf.index indices.now)) limits.now) layout children node.old
-        before
+        []
         → IfErr result (ArePushesRefused limits.now (field layout children bare)
-        (λ j. before ++ cells column batch.now.rows)) }
+        (λ j. cells column batch.now.rows)) }
 {
     let alloc = *node.children.allocator();
     for row in 0..batch.rows() {
@@ -57,9 +57,9 @@ fn take_each<I: IndexOf>(
     Ok(())
 }
 
-/// Adds the values of a column of a batch, or nulls if the batch has no such column. For a column
-/// of indices each value of its dictionary is looked up once. Other columns are read value by
-/// value. The errors are those of `take`.
+/// Takes the values of a column of a batch into a node without values, or nulls if the batch has no
+/// such column. For a column of indices each value of its dictionary is looked up once. Other
+/// columns are read value by value. The errors are those of `take`.
 pub(crate) fn take_column<I: IndexOf>(
     node: &mut Node,
     batch: &Batch,
@@ -67,16 +67,16 @@ pub(crate) fn take_column<I: IndexOf>(
     limits: &Limits,
     indices: &I,
 ) -> Result<(), PushFault>
-    ensures taken { (layout : Layout) (children : Shape) (before : List Value)
+    ensures taken { (layout : Layout) (children : Shape)
         → IsNode (IsColumn (told (I.IndexOf.index indices.now)) limits.now) layout children node.old
-        before
+        []
         → OnOk result (IsNode (IsColumn (told (I.IndexOf.index indices.now)) limits.now) layout
-        children node.new (before ++ cells column batch.now.rows)) }
-    ensures refused { (layout : Layout) (children : Shape) (before : List Value)
+        children node.new (cells column batch.now.rows)) }
+    ensures refused { (layout : Layout) (children : Shape)
         → IsNode (IsColumn (told (I.IndexOf.index indices.now)) limits.now) layout children node.old
-        before
+        []
         → IfErr result (ArePushesRefused limits.now (field layout children bare)
-        (λ j. before ++ cells column batch.now.rows)) }
+        (λ j. cells column batch.now.rows)) }
 {
     if node.is_leaf() && column < batch.columns() {
         if let Layout::Indices { bits, .. } = node.column.layout {

@@ -1,5 +1,5 @@
-//! Adds a column of indices that was read, by the values of its dictionary; each is looked up once.
-ghost use Rattle.std.specs.Prelude.{◌≡◌, ◌≤◌, ◌<◌, ◌^◌, ◌+◌, ◌++◌, ℕ, ℤ, Bool, List, []};
+//! Takes a column of indices that was read. Each value of its dictionary is looked up once.
+ghost use Rattle.std.specs.Prelude.{◌≡◌, ◌≤◌, ◌<◌, ℕ, ℤ, Bool, List, []};
 ghost use Rattle.std.specs.Prelude.{length, map, Option, Some, slice_get, slice_index_or};
 ghost use Rattle.std.specs.Prelude.{IfErr, IfOk, IfSome, OnOk};
 ghost use Rattle.ipc_model.specs.declared.layout.Layout.TheVariants.{Indices};
@@ -16,7 +16,7 @@ ghost use Rattle.ipc_encode.specs.Pieces.{Valid};
 
 use crate::column::Column;
 use crate::fault::PushFault;
-use crate::flags::{push_bit, set_bits};
+use crate::flags::push_bit;
 use crate::index::IndexOf;
 use crate::pushing::known_index;
 use ipc_column::{Batch, SlotView};
@@ -150,29 +150,29 @@ fn slot_index<I: IndexOf>(
     }
 }
 
-// Appends the index of what each slot of a column shows.
-fn push_indices<I: IndexOf>(
-    held: &mut Vec<Option<u64>>,
+// The index of what each slot of a column shows.
+fn slot_indices<I: IndexOf>(
+    alloc: Global,
     batch: &Batch,
     column: usize,
     layout: Layout,
     indices: &I,
-) -> Result<(), AllocError>
+) -> Result<Vec<Option<u64>>, AllocError>
     requires { column < batch.now.columns }
-    ensures { OnOk result (held.new.items ≡ held.old.items
-        ++ map (column_index (told (I.IndexOf.index indices.now)) layout)
+    ensures { IfOk result (λ taken. taken.items
+        ≡ map (column_index (told (I.IndexOf.index indices.now)) layout)
         (cells column batch.now.rows)) }
 {
-    let alloc = *held.allocator();
     let slots = batch.slots(column);
     let mut kept = none_kept(alloc, &slots)?;
+    let mut taken = Vec::new(alloc);
     for slot in 0..slots.len() {
         let index = slot_index(
             alloc, batch, column, &slots, slot, &mut kept, layout, indices,
         )?;
-        held.push(index)?;
+        taken.push(index)?;
     }
-    Ok(())
+    Ok(taken)
 }
 
 // How many values have no index.
@@ -188,49 +188,38 @@ fn count_nulls(indices: &[Option<u64>]) -> usize
     null_count
 }
 
-// Appends whether each value has an index to `held` packed bits.
-fn push_marks(bits: &mut Vec<u8>, held: usize, indices: &[Option<u64>]) -> Result<(), AllocError>
-    requires { held + length indices.now < 2 ^ 63 }
-    ensures { (known : Value → ℕ) (before values : List Value)
-        → indices.now ≡ indices_of known values → length before ≡ held
-        → bits.old.items ≡ bitmap (flags Valid before)
-        → OnOk result (bits.new.items ≡ bitmap (flags Valid (before ++ values))) }
+// Appends whether each value has an index to an empty list.
+fn push_marks(bits: &mut Vec<u8>, indices: &[Option<u64>]) -> Result<(), AllocError>
+    ensures { (known : Value → ℕ) (values : List Value) → indices.now ≡ indices_of known values
+        → bits.old.items ≡ [] → OnOk result (bits.new.items ≡ bitmap (flags Valid values)) }
 {
     for (slot, index) in indices.iter().enumerate() {
-        push_bit(bits, held + slot, index.is_some())?;
+        push_bit(bits, slot, index.is_some())?;
     }
     Ok(())
 }
 
-// Records whether each value has an index, after the values that are held. There is a bitmap only
-// if a value is null.
+// Appends the bitmap of values with these indices to an empty list. It stays empty if no value is
+// null.
 fn push_validities(
     validity: &mut Vec<u8>,
-    held: usize,
-    held_nulls: usize,
     indices: &[Option<u64>],
-    more_nulls: usize,
+    null_count: usize,
 ) -> Result<(), AllocError>
-    requires { held + length indices.now < 2 ^ 63 }
-    ensures { (known : Value → ℕ) (before values : List Value)
-        → indices.now ≡ indices_of known values → length before ≡ held
-        → nulls before ≡ held_nulls → nulls values ≡ more_nulls
-        → validity.old.items ≡ validity_bytes before
-        → OnOk result (validity.new.items ≡ validity_bytes (before ++ values)) }
+    ensures { (known : Value → ℕ) (values : List Value) → indices.now ≡ indices_of known values
+        → nulls values ≡ null_count → validity.old.items ≡ []
+        → OnOk result (validity.new.items ≡ validity_bytes values) }
 {
-    if held_nulls == 0 {
-        if more_nulls == 0 {
-            return Ok(());
-        }
-        set_bits(validity, held)?;
+    if null_count == 0 {
+        return Ok(());
     }
-    push_marks(validity, held, indices)
+    push_marks(validity, indices)
 }
 
 impl Column {
-    /// Adds the values of a column of a batch to a column of indices of this width. The index of
-    /// each value of a dictionary that was read is looked up once. The errors are those of
-    /// `Column::take`.
+    /// Takes the values of a column of a batch into a column of indices of this width, which has no
+    /// values. The index of each value of a dictionary that was read is looked up once. The errors
+    /// are those of `Column::take`.
     pub(crate) fn take_indices<I: IndexOf>(
         &mut self,
         batch: &Batch,
@@ -240,29 +229,31 @@ impl Column {
         indices: &I,
     ) -> Result<(), PushFault>
         requires { column < batch.now.columns }
-        ensures taken { (signed : Bool) (id : ℤ) (before : List Value)
-            → IsColumn (told (I.IndexOf.index indices.now)) limits.now (Indices bits signed id)
-            before self.old
+        ensures taken { (signed : Bool) (id : ℤ)
+            → IsColumn (told (I.IndexOf.index indices.now)) limits.now (Indices bits signed id) []
+            self.old
             → OnOk result (IsColumn (told (I.IndexOf.index indices.now)) limits.now
-            (Indices bits signed id) (before ++ cells column batch.now.rows) self.new) }
-        ensures refused { (signed : Bool) (id : ℤ) (before : List Value)
-            → IsColumn (told (I.IndexOf.index indices.now)) limits.now (Indices bits signed id)
-            before self.old
+            (Indices bits signed id) (cells column batch.now.rows) self.new) }
+        ensures refused { (signed : Bool) (id : ℤ)
+            → IsColumn (told (I.IndexOf.index indices.now)) limits.now (Indices bits signed id) []
+            self.old
             → IfErr result (IsPushRefused limits.now (Indices bits signed id)
-            (before ++ cells column batch.now.rows)) }
+            (cells column batch.now.rows)) }
     {
         let count = batch.rows();
         if count > limits.slots as usize {
             return Err(PushFault::TooMany);
         }
-        let held = self.counts;
-        let start = self.indices.len();
-        push_indices(&mut self.indices, batch, column, self.layout, indices)?;
-        let more = &self.indices[start..];
+        let alloc = *self.indices.allocator();
+        let taken = slot_indices(alloc, batch, column, self.layout, indices)?;
+        let more = taken.as_slice();
         let null_count = count_nulls(more);
-        push_validities(&mut self.validity, held.slots, held.nulls, more, null_count)?;
-        let amount = held.amount + bits.bytes() * count;
-        self.counts = held.with_all(self.layout, count, null_count, amount, limits)?;
+        push_validities(&mut self.validity, more, null_count)?;
+        let amount = bits.bytes() * count;
+        self.counts = self
+            .counts
+            .with_all(self.layout, count, null_count, amount, limits)?;
+        self.indices = taken;
         Ok(())
     }
 }

@@ -1,7 +1,6 @@
-use Rattle.std.proofs.Common.{◌∙◌, sym, []}
+use Rattle.std.proofs.Common.{◌∙◌, sym}
 use Rattle.ipc_column.specs.Nested.{slot_values}
-use Rattle.ipc_encode.proofs.Marked.{some_behind}
-use Rattle.ipc_encode.proofs.Pushes.{no_nulls}
+use Rattle.ipc_encode.proofs.Pushes.{no_nulls, some_null}
 use Rattle.ipc_encode.proofs.column_segments.column_validity.Goals as goal
 
 pub returns-then-null_count-eq0 : goal.returns-then-null_count-eq0
@@ -9,4 +8,4 @@ returns-then-null_count-eq0 c = sym (no_nulls (slot_values c.args.view.now) (sym
 
 pub returns : goal.returns
 returns c = c.in_ok-push_marks.ensures c.pooled_list-validity.ensures
-    ∙ some_behind [] (slot_values c.args.view.now) (λ _ others. c.if-null_count-eq0.false (c.requires ∙ others))
+    ∙ sym (some_null (slot_values c.args.view.now) (λ o. c.if-null_count-eq0.false (c.requires ∙ o)))

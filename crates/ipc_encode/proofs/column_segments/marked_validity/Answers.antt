@@ -5,7 +5,8 @@ use Rattle.ipc_model.specs.declared.value.Value.{Value}
 use Rattle.ipc_encode.specs.Bitmaps.{bitmap}
 use Rattle.ipc_encode.specs.Cells.{flags}
 use Rattle.ipc_encode.specs.Pieces.{Valid}
-use Rattle.ipc_encode.proofs.Marked.{marked_bytes, some_behind}
+use Rattle.ipc_encode.proofs.Marked.{marked_bytes}
+use Rattle.ipc_encode.proofs.Pushes.{some_null}
 use Rattle.ipc_encode.proofs.column_segments.marked_validity.Goals as goal
 
 pub returns-then-not-is_empty : goal.returns-then-not-is_empty
@@ -19,9 +20,9 @@ returns-then-not-is_empty c = λ values size none marks.
     marked_bytes b [] values (c.args.count / 8) marks some (λ k. omega (arith, c.type_inv.marks k))
     (omega arith) (omega (arith, size)) (omega (arith, bits))
     ∙ (ap (λ (vs : List Value). bitmap (flags Valid vs)) all
-    ∙ some_behind [] values (λ _ others. c.if-null_count-eq0.false (sym none ∙ others)))
+    ∙ sym (some_null values (λ o. c.if-null_count-eq0.false (sym none ∙ o))))
 
 pub returns : goal.returns
 returns c = λ values size none marks.
     c.in_ok-push_marks.ensures values size marks c.pooled_list-validity.ensures
-    ∙ some_behind [] values (λ _ others. c.if-null_count-eq0.false (sym none ∙ others))
+    ∙ sym (some_null values (λ o. c.if-null_count-eq0.false (sym none ∙ o)))

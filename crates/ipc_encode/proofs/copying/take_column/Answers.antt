@@ -1,4 +1,4 @@
-use Rattle.std.proofs.Common.{◌≡◌, ◌∙◌, sym, subst, ◌++◌}
+use Rattle.std.proofs.Common.{◌≡◌, ◌∙◌, sym, subst, []}
 use Rattle.std.proofs.lemmas.Result.{on_ok_weaker, IfErr-weaker}
 use Rattle.ipc_model.specs.declared.layout.Layout.{Layout}
 use Rattle.ipc_model.specs.declared.layout.Layout.TheVariants as l
@@ -15,27 +15,26 @@ use Rattle.ipc_encode.proofs.Siblings.{leaf_has}
 use Rattle.ipc_encode.proofs.copying.take_column.Goals as goal
 
 pub returns-in-Indices-clause-taken : goal.returns-in-Indices-clause-taken
-returns-in-Indices-clause-taken g c = λ layout children before h.
+returns-in-Indices-clause-taken g c = λ layout children h.
     let known = told (g.I.IndexOf.index c.args.indices.now) in
     let limits = c.args.limits.now in
-    let more = cells c.args.column c.args.batch.now.rows in
+    let values = cells c.args.column c.args.batch.now.rows in
     let own = l.Indices c.in-Indices.bits c.in-Indices.signed c.in-Indices.id in
     let is : layout ≡ own = sym h.0.laid ∙ c.in-Indices.is in
-    let inner = leaf_has (IsColumn known limits) children (out-Node c.args.node.now).children.items (below layout before)
-    (below layout (before ++ more)) (c.is_leaf.ensures.0 c.if-is_leaf.true) h.1 in
+    let inner = leaf_has (IsColumn known limits) children (out-Node c.args.node.now).children.items (below layout []) (below layout values)
+    (c.is_leaf.ensures.0 c.if-is_leaf.true) h.1 in
     on_ok_weaker c.take_indices.result
-    (λ taken. node_is (IsColumn known limits) layout children (before ++ more) _
-    (laid_as known limits own layout (before ++ more) (sym is) taken) inner)
-    (c.take_indices.ensures.taken c.in-Indices.signed c.in-Indices.id before (laid_as known limits layout own before is h.0))
+    (λ taken. node_is (IsColumn known limits) layout children values _ (laid_as known limits own layout values (sym is) taken) inner)
+    (c.take_indices.ensures.taken c.in-Indices.signed c.in-Indices.id (laid_as known limits layout own [] is h.0))
 
 pub returns-in-Indices-clause-refused : goal.returns-in-Indices-clause-refused
-returns-in-Indices-clause-refused g c = λ layout children before h.
+returns-in-Indices-clause-refused g c = λ layout children h.
     let known = told (g.I.IndexOf.index c.args.indices.now) in
     let limits = c.args.limits.now in
-    let more = cells c.args.column c.args.batch.now.rows in
+    let values = cells c.args.column c.args.batch.now.rows in
     let own = l.Indices c.in-Indices.bits c.in-Indices.signed c.in-Indices.id in
     let is : layout ≡ own = sym h.0.laid ∙ c.in-Indices.is in
     IfErr-weaker c.take_indices.result _ _
-    (λ fault refused. own_refused limits layout children bare (λ j. before ++ more) fault
-    (subst (λ (lay : Layout). IsPushRefused limits lay (before ++ more) fault) (sym is) refused))
-    (c.take_indices.ensures.refused c.in-Indices.signed c.in-Indices.id before (laid_as known limits layout own before is h.0))
+    (λ fault refused. own_refused limits layout children bare (λ j. values) fault
+    (subst (λ (lay : Layout). IsPushRefused limits lay values fault) (sym is) refused))
+    (c.take_indices.ensures.refused c.in-Indices.signed c.in-Indices.id (laid_as known limits layout own [] is h.0))

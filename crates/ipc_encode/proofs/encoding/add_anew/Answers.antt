@@ -1,4 +1,4 @@
-use Rattle.std.proofs.Common.{◌∙◌, ap, ℕ, List, [], ◌++◌, length, ℤ}
+use Rattle.std.proofs.Common.{◌∙◌, ap, ℕ, List, ◌++◌, length, ℤ}
 use Rattle.std.proofs.lemmas.Result.{err_from_is_err_and}
 use Rattle.ipc_column.specs.Shapes.{bare, field, field_shape}
 use Rattle.ipc_encode.specs.Buffers.{buffers_with, nodes_of, padded, ranges_from}
@@ -16,7 +16,7 @@ returns-in_err-take_column-clause-refused g c =
     let values = cells c.args.column c.args.batch.now.rows in
     let p = err_from_is_err_and c.from_residual-in_err-take_column.result c.from_residual-in_err-take_column.ensures.1 in
     rw (p.1, p.2) (pushes_refused limits c.args.draft.now.len (field lay ch bare) (λ j. values) c.in_err-take_column.field-0.0
-    (c.in_err-take_column.ensures.refused lay ch [] (c.in_ok-node.ensures known limits)))
+    (c.in_err-take_column.ensures.refused lay ch (c.in_ok-node.ensures known limits)))
 
 pub returns-in_err-add_draft-clause-refused : goal.returns-in_err-add_draft-clause-refused
 returns-in_err-add_draft-clause-refused g c =
@@ -26,7 +26,7 @@ returns-in_err-add_draft-clause-refused g c =
     let lay = (field_shape c.args.of.now).0 in
     let ch = (field_shape c.args.of.now).1 in
     let values = cells c.args.column c.args.batch.now.rows in
-    let held = c.in_ok-take_column.ensures.taken lay ch [] (c.in_ok-node.ensures known limits) in
+    let held = c.in_ok-take_column.ensures.taken lay ch (c.in_ok-node.ensures known limits) in
     let made = c.in_ok-add_node.ensures.adds known limits lay ch values held in
     let bs = buffers_with other (field lay ch bare) (λ j. values) in
     let p = err_from_is_err_and c.from_residual-in_err-add_draft.result c.from_residual-in_err-add_draft.ensures.1 in
@@ -44,7 +44,7 @@ returns-clause-adds g c =
     let lay = (field_shape c.args.of.now).0 in
     let ch = (field_shape c.args.of.now).1 in
     let values = cells c.args.column c.args.batch.now.rows in
-    let held = c.in_ok-take_column.ensures.taken lay ch [] (c.in_ok-node.ensures known limits) in
+    let held = c.in_ok-take_column.ensures.taken lay ch (c.in_ok-node.ensures known limits) in
     let nodes = c.in_ok-add_node.ensures.nodes known limits lay ch values held in
     let made = c.in_ok-add_node.ensures.adds known limits lay ch values held in
     let all = nodes_of (field lay ch bare) (λ j. values) in

@@ -20,5 +20,5 @@ loop-slot-preserved c = λ none.
     let count = flags_length Valid (take slot view) in
     let value = get_or_from_slice_get view slot _ Null c.at-shown.ensures.value in
     c.in_ok-push_bit.ensures (flags Valid (take slot view)) (omega (arith, front, count)) (c.loop-slot.invariant none)
-    ∙ ap bitmap (flags_next Valid [] view slot c.is_valid.result inside (c.is_valid.ensures (row (below c.args.view.now)) slot ∙ ap
+    ∙ ap bitmap (flags_next Valid view slot c.is_valid.result inside (c.is_valid.ensures (row (below c.args.view.now)) slot ∙ ap
     (is_set Valid) (sym value)))

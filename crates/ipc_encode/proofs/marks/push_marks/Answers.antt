@@ -18,7 +18,7 @@ loop-slot-preserved c = λ values size marks none.
     let count = flags_length Valid (take slot values) in
     c.in_ok-push_bit.ensures (flags Valid (take slot values)) (omega (arith, front, count))
     (c.loop-slot.invariant values size marks none)
-    ∙ ap bitmap (flags_next Valid [] values slot c.is_marked_valid.result (omega (arith, size, c.loop-slot-test.true))
+    ∙ ap bitmap (flags_next Valid values slot c.is_marked_valid.result (omega (arith, size, c.loop-slot-test.true))
     (c.is_marked_valid.ensures ∙ sym (marks.each slot (omega (arith, size, c.loop-slot-test.true)))))
 
 pub returns : goal.returns
