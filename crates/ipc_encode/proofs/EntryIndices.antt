@@ -1,7 +1,7 @@
 -- The indices of values, of which null has none.
 use Rattle.std.proofs.Common.{◌≡◌, ◌∙◌, refl, ap, ℕ, zero, suc, ◌<◌, Bool, List, [], ◌∷◌, Option, length, get_or}
 use Rattle.std.proofs.Common.{arith}
-use Rattle.std.proofs.Common.{◌-◌, ◌*◌, ℤ}
+use Rattle.std.proofs.Common.{◌*◌, ℤ}
 use Rattle.std.specs.Prelude.{is_some, not}
 use Rattle.ipc_model.specs.Layouts.{number_bytes}
 use Rattle.ipc_model.specs.declared.layout.Layout.TheVariants as l

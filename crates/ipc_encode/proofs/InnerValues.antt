@@ -1,5 +1,5 @@
 -- What stands inside a value of a type, and what it weighs in the columns of the children.
-use Rattle.std.proofs.Common.{◌≡◌, ◌∙◌, refl, sym, ap, ℕ, ◌-◌, List, [], ◌∷◌, length}
+use Rattle.std.proofs.Common.{◌≡◌, ◌∙◌, refl, sym, ap, ℕ, List, [], ◌∷◌, length}
 use Rattle.std.proofs.Common.{true, false, arith, Option, Some, None}
 use Rattle.std.specs.Prelude.{IsSome, Bool}
 use Rattle.std.specs.List.{AllByRecursion}

@@ -12,7 +12,6 @@ use Rattle.ipc_model.specs.WellFormed.{HasFittingChildren, IsFieldWellFormed, Is
 use Rattle.ipc_model.specs.Layouts.{layout}
 use Rattle.ipc_model.specs.declared.layout.Layout.{Layout}
 use Rattle.ipc_model.specs.declared.limits.Limits.{Limits}
-use Rattle.ipc_model.specs.declared.schema.DataType.{DataType}
 use Rattle.ipc_model.specs.declared.schema.Field.{Field, out-Field}
 use Rattle.ipc_model.specs.declared.schema.Field.TheFolds.{fold_out-Field}
 use Rattle.ipc_model.specs.declared.value.Value.{Value, out-Value}

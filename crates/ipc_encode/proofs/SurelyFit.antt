@@ -1,5 +1,5 @@
 -- Columns whose values are surely within the limits.
-use Rattle.std.proofs.Common.{◌≡◌, sym, subst, ℕ, zero, suc, ◌+◌, ◌-◌, ◌*◌, ◌≤◌, List, [], ◌∷◌, length, get_or}
+use Rattle.std.proofs.Common.{◌≡◌, sym, subst, ℕ, zero, suc, ◌+◌, ◌*◌, ◌≤◌, List, [], ◌∷◌, length, get_or}
 use Rattle.std.proofs.Common.{Bool, cond, true, false, arith}
 use Rattle.std.specs.Prelude.{◌==◌, ⊤}
 use Rattle.ipc_model.specs.declared.limits.Limits.{Limits}
