@@ -1,7 +1,7 @@
 -- Columns that stand alone, as the values of dictionaries.
-use Rattle.std.proofs.Common.{◌≡◌, ◌∙◌, refl, sym, ap, subst, ℕ, zero, suc, ◌+◌, ◌<◌, ◌≤◌, Bool, true, false, List, [], ◌∷◌, ◌++◌, length}
+use Rattle.std.proofs.Common.{◌≡◌, ◌∙◌, refl, sym, ap, subst, ℕ, zero, suc, ◌+◌, ◌<◌, Bool, true, false, List, [], ◌∷◌, ◌++◌, length}
 use Rattle.std.proofs.Common.{map}
-use Rattle.std.proofs.Common.{get_or, arith, add-one, Option, Some, None, cond}
+use Rattle.std.proofs.Common.{get_or, arith, Option, Some, None, cond}
 use Rattle.std.specs.Prelude.{ℤ, pos, negsuc, slice_get, slice_index_or, nat_lt, not, ◌||◌}
 use Rattle.std.specs.List.{AllByRecursion}
 use Rattle.std.specs.Map.{lookup}
@@ -25,17 +25,19 @@ use Rattle.ipc_column.specs.declared.batch.Shared.{Shared}
 use Rattle.ipc_column.specs.declared.dictionary.Leaf.{Leaf}
 use Rattle.ipc_column.specs.declared.ranges.ColumnRanges.{ColumnRanges}
 use Rattle.ipc_column.specs.declared.ranges.ColumnRanges.TheViews.{out-ColumnRanges}
-use Rattle.ipc_column.specs.Checks.{Holds, are_long, good, good_below, good_slot, in_order}
+use Rattle.ipc_column.specs.Checks.{Holds, are_long, good, good_below, in_order}
 use Rattle.ipc_column.specs.Columns.{Column, Columns, none, column}
 use Rattle.ipc_column.specs.Contents.{Contents}
-use Rattle.ipc_column.specs.Dictionaries.{IsDictionary, dictionaries_in, dictionary_values, stands_alone, values_for}
-use Rattle.ipc_column.specs.Leaves.{IsLeaf, leaf_column, leaf_values}
-use Rattle.ipc_column.specs.Lending.{AreAlone, layouts_of}
+use Rattle.ipc_column.specs.DictionaryBatches.{IsDictionary, dictionaries_in, dictionary_values}
+use Rattle.ipc_column.specs.Dictionaries.{stands_alone, values_for}
+use Rattle.ipc_column.specs.Leaves.{leaf_column, leaf_values}
+use Rattle.ipc_column.specs.Lending.{AreAlone}
 use Rattle.ipc_column.specs.Lent.{HoldSlots, found, values_in}
 use Rattle.ipc_column.specs.Values.{first_of, is_valid, items, own_value, place_below, row, rows_of, value_at, value_of}
 use Rattle.ipc_column.specs.Sharing.{contents_of}
 use Rattle.ipc_column.specs.Views.{columns, column_of, children_of, own_column}
 use Rattle.ipc_column.proofs.Cells.{items_more}
+use Rattle.ipc_column.proofs.Lent.{nested_layouts}
 use Rattle.ipc_column.proofs.Found.{column_holds, column_slots, items_first}
 use Rattle.ipc_column.proofs.Parts.{column_is}
 use Rattle.ipc_column.proofs.Slots.{items_length}
@@ -182,10 +184,10 @@ module _ (body : List ℕ) (ps : List ColumnRanges) (n : ℕ) (p : ColumnRanges)
 
 -- a batch of one column that stands alone is a dictionary
 pub as_dictionary : (s : Shared) → AreAlone (columns s.body.value.items s.parts.items) → IsDictionary (contents_of s)
-as_dictionary s a = record { layout = a.layout; one = a.one; alone = a.alone }
+as_dictionary s a = record { layout = a.layout; one = nested_layouts s.body.value.items s.parts.items ∙ a.one; alone = a.alone }
 
 pub from_dictionary : (s : Shared) → IsDictionary (contents_of s) → AreAlone (columns s.body.value.items s.parts.items)
-from_dictionary s d = record { layout = d.layout; one = d.one; alone = d.alone }
+from_dictionary s d = record { layout = d.layout; one = sym (nested_layouts s.body.value.items s.parts.items) ∙ d.one; alone = d.alone }
 
 -- ---- values of a dictionary
 

@@ -1,5 +1,5 @@
 -- Numbers that are lent are those of the slots.
-use Rattle.std.proofs.Common.{◌≡◌, ◌∙◌, refl, sym, ap, subst, ℕ, zero, suc, ◌+◌, ◌*◌, ◌<◌, Bool, true, false, List, [], ◌∷◌, length, map}
+use Rattle.std.proofs.Common.{◌≡◌, ◌∙◌, refl, sym, ap, subst, ℕ, zero, suc, ◌+◌, ◌<◌, Bool, true, false, List, [], ◌∷◌, length, map}
 use Rattle.std.proofs.Common.{get_or, arith, Some}
 use Rattle.std.specs.Prelude.{slice_get}
 use Rattle.std.proofs.lemmas.Bool.{leb-true}
@@ -17,7 +17,7 @@ use Rattle.ipc_column.specs.Columns.{Column, Columns}
 use Rattle.ipc_column.specs.Dictionaries.{Dictionaries}
 use Rattle.ipc_column.specs.Lending.{AreNumbers, layouts_of, number_of}
 use Rattle.ipc_column.specs.Lent.{AreFound, AreOfColumn, HoldSlots, refound, values_in}
-use Rattle.ipc_column.specs.Nested.{Nested, alone, slot_values}
+use Rattle.ipc_column.specs.Nested.{Nested, alone, found_columns, slot_values, with_children}
 use Rattle.ipc_column.specs.Rules.{SpellsTexts}
 use Rattle.ipc_column.specs.Shapes.{shape_of, cut, field_layout, field_children, nodes_in, buffers_in}
 use Rattle.ipc_column.specs.Slots.{nested}
@@ -44,6 +44,20 @@ pub layout_at : (body : List ℕ) (ps : List ColumnRanges) (j : ℕ) (p : Column
 layout_at body [] j p l e = absurd (omega arith)
 layout_at body (q ∷ ps) zero p l e = ap (λ (x : ColumnRanges). Some (column_of body x).layout) (sym e)
 layout_at body (q ∷ ps) (suc j) p l e = layout_at body ps j p (omega arith) e
+
+-- how parts lie, one by one
+pub nested_layouts : (body : List ℕ) (ps : List ColumnRanges)
+    → map (λ (n : Nested). n.column.layout) (map (nested body) ps) ≡ layouts_of (columns body ps)
+nested_layouts body [] = refl
+nested_layouts body (p ∷ ps) = ap (λ (ls : List Layout). (column_of body p).layout ∷ ls) (nested_layouts body ps)
+
+-- the columns of parts, one by one
+pub nested_columns : (body : List ℕ) (ps : List ColumnRanges)
+    → map with_children (map (nested body) ps) ≡ found_columns (columns body ps)
+nested_columns body [] = refl
+nested_columns body (p ∷ ps) =
+    ap (λ (cs : Columns). (refound (column_of body p), cs) ∷ map with_children (map (nested body) ps)) (sym (children_out body p))
+    ∙ ap (λ (rest : List (Column × Columns)). (refound (column_of body p), children_of body p) ∷ rest) (nested_columns body ps)
 
 -- nothing but its bytes is asked for a number
 alike : (bits : IntBits) (signed : Bool) (d : List Value) (below : ℕ → List Value) (o w : List ℕ) (i : ℕ)

@@ -15,6 +15,7 @@ pub mod Marks
 pub mod Nested
 pub mod Slots
 pub mod Contents
+pub mod DictionaryBatches
 pub mod Sharing
 pub mod Lending
 pub mod Plain

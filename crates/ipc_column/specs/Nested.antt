@@ -1,9 +1,9 @@
 -- A column over a body, with those of its children (Arrow Columnar Format, "Physical Memory
 -- Layout").
-use Rattle.std.specs.Prelude.{ℕ, List}
+use Rattle.std.specs.Prelude.{ℕ, List, [], ◌∷◌}
 use Rattle.ipc_column.specs.declared.ranges.ColumnRanges.{ColumnRanges}
 use Rattle.ipc_column.specs.Columns.{Column, Columns, column, none}
-use Rattle.ipc_column.specs.Lent.{values_in}
+use Rattle.ipc_column.specs.Lent.{refound, values_in}
 use Rattle.ipc_column.specs.Values.{Cells}
 use Rattle.ipc_column.specs.Views.{columns}
 
@@ -24,3 +24,12 @@ alone n = column n.column (below n) none
 -- the values of all its slots, also of slots that no row refers to
 abbrev pub slot_values : Nested → Cells
 slot_values n = values_in n.column (below n)
+
+-- the column, and the columns of its children
+abbrev pub with_children : Nested → Column × Columns
+with_children n = (n.column, below n)
+
+-- each of the columns, its null count set to 0, and the columns of its children
+abbrev pub found_columns : Columns → List (Column × Columns)
+found_columns none = []
+found_columns (column c children rest) = (refound c, children) ∷ found_columns rest

@@ -1,19 +1,19 @@
 -- What the clones of a batch share, as values in contracts.
-use Rattle.std.specs.Prelude.{length}
+use Rattle.std.specs.Prelude.{length, map}
 use Rattle.ipc_column.specs.declared.batch.Shared.{Shared}
 use Rattle.ipc_column.specs.Contents.{Contents}
-use Rattle.ipc_column.specs.Lending.{layouts_of}
 use Rattle.ipc_column.specs.Checks.{Holds}
+use Rattle.ipc_column.specs.Slots.{nested}
 use Rattle.ipc_column.specs.Values.{rows_of}
 use Rattle.ipc_column.specs.Views.{columns}
 
--- the contents of a shared batch: its rows, the layouts of its columns, its body with its length,
+-- the contents of a shared batch: its rows, its columns over its body, the body with its length,
 -- and the number of visited slots
 abbrev pub contents_of : Shared → Contents
 contents_of s = record {
   rows = rows_of (columns s.body.value.items s.parts.items) s.count;
   columns = length s.parts.items;
-  layouts = layouts_of (columns s.body.value.items s.parts.items);
+  slots = map (nested s.body.value.items) s.parts.items;
   body = s.body.value.items;
   body_len = length s.body.value.items;
   tests = s.slot_tests;

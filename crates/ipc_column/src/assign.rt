@@ -3,7 +3,8 @@ ghost use Rattle.ipc_model.specs.Layouts.{own_buffers};
 ghost use Rattle.ipc_column.specs.Shapes.{cut, shape_of, field_layout, field_children, nodes_in};
 ghost use Rattle.ipc_column.specs.Shapes.{buffers_in, column_at, buffer_at, validity_at};
 ghost use Rattle.ipc_column.specs.Shapes.{dictionary_at, offsets_at, values_at};
-ghost use Rattle.ipc_column.specs.Dictionaries.{AreDictionaries, dictionaries_in, values_for};
+ghost use Rattle.ipc_column.specs.DictionaryBatches.{AreDictionaries, dictionaries_in};
+ghost use Rattle.ipc_column.specs.Dictionaries.{values_for};
 ghost use Rattle.ipc_column.specs.Views.{columns, column_of, children_of};
 ghost use Rattle.ipc_column.specs.Spans.{span_bytes};
 

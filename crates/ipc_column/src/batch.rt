@@ -4,12 +4,13 @@ ghost use Rattle.std.specs.Prelude.{slice_index_or};
 ghost use Rattle.std.specs.List.{AllByRecursion};
 ghost use Rattle.ipc_model.specs.declared.value.Value.{Value};
 ghost use Rattle.ipc_model.specs.Entries.{entries};
-ghost use Rattle.ipc_column.specs.Nested.{alone, slot_values};
+ghost use Rattle.ipc_column.specs.Contents.{layouts};
+ghost use Rattle.ipc_column.specs.Nested.{alone, found_columns, slot_values, with_children};
 ghost use Rattle.ipc_column.specs.Rules.{SpellsTexts, visits_in, slots_in};
 ghost use Rattle.ipc_column.specs.Shapes.{shape_of, nodes_in, columns_of, cut, field_layout};
 ghost use Rattle.ipc_column.specs.Rows.{Rows, RefusesParts, IsOneList};
-ghost use Rattle.ipc_column.specs.Dictionaries.{AreDictionaries, IsDictionary, dictionaries_in};
-ghost use Rattle.ipc_column.specs.Dictionaries.{dictionary_values};
+ghost use Rattle.ipc_column.specs.DictionaryBatches.{AreDictionaries, IsDictionary};
+ghost use Rattle.ipc_column.specs.DictionaryBatches.{dictionaries_in, dictionary_values};
 ghost use Rattle.ipc_column.specs.Sharing.{contents_of, HasRows};
 ghost use Rattle.ipc_column.specs.Checks.{Passing, Failing};
 ghost use Rattle.ipc_column.specs.Lent.{AreOfColumn};
@@ -51,12 +52,13 @@ struct Shared {
 impl Model for Batch {
     ghost use Rattle.std.specs.Prelude.{length};
     ghost use Rattle.std.specs.Coded.{codes};
+    ghost use Rattle.ipc_column.specs.contracts.ranges.ColumnRanges as ranges;
     ghost use Rattle.ipc_model.specs.contracts.value.Value as value;
     ghost use Rattle.ipc_column.specs.Contents.{Contents};
 
     ghost Value = { Contents };
 
-    ghost coded = { Prim.hlevel (codes, value.the_row.coded) };
+    ghost coded = { Prim.hlevel (codes, ranges.the_row.coded, value.the_row.coded) };
 
     ghost use Rattle.ipc_column.specs.Sharing.{contents_of, HasRows};
 
@@ -89,7 +91,10 @@ fn read(
     ensures passing { IfOk result (λ batch. Passing limits.now (dictionaries_in dictionaries.now)
         (shape_of fields.now) head.now body.items batch.rows) }
     ensures columns { IfOk result (λ batch. batch.columns ≡ length fields.now) }
-    ensures layouts { IfOk result (λ batch. batch.layouts ≡ map field_layout fields.now) }
+    ensures layouts { IfOk result (λ batch. layouts batch ≡ map field_layout fields.now) }
+    ensures buffers { IfOk result (λ batch. map with_children batch.slots
+        ≡ found_columns (cut (dictionaries_in dictionaries.now) (shape_of fields.now) head.now
+        body.items 0 0)) }
     ensures body { IfOk result (λ batch. batch.body_len ≡ length body.items) }
     ensures bytes { IfOk result (λ batch. batch.body ≡ body.items) }
     ensures visits { IfOk result (λ batch. batch.tests
@@ -174,7 +179,11 @@ impl Batch {
         ensures columns { IfOk result (λ batch. batch.columns ≡ length fields.value.items) }
         // Each column has the layout of its field's type.
         ensures layouts { IfOk result
-            (λ batch. batch.layouts ≡ map field_layout fields.value.items) }
+            (λ batch. layouts batch ≡ map field_layout fields.value.items) }
+        // Each column has, as its descendants have, the buffers that the head locates in the body.
+        ensures buffers { IfOk result (λ batch. map with_children batch.slots
+            ≡ found_columns (columns_of (dictionaries_in dictionaries.now) fields.value.items head
+            body.items)) }
         ensures body { IfOk result (λ batch. batch.body_len ≡ length body.items) }
         // The batch keeps the body as it is.
         ensures bytes { IfOk result (λ batch. batch.body ≡ body.items) }
@@ -215,7 +224,11 @@ impl Batch {
             fields.now head body.items) }
         ensures columns { IfOk result (λ batch. batch.columns ≡ length fields.now) }
         // Each column has the layout of its field's type.
-        ensures layouts { IfOk result (λ batch. batch.layouts ≡ map field_layout fields.now) }
+        ensures layouts { IfOk result (λ batch. layouts batch ≡ map field_layout fields.now) }
+        // Each column has, as its descendants have, the buffers that the head locates in the body.
+        ensures buffers { IfOk result (λ batch. map with_children batch.slots
+            ≡ found_columns (columns_of (dictionaries_in dictionaries.now) fields.now head
+            body.items)) }
         ensures body { IfOk result (λ batch. batch.body_len ≡ length body.items) }
         // The batch keeps the body as it is.
         ensures bytes { IfOk result (λ batch. batch.body ≡ body.items) }
@@ -315,7 +328,9 @@ impl Batch {
     /// without a `Cell` for each.
     pub fn slots(&self, column: usize) -> SlotView<'_>
         requires { column < self.now.columns }
-        ensures layout { slice_get self.now.layouts column ≡ Some result.column.layout }
+        // It is the column with this number, with its buffers in the body.
+        ensures column { slice_get self.now.slots column ≡ Some result }
+        ensures layout { slice_get (layouts self.now) column ≡ Some result.column.layout }
         ensures values { AreOfColumn self.now.rows column (slot_values result) }
         // Each text that they lead to is UTF-8.
         ensures texts { (i : ℕ) → i < length (slot_values result) → SpellsTexts (alone result) i }

@@ -1,7 +1,7 @@
 //! The slots of a column and of its descendants, whose buffers are found in the body once.
 ghost use Rattle.std.specs.Prelude.{◌≡◌, ◌<◌, ℕ, List, length, slice_get, Some, true, IfSome};
 ghost use Rattle.std.specs.Prelude.{is_some, slice_index, take, ◌≤◌, ◌+◌, ◌*◌, ℤ, Bool, []};
-ghost use Rattle.std.specs.Prelude.{IfNone};
+ghost use Rattle.std.specs.Prelude.{IfNone, map};
 ghost use Rattle.std.specs.List.{AllByRecursion};
 ghost use Rattle.ipc_scalar.specs.Bytes.{clear};
 ghost use Rattle.ipc_model.specs.declared.schema.IntBits.{IntBits};
@@ -14,7 +14,6 @@ ghost use Rattle.ipc_column.specs.Checks.{Holds, are_long, holds_offsets, holds_
 ghost use Rattle.ipc_column.specs.Checks.{are_ascending};
 ghost use Rattle.ipc_column.specs.Dictionaries.{stands_alone};
 ghost use Rattle.ipc_column.specs.Lending.{AreBuffers, AreNumbers, HoldsEntry, are_numbers};
-ghost use Rattle.ipc_column.specs.Lending.{layouts_of};
 ghost use Rattle.ipc_column.specs.Lent.{AreFound, AreOfColumn, found};
 ghost use Rattle.ipc_column.specs.Slots.{LeadsInside, is_null, nested, nested_in, shown};
 ghost use Rattle.ipc_column.specs.Slots.{text_shown};
@@ -456,7 +455,8 @@ pub(crate) fn slots_in<'a>(
 ) -> SlotView<'a>
     requires holds { Holds rows (columns body.now parts.now) }
     requires column { column < length parts.now }
-    ensures layout { slice_get (layouts_of (columns body.now parts.now)) column
+    ensures column { slice_get (map (nested body.now) parts.now) column ≡ Some result }
+    ensures layout { slice_get (map (λ n. n.column.layout) (map (nested body.now) parts.now)) column
         ≡ Some result.column.layout }
     ensures values { AreOfColumn (rows_of (columns body.now parts.now) rows) column
         (slot_values result) }

@@ -19,8 +19,9 @@ use Rattle.ipc_model.specs.declared.limits.Limits.{Limits}
 use Rattle.ipc_model.specs.declared.schema.DataType.{DataType}
 use Rattle.ipc_model.specs.declared.schema.Field.{Field, fold-roll-Field}
 use Rattle.ipc_model.specs.declared.schema.Schema.{Schema}
-use Rattle.ipc_column.specs.Contents.{Contents}
-use Rattle.ipc_column.specs.Dictionaries.{IsDictionary, dictionaries_in, dictionary_values, stands_alone}
+use Rattle.ipc_column.specs.Contents.{Contents, layouts}
+use Rattle.ipc_column.specs.DictionaryBatches.{IsDictionary, dictionaries_in, dictionary_values}
+use Rattle.ipc_column.specs.Dictionaries.{stands_alone}
 use Rattle.ipc_column.specs.Shapes.{field_layout}
 use Rattle.ipc_model.specs.declared.value.Value.{Value}
 use Rattle.ipc_dictionaries.specs.InForce.{in_force, put, total}
@@ -87,24 +88,24 @@ found_alone (c ∷ cs) id columns h found =
       | false ↦ λ later. found_alone cs id columns parts.1 later
     ]) found
 
-alone_dictionary : (columns : List Field) (values : Contents) → is_alone columns ≡ true → values.layouts ≡ map field_layout columns
+alone_dictionary : (columns : List Field) (values : Contents) → is_alone columns ≡ true → layouts values ≡ map field_layout columns
     → IsDictionary values
-alone_dictionary [] values h layouts = absurd (cc)
-alone_dictionary (f ∷ []) values h layouts = record { layout = field_layout f; one = layouts; alone = h }
-alone_dictionary (f ∷ g ∷ fs) values h layouts = absurd (cc)
+alone_dictionary [] values h lie = absurd (cc)
+alone_dictionary (f ∷ []) values h lie = record { layout = field_layout f; one = lie; alone = h }
+alone_dictionary (f ∷ g ∷ fs) values h lie = absurd (cc)
 
 -- a batch of such a column is a dictionary's values
 pub gives_dictionary : (cs : List (ℤ × List Field)) (id : ℤ) (columns : List Field) (values : Contents) → are_alone cs ≡ true
-    → columns_for cs id ≡ Some columns → values.layouts ≡ map field_layout columns → IsDictionary values
-gives_dictionary cs id columns values alone found layouts = alone_dictionary columns values (found_alone cs id columns alone found) layouts
+    → columns_for cs id ≡ Some columns → layouts values ≡ map field_layout columns → IsDictionary values
+gives_dictionary cs id columns values alone found lie = alone_dictionary columns values (found_alone cs id columns alone found) lie
 
 -- so is what is answered for it
 pub answers_dictionary : (r : Result Contents Fault) (cs : List (ℤ × List Field)) (id : ℤ) (columns fields : List Field) → fields ≡ columns
-    → are_alone cs ≡ true → columns_for cs id ≡ Some columns → IfOk r (λ values. values.layouts ≡ map field_layout fields)
+    → are_alone cs ≡ true → columns_for cs id ≡ Some columns → IfOk r (λ values. layouts values ≡ map field_layout fields)
     → IfOk r (λ values. IsDictionary values)
-answers_dictionary (Ok values) cs id columns fields same alone found layouts =
-    gives_dictionary cs id columns values alone found (layouts ∙ ap (map field_layout) same)
-answers_dictionary (Err e) cs id columns fields same alone found layouts = tt
+answers_dictionary (Ok values) cs id columns fields same alone found lie =
+    gives_dictionary cs id columns values alone found (lie ∙ ap (map field_layout) same)
+answers_dictionary (Err e) cs id columns fields same alone found lie = tt
 
 -- in a schema that keeps the rules each dictionary has one
 pub schema_alone : (limits : Limits) (s : Schema) → WellFormed limits s → are_alone (columns_in s.fields) ≡ true

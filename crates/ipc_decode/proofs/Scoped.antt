@@ -10,7 +10,7 @@ use Rattle.ipc_meta.specs.declared.head.Head.TheVariants as h
 use Rattle.ipc_frame.specs.declared.frame.Frame.{Frame as Framed}
 use Rattle.ipc_frame.specs.declared.frame.Frame.TheVariants as f
 use Rattle.ipc_column.specs.Contents.{Contents}
-use Rattle.ipc_column.specs.Dictionaries.{dictionary_values}
+use Rattle.ipc_column.specs.DictionaryBatches.{dictionary_values}
 use Rattle.ipc_dictionaries.specs.Applied.{Applied}
 use Rattle.ipc_dictionaries.specs.InForce.{put}
 use Rattle.ipc_decode.specs.declared.event.Event.TheVariants as told

@@ -4,7 +4,7 @@ use Rattle.std.specs.Prelude.{◌≡◌, ℤ, List, map, Option, Some, None}
 use Rattle.std.specs.Option.{ForSome}
 use Rattle.ipc_model.specs.declared.limits.Limits.{Limits}
 use Rattle.ipc_column.specs.Contents.{Contents}
-use Rattle.ipc_column.specs.Dictionaries.{dictionary_values}
+use Rattle.ipc_column.specs.DictionaryBatches.{dictionary_values}
 use Rattle.ipc_decode.specs.declared.scope.Scope.{Scope}
 use Rattle.ipc_decode.specs.Stream.{DictionaryInForce, InForce, State}
 

@@ -1,6 +1,6 @@
 ghost use Rattle.std.specs.Prelude.{◌≡◌, IfOk, IfErr, Some, length};
 ghost use Rattle.ipc_model.specs.WellFormed.{WellFormed};
-ghost use Rattle.ipc_column.specs.Dictionaries.{IsDictionary};
+ghost use Rattle.ipc_column.specs.DictionaryBatches.{IsDictionary};
 ghost use Rattle.ipc_column.specs.Rows.{RefusesParts, Rows};
 ghost use Rattle.ipc_decode.specs.Courses.{GivesValues, RefusesValues, SetsValues};
 ghost use Rattle.ipc_decode.specs.Decoding.{dictionary_bytes};

@@ -13,7 +13,7 @@ use Rattle.std.specs.List.{sum_by, AllByRecursion}
 use Rattle.std.proofs.lemmas.List.Sums.{sum_by-cons}
 use Rattle.std.proofs.lemmas.Map.Made.{lookup-map_values}
 use Rattle.ipc_column.specs.Contents.{Contents}
-use Rattle.ipc_column.specs.Dictionaries.{IsDictionary}
+use Rattle.ipc_column.specs.DictionaryBatches.{IsDictionary}
 use Rattle.ipc_dictionaries.specs.InForce.{put, in_force, total, body_of, AreValues}
 
 module _ {X Z : Type 0} where

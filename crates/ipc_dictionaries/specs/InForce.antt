@@ -8,7 +8,7 @@ use Rattle.std.specs.Option.{option_map, unwrap_or}
 use Rattle.std.specs.BTreeMap.{BTreeMap, insert_entry, is_at}
 use Rattle.std.specs.declared.rc.Rc.{Rc}
 use Rattle.ipc_column.specs.Contents.{Contents}
-use Rattle.ipc_column.specs.Dictionaries.{IsDictionary}
+use Rattle.ipc_column.specs.DictionaryBatches.{IsDictionary}
 
 module _ {X : Type 0} where
   -- the map after v is set for the id

@@ -1,6 +1,6 @@
 //! The dictionaries that a reader has in force.
 ghost use Rattle.std.specs.Prelude.{◌≡◌, [], IfOk, IfErr, OnOk, OnErr, option_copied};
-ghost use Rattle.ipc_column.specs.Dictionaries.{AreDictionaries, IsDictionary};
+ghost use Rattle.ipc_column.specs.DictionaryBatches.{AreDictionaries, IsDictionary};
 ghost use Rattle.ipc_dictionaries.specs.InForce.{put, in_force, total, body_of};
 ghost use Rattle.ipc_dictionaries.specs.ValuesColumns.{columns_in, columns_for};
 

@@ -2,7 +2,7 @@
 ghost use Rattle.std.specs.Prelude.{◌≡◌, ◌≤◌, None, Some, length, true, false, slice_get, IfErr};
 ghost use Rattle.std.specs.Prelude.{IfOk, IfSome, MatchOption};
 ghost use Rattle.ipc_model.specs.Entries.{entries};
-ghost use Rattle.ipc_column.specs.Dictionaries.{AreDictionaries, dictionaries_in};
+ghost use Rattle.ipc_column.specs.DictionaryBatches.{AreDictionaries, dictionaries_in};
 ghost use Rattle.ipc_explain.specs.ColumnsAlone.{FirstAlone, IsRefusedAs, NoneAlone, Passes};
 ghost use Rattle.ipc_explain.specs.ColumnsAlone.{column_head, part};
 

@@ -1,7 +1,7 @@
 //! The lines that explain the refusal of a message.
 ghost use Rattle.std.specs.Prelude.{◌≡◌, ◌≤◌, ◌++◌, [], List, drop, length, IfErr, IfOk, OnOk};
 ghost use Rattle.ipc_model.specs.Entries.{entries};
-ghost use Rattle.ipc_column.specs.Dictionaries.{AreDictionaries, dictionaries_in};
+ghost use Rattle.ipc_column.specs.DictionaryBatches.{AreDictionaries, dictionaries_in};
 ghost use Rattle.ipc_explain.specs.ColumnLines.{NamesColumn};
 ghost use Rattle.ipc_explain.specs.Explained.{ExplainsBatch, ExplainsFirst, ExplainsLater};
 ghost use Rattle.ipc_decode.specs.Stream.{values_in};

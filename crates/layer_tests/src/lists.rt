@@ -1,6 +1,6 @@
 //! Columns of lists and structs that no stream in `cases/` can show: how many slots are tested, and
 //! what is lent of those below.
-ghost use Rattle.ipc_column.specs.Dictionaries.{AreDictionaries};
+ghost use Rattle.ipc_column.specs.DictionaryBatches.{AreDictionaries};
 
 use crate::nested::{LISTS_OF_LISTS, list, row_of};
 use ipc_column::{Batch, Cell, Slot, SlotView};

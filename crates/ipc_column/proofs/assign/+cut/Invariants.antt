@@ -1,6 +1,6 @@
 use Rattle.std.proofs.Common.{◌≡◌, ◌+◌, ℕ, List, length, drop}
 use Rattle.ipc_column.specs.Columns.{beside}
-use Rattle.ipc_column.specs.Dictionaries.{dictionaries_in}
+use Rattle.ipc_column.specs.DictionaryBatches.{dictionaries_in}
 use Rattle.ipc_column.specs.Views.{columns}
 use Rattle.ipc_column.specs.Shapes.{shape_of, nodes_in, buffers_in, cut}
 use Rattle.ipc_column.proofs.assign.+cut.Given as goal

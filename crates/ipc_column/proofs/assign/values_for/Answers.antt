@@ -4,8 +4,7 @@ use Rattle.std.specs.Ordering.{int_cmp}
 use Rattle.std.specs.BTreeMap.{is_at}
 use Rattle.std.proofs.lemmas.Int.{to_z-of_z}
 use Rattle.ipc_model.specs.declared.value.Value.{Value}
-use Rattle.ipc_column.specs.Contents.{Contents}
-use Rattle.ipc_column.specs.Dictionaries.{IsDictionary, dictionary_values}
+use Rattle.ipc_column.specs.DictionaryBatches.{IsDictionary, dictionary_values}
 use Rattle.ipc_column.proofs.Alone.{entry_found, values_found}
 use Rattle.ipc_column.proofs.assign.values_for.Goals as goal
 

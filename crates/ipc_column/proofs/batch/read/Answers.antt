@@ -2,10 +2,11 @@ use Rattle.std.proofs.Common.{◌≡◌, ◌∙◌, sym, ap, subst, true, arith,
 use Rattle.std.proofs.lemmas.Bool.{and_parts, eqb-true}
 use Rattle.ipc_column.specs.declared.cause.Cause.TheVariants as cause
 use Rattle.ipc_column.specs.Shapes.{shape_of}
-use Rattle.ipc_column.specs.Dictionaries.{dictionaries_in}
+use Rattle.ipc_column.specs.DictionaryBatches.{dictionaries_in}
 use Rattle.ipc_column.specs.Lending.{layouts_of}
 use Rattle.ipc_column.proofs.Fields.{buffers_most}
-use Rattle.ipc_column.proofs.Lent.{layouts_cut}
+use Rattle.ipc_column.proofs.Lent.{layouts_cut, nested_columns, nested_layouts}
+use Rattle.ipc_column.specs.Nested.{found_columns}
 use Rattle.ipc_column.specs.Checks.{all, all_pass, is_node, is_slot_count}
 use Rattle.ipc_column.specs.Columns.{Columns}
 use Rattle.ipc_column.proofs.Visits.{visits_most, slots_most}
@@ -90,8 +91,18 @@ returns-clause-slots c =
 pub returns-clause-layouts : goal.returns-clause-layouts
 returns-clause-layouts c =
     rw (c.in_ok-share.ensures, c.in_ok-new.ensures.ok)
-    (ap layouts_of (kept_columns c.args.body.items c.in_ok-parts.parts c.deref_mut.result.now c.check_columns.new.parts
+    (nested_layouts c.args.body.items _
+    ∙ ap layouts_of (kept_columns c.args.body.items c.in_ok-parts.parts c.deref_mut.result.now c.check_columns.new.parts
     c.deref_mut.ensures.value
     c.check_columns.auto.parts (rw c.deref.ensures.value at c.check_columns.ensures.columns)
     ∙ c.in_ok-parts.ensures.parts c.args.body.items)
     ∙ layouts_cut (dictionaries_in c.args.dictionaries.now) c.args.fields.now c.args.head.now c.args.body.items 0 0)
+
+pub returns-clause-buffers : goal.returns-clause-buffers
+returns-clause-buffers c =
+    rw (c.in_ok-share.ensures, c.in_ok-new.ensures.ok)
+    (nested_columns c.args.body.items _
+    ∙ ap found_columns (kept_columns c.args.body.items c.in_ok-parts.parts c.deref_mut.result.now c.check_columns.new.parts
+    c.deref_mut.ensures.value
+    c.check_columns.auto.parts (rw c.deref.ensures.value at c.check_columns.ensures.columns)
+    ∙ c.in_ok-parts.ensures.parts c.args.body.items))

@@ -1,7 +1,7 @@
 use Rattle.std.proofs.Common.{◌≡◌, ◌∙◌, ap, sym, subst, arith, refl, rules, ℕ, ◌+◌, List, length, IfSome}
 use Rattle.std.specs.Prelude.{ℤ}
 use Rattle.std.proofs.lemmas.Option.{slice_get_read}
-use Rattle.ipc_column.specs.Dictionaries.{dictionaries_in}
+use Rattle.ipc_column.specs.DictionaryBatches.{dictionaries_in}
 use Rattle.ipc_column.specs.Shapes.{buffers_in, nodes_in, shape_of}
 use Rattle.ipc_explain.specs.ColumnsAlone.{IsRefusedAs, Passes, column, column_head, part}
 use Rattle.ipc_explain.proofs.ColumnCounts.{buffers_before_most, buffers_few, buffers_none, buffers_step, column_few, head_of_column}

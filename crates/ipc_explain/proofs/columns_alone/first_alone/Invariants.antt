@@ -1,5 +1,5 @@
 use Rattle.std.proofs.Common.{◌≡◌, ◌<◌, ℕ, IfSome}
-use Rattle.ipc_column.specs.Dictionaries.{dictionaries_in}
+use Rattle.ipc_column.specs.DictionaryBatches.{dictionaries_in}
 use Rattle.ipc_explain.specs.ColumnsAlone.{Passes, buffers_before, column, column_head, nodes_before}
 use Rattle.ipc_explain.proofs.columns_alone.first_alone.Given as goal
 

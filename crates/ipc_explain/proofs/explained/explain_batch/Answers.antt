@@ -1,5 +1,5 @@
 use Rattle.std.proofs.Common.{arith}
-use Rattle.ipc_column.specs.Dictionaries.{dictionaries_in}
+use Rattle.ipc_column.specs.DictionaryBatches.{dictionaries_in}
 use Rattle.ipc_explain.proofs.Explaining.{nodes_counted}
 use Rattle.ipc_explain.proofs.ColumnCounts.{buffers_few, nodes_few}
 use Rattle.ipc_explain.proofs.explained.explain_batch.Goals as goal

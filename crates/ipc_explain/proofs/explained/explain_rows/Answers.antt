@@ -1,6 +1,6 @@
 use Rattle.std.proofs.Common.{[], subst}
 use Rattle.std.specs.Prelude.{IfOk}
-use Rattle.ipc_column.specs.Dictionaries.{dictionaries_in}
+use Rattle.ipc_column.specs.DictionaryBatches.{dictionaries_in}
 use Rattle.ipc_decode.proofs.Dictionaries.{shown_values}
 use Rattle.ipc_explain.specs.Explained.{ExplainsBatch}
 use Rattle.ipc_explain.proofs.explained.explain_rows.Goals as goal

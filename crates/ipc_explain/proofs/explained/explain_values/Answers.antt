@@ -1,7 +1,7 @@
 use Rattle.std.proofs.Common.{◌≡◌, ◌∙◌, [], Some, ap, map, subst, sym, w64}
 use Rattle.std.proofs.lemmas.Int.{to_z-of_z}
 use Rattle.std.specs.Prelude.{IfOk, MatchOption}
-use Rattle.ipc_column.specs.Dictionaries.{dictionaries_in, dictionary_values}
+use Rattle.ipc_column.specs.DictionaryBatches.{dictionaries_in, dictionary_values}
 use Rattle.ipc_dictionaries.specs.ValuesColumns.{columns_for, columns_in}
 use Rattle.ipc_explain.specs.Explained.{ExplainsBatch, dictionary_words}
 use Rattle.ipc_explain.proofs.explained.explain_values.Goals as goal

@@ -1,5 +1,5 @@
 use Rattle.std.proofs.Common.{sym, subst}
-use Rattle.ipc_column.specs.Dictionaries.{IsDictionary}
+use Rattle.ipc_column.specs.DictionaryBatches.{IsDictionary}
 use Rattle.ipc_column.proofs.Alone.{as_dictionary, from_dictionary}
 use Rattle.ipc_column.proofs.batch.Batch.is_dictionary.Goals as goal
 

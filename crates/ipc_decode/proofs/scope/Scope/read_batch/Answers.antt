@@ -1,6 +1,6 @@
 use Rattle.std.proofs.Common.{subst}
 use Rattle.std.specs.Prelude.{IfErr, IfOk}
-use Rattle.ipc_column.specs.Dictionaries.{dictionaries_in}
+use Rattle.ipc_column.specs.DictionaryBatches.{dictionaries_in}
 use Rattle.ipc_column.specs.Rows.{RefusesParts, Rows}
 use Rattle.ipc_decode.proofs.Dictionaries.{shown_values}
 use Rattle.ipc_decode.proofs.scope.Scope.read_batch.Goals as goal
