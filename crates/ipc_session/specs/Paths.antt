@@ -48,9 +48,9 @@ StopsBelow from [] = ⊥
 StopsBelow from (step ∷ rest) =
     StopsAt from step ⊎ ((next : Nested) × StepsTo from step next × StopsBelow next rest)
 
--- the slots of a column of the batch, with its layout and the values of its rows
+-- the column of the batch with this number, with its buffers and the values of its rows
 pub record IsColumn (b : Contents) (column : ℕ) (n : Nested) : Type 0 where
-  pub layout : slice_get b.layouts column ≡ Some n.column.layout
+  pub member : slice_get b.slots column ≡ Some n
   pub values : AreOfColumn b.rows column (slot_values n)
 
 -- a path leads from the column of its first number to a column by the other steps
