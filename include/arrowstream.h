@@ -6,9 +6,9 @@
  *
  * PROVED, by machine, for each call below: it is memory safe and returns on every input. Its
  * result, what it writes and the state that it leaves are as its comment says (docs/PROVED.md names
- * the clauses). Only tested: that memory ran out where a call says so, that no memory leaks, and
- * that what several calls give of one column belongs together and is the stream's. Proved of one
- * such call: it gives that of some layout of the column's values.
+ * the clauses). What several calls give of one column belongs together. Only tested: this for the
+ * values of a dictionary, that the buffers are the bytes of the stream, that memory ran out where a
+ * call says so, and that no memory leaks.
  *
  * THE CALLER OWES, and nothing checks:
  *   - a reader or batch is one that a call set, not NULL, and not freed yet;
