@@ -2,14 +2,14 @@
 #![tactic(auto)]
 
 ghost use Rattle.std.specs.Prelude.{IfOk};
-ghost use Rattle.ipc_command.specs.Words.{HasGoodSize};
+ghost use Rattle.job_command.specs.Arguments.{HasGoodSize};
 
 mod progress;
 mod retry;
 mod schema_file;
 
-use ipc_command::{Invocation, Usage, read_words, run};
 use ipc_stream::{Device, Seed, Sink};
+use job_command::{Invocation, Usage, read_words, run};
 use progress::ProgressLine;
 use retry::Retry;
 use schema_file::{SchemaFile, open_schema};

@@ -6,17 +6,17 @@ use Rattle.std.specs.declared.string.String.{String}
 use Rattle.ipc_model.specs.declared.fault.Fault.{Fault}
 use Rattle.ipc_model.specs.declared.fault.Fault.TheVariants.{OutOfMemory}
 use Rattle.ipc_model.specs.Numbering.{fault_number}
-use Rattle.ipc_json.specs.SchemaJson.{pairs_text}
-use Rattle.ipc_decode.specs.Decoding.{Wants}
-use Rattle.ipc_decode.specs.declared.end.End.{End}
-use Rattle.ipc_session.specs.declared.arrival.Arrival.{Arrival}
-use Rattle.ipc_session.specs.declared.batch.ReadBatch.{ReadBatch}
-use Rattle.ipc_session.specs.declared.buffer.BufferKind.{BufferKind}
-use Rattle.ipc_session.specs.declared.column.ColumnFacts.{ColumnFacts}
-use Rattle.ipc_session.specs.declared.session.ReadSession.{ReadSession}
-use Rattle.ipc_session.specs.Copies.{Copies}
-use Rattle.ipc_session.specs.Paths.{FindsBuffer, FindsColumn}
-use Rattle.ipc_session.specs.Sessions as s
+use Rattle.ipc_text_json.specs.SchemaJson.{pairs_text}
+use Rattle.ipc_stream_read.specs.Decoding.{Wants}
+use Rattle.ipc_stream_read.specs.declared.end.End.{End}
+use Rattle.ipc_stream_session.specs.declared.arrival.Arrival.{Arrival}
+use Rattle.ipc_stream_session.specs.declared.batch.ReadBatch.{ReadBatch}
+use Rattle.ipc_stream_session.specs.declared.buffer.BufferKind.{BufferKind}
+use Rattle.ipc_stream_session.specs.declared.column.ColumnFacts.{ColumnFacts}
+use Rattle.ipc_stream_session.specs.declared.session.ReadSession.{ReadSession}
+use Rattle.ipc_stream_session.specs.Copies.{Copies}
+use Rattle.ipc_stream_session.specs.Paths.{FindsBuffer, FindsColumn}
+use Rattle.ipc_stream_session.specs.Sessions as s
 use Rattle.arrowstream_c.specs.declared.answers.Column.{Column}
 use Rattle.arrowstream_c.specs.declared.answers.Progress.{Progress}
 use Rattle.arrowstream_c.specs.declared.answers.ReadLimits.{ReadLimits}
@@ -24,9 +24,9 @@ use Rattle.arrowstream_c.specs.Numbers.{absent, AreCapped, Shows}
 use Rattle.arrowstream_c.specs.Numbers.{arrival_number, end_number, IsBuffer}
 
 -- a new reader within the limits that were asked for, or none because memory ran out
-abbrev pub Opens : ReadLimits → Option ReadSession → Type 0
-Opens asked None = ⊤
-Opens asked (Some made) =
+abbrev pub OpensReader : ReadLimits → Option ReadSession → Type 0
+OpensReader asked None = ⊤
+OpensReader asked (Some made) =
     AreCapped asked made.decoder.limits × s.IsNew made.decoder.limits made
 
 -- what C is told of a reader, the bytes that it took and the number of what came
@@ -68,7 +68,7 @@ GivesText (Err fault) old new wanted status =
 abbrev pub CopiesSchema : ReadSession → ReadSession → List ℕ → List ℕ → ℕ → ℕ → Type 0
 CopiesSchema was is old new wanted status = (is ≡ was)
     × ((answer : Result (Option (String Global)) Fault)
-    × s.GivesSchema was.decoder.state answer × GivesText answer old new wanted status)
+    × s.GivesSchemaText was.decoder.state answer × GivesText answer old new wanted status)
 
 -- the line of the first refusal is copied; the reader stays
 abbrev pub CopiesLine : ReadSession → ReadSession → List ℕ → List ℕ → ℕ → ℕ → Type 0
@@ -82,9 +82,9 @@ MayHold batch None = ⊤
 MayHold batch (Some held) = held ≡ batch
 
 -- the batch that came last leaves the reader; C has it, unless memory ran out
-abbrev pub Takes : ReadSession → ReadSession → Option ReadBatch → Type 0
-Takes was is None = is ≡ record was { batch = None }
-Takes was is (Some found) = (was.batch ≡ Some found) × (is ≡ record was { batch = None })
+abbrev pub TakesBatch : ReadSession → ReadSession → Option ReadBatch → Type 0
+TakesBatch was is None = is ≡ record was { batch = None }
+TakesBatch was is (Some found) = (was.batch ≡ Some found) × (is ≡ record was { batch = None })
 
 -- the number of rows; the batch stays
 abbrev pub AreRows : ReadBatch → ReadBatch → ℕ → Type 0
@@ -107,26 +107,26 @@ CopiesPairs was is old new wanted status = (is ≡ was)
     × GivesPairs was answer × GivesText answer old new wanted status)
 
 -- the numbers of the column that was found, if there is one
-abbrev pub IsShown : Option ColumnFacts → Column → Column → ℕ → Type 0
-IsShown None old new status = (status ≡ absent) × (new ≡ old)
-IsShown (Some facts) old new status = (status ≡ 0) × Shows facts new
+abbrev pub IsColumnAnswer : Option ColumnFacts → Column → Column → ℕ → Type 0
+IsColumnAnswer None old new status = (status ≡ absent) × (new ≡ old)
+IsColumnAnswer (Some facts) old new status = (status ≡ 0) × Shows facts new
 
 -- C is told of the column to which the path leads; the batch stays
 abbrev pub DescribesColumn : ReadBatch → List ℕ → ReadBatch → Column → Column → ℕ → Type 0
 DescribesColumn was path is old new status = (is ≡ was) × ((answer : Option ColumnFacts)
-    × FindsColumn was.batch path answer × IsShown answer old new status)
+    × FindsColumn was.batch path answer × IsColumnAnswer answer old new status)
 
 -- the number of bytes of the buffer that was found, if there is one
-abbrev pub IsCounted : Option ℕ → ℕ → ℕ → Type 0
-IsCounted None wanted status = (status ≡ absent) × (wanted ≡ 0)
-IsCounted (Some count) wanted status = (status ≡ 0) × (wanted ≡ count)
+abbrev pub IsBufferLength : Option ℕ → ℕ → ℕ → Type 0
+IsBufferLength None wanted status = (status ≡ absent) × (wanted ≡ 0)
+IsBufferLength (Some count) wanted status = (status ≡ 0) × (wanted ≡ count)
 
 -- a buffer of the column to which the path leads is copied, if there is such a buffer
 abbrev pub GivesBuffer : ReadBatch → List ℕ → Option BufferKind → List ℕ → List ℕ → ℕ → ℕ → Type 0
 GivesBuffer b path None old new wanted status =
     (status ≡ absent) × (new ≡ old) × (wanted ≡ 0)
 GivesBuffer b path (Some kind) old new wanted status = (answer : Option ℕ)
-    × FindsBuffer b.batch path kind old new answer × IsCounted answer wanted status
+    × FindsBuffer b.batch path kind old new answer × IsBufferLength answer wanted status
 
 -- the buffer of this number is copied; the batch stays
 abbrev pub CopiesBuffer : ReadBatch → List ℕ → ℕ → ReadBatch → List ℕ → List ℕ → ℕ → ℕ → Type 0

@@ -4,8 +4,8 @@ use Rattle.std.specs.Ptr.{Ptr}
 use Rattle.std.specs.Box.Ownership.{box_owns}
 use Rattle.std.specs.declared.alloc.Global.{Global}
 use Rattle.std.specs.contracts.impls.GlobalAllocator.TheImpl.{ghosts}
-use Rattle.ipc_session.specs.contracts.batch.ReadBatch as batch
-use Rattle.ipc_session.specs.contracts.session.ReadSession as session
+use Rattle.ipc_stream_session.specs.contracts.batch.ReadBatch as batch
+use Rattle.ipc_stream_session.specs.contracts.session.ReadSession as session
 use base.Fml.{Fml, fex, feq}
 use denote.RattleType.{RattleType}
 use denote.RawPtr.{null_ptr}

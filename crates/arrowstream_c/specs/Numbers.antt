@@ -3,17 +3,17 @@ use Rattle.std.specs.Prelude.{◌≡◌, ◌<◌, ◌≤◌, ℕ, ℤ, pos, Bool
 use Rattle.ipc_model.specs.declared.layout.Layout.{Layout}
 use Rattle.ipc_model.specs.declared.layout.Layout.TheVariants as l
 use Rattle.ipc_model.specs.declared.limits.Limits.{Limits}
-use Rattle.ipc_model.specs.Greatest.{greatest_metadata, greatest_body, greatest_slots}
-use Rattle.ipc_model.specs.Greatest.{greatest_fields, greatest_depth, greatest_text, greatest_pairs}
+use Rattle.ipc_model.specs.MaxLimits.{max_metadata, max_body, max_slots}
+use Rattle.ipc_model.specs.MaxLimits.{max_fields, max_depth, max_text, max_pairs}
 use Rattle.ipc_model.specs.Ranges.{width}
-use Rattle.ipc_model.specs.Limits.{IsStandard, HaveValues}
-use Rattle.ipc_decode.specs.declared.end.End.{End}
-use Rattle.ipc_decode.specs.declared.end.End.TheVariants as end
-use Rattle.ipc_session.specs.declared.arrival.Arrival.{Arrival}
-use Rattle.ipc_session.specs.declared.arrival.Arrival.TheVariants as arrival
-use Rattle.ipc_session.specs.declared.buffer.BufferKind.{BufferKind}
-use Rattle.ipc_session.specs.declared.buffer.BufferKind.TheVariants as kind
-use Rattle.ipc_session.specs.declared.column.ColumnFacts.{ColumnFacts}
+use Rattle.ipc_model.specs.Limits.{IsStandard, HaveLimitValues}
+use Rattle.ipc_stream_read.specs.declared.end.End.{End}
+use Rattle.ipc_stream_read.specs.declared.end.End.TheVariants as end
+use Rattle.ipc_stream_session.specs.declared.arrival.Arrival.{Arrival}
+use Rattle.ipc_stream_session.specs.declared.arrival.Arrival.TheVariants as arrival
+use Rattle.ipc_stream_session.specs.declared.buffer.BufferKind.{BufferKind}
+use Rattle.ipc_stream_session.specs.declared.buffer.BufferKind.TheVariants as kind
+use Rattle.ipc_stream_session.specs.declared.column.ColumnFacts.{ColumnFacts}
 use Rattle.arrowstream_c.specs.declared.answers.Column.{Column}
 use Rattle.arrowstream_c.specs.declared.answers.LayoutNumbers.{LayoutNumbers}
 use Rattle.arrowstream_c.specs.declared.answers.ReadLimits.{ReadLimits}
@@ -29,19 +29,19 @@ pub record Caps (value most result : ℕ) : Type 0 where
 
 -- each limit is the one that was asked for, or its maximum
 pub record AreCapped (asked : ReadLimits) (limits : Limits) : Type 0 where
-  pub metadata : Caps asked.metadata greatest_metadata limits.metadata
-  pub body : Caps asked.body greatest_body limits.body
-  pub slots : Caps asked.slots greatest_slots limits.slots
-  pub fields : Caps asked.fields greatest_fields limits.fields
-  pub depth : Caps asked.depth greatest_depth limits.depth
-  pub text : Caps asked.text greatest_text limits.text
-  pub pairs : Caps asked.pairs greatest_pairs limits.pairs
+  pub metadata : Caps asked.metadata max_metadata limits.metadata
+  pub body : Caps asked.body max_body limits.body
+  pub slots : Caps asked.slots max_slots limits.slots
+  pub fields : Caps asked.fields max_fields limits.fields
+  pub depth : Caps asked.depth max_depth limits.depth
+  pub text : Caps asked.text max_text limits.text
+  pub pairs : Caps asked.pairs max_pairs limits.pairs
 
 -- the numbers are the standard limits
 pub record AreStandard (out : ReadLimits) : Type 0 where
   pub limits : Limits
   pub standard : IsStandard limits
-  pub values : HaveValues limits out.metadata out.body out.slots out.fields out.depth out.text
+  pub values : HaveLimitValues limits out.metadata out.body out.slots out.fields out.depth out.text
       out.pairs
 
 -- the number of what came

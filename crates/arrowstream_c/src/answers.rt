@@ -4,9 +4,9 @@ ghost use Rattle.ipc_model.specs.Numbering.{fault_number};
 ghost use Rattle.arrowstream_c.specs.Numbers.{AreCapped, AreStandard, Caps, IsLayout, Shows};
 ghost use Rattle.arrowstream_c.specs.Numbers.{arrival_number, end_number};
 
-use ipc_decode::End;
 use ipc_model::{Fault, Layout, Limits};
-use ipc_session::{Arrival, ColumnFacts};
+use ipc_stream_read::End;
+use ipc_stream_session::{Arrival, ColumnFacts};
 
 /// The status of a call that finds nothing: no refusal of the reader has this number.
 pub(crate) const ABSENT: u32 = 64;

@@ -1,12 +1,12 @@
 //! A batch that C holds, or null.
 ghost use Rattle.std.specs.Coded.{coded_option};
 ghost use Rattle.std.specs.Prelude.{◌≡◌, None, Option, Some};
-ghost use Rattle.ipc_session.specs.contracts.batch.ReadBatch as batch;
-ghost use Rattle.ipc_session.specs.declared.batch.ReadBatch.{ReadBatch};
+ghost use Rattle.ipc_stream_session.specs.contracts.batch.ReadBatch as batch;
+ghost use Rattle.ipc_stream_session.specs.declared.batch.ReadBatch.{ReadBatch};
 ghost use Rattle.arrowstream_c.specs.Calls.{MayHold};
 
 use crate::block::Block;
-use ipc_session::ReadBatch;
+use ipc_stream_session::ReadBatch;
 use std::alloc::Global;
 use std::marker::Model;
 use std::ptr::null_mut;

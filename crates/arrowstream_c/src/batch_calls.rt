@@ -8,7 +8,7 @@ use crate::answers::{ABSENT, Column};
 use crate::block::Block;
 use crate::reader_calls::give;
 use ipc_model::Fault;
-use ipc_session::{BufferKind, ReadBatch};
+use ipc_stream_session::{BufferKind, ReadBatch};
 use std::alloc::Global;
 
 pub(crate) fn free_batch(batch: Block<ReadBatch, Global>) {

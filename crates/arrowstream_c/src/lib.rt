@@ -7,11 +7,11 @@
 
 ghost use Rattle.std.specs.Prelude.{◌≡◌, Option, length};
 ghost use Rattle.std.specs.Borrow.{sem};
-ghost use Rattle.ipc_session.specs.declared.batch.ReadBatch.{ReadBatch};
-ghost use Rattle.ipc_session.specs.declared.session.ReadSession.{ReadSession};
+ghost use Rattle.ipc_stream_session.specs.declared.batch.ReadBatch.{ReadBatch};
+ghost use Rattle.ipc_stream_session.specs.declared.session.ReadSession.{ReadSession};
 ghost use Rattle.arrowstream_c.specs.Calls.{AreRows, AreColumns, Closes, CopiesBuffer, CopiesLine};
 ghost use Rattle.arrowstream_c.specs.Calls.{CopiesPairs, CopiesSchema, DescribesColumn, Feeds};
-ghost use Rattle.arrowstream_c.specs.Calls.{Opens, Takes};
+ghost use Rattle.arrowstream_c.specs.Calls.{OpensReader, TakesBatch};
 ghost use Rattle.arrowstream_c.specs.Handles.{batch_at, batch_or_null, is_batch, is_reader};
 ghost use Rattle.arrowstream_c.specs.Handles.{reader_at, reader_or_null};
 ghost use Rattle.arrowstream_c.specs.Numbers.{AreStandard};
@@ -26,7 +26,7 @@ mod reader_calls;
 use answers::{Column, Progress, ReadLimits};
 use batch::BatchHandle;
 use block::Block;
-use ipc_session::{ReadBatch, ReadSession};
+use ipc_stream_session::{ReadBatch, ReadSession};
 use reader::ReaderHandle;
 use std::alloc::Global;
 
@@ -51,7 +51,7 @@ pub extern "C" fn arrow_limits_standard(out: &mut ReadLimits)
 #[unsafe(no_mangle)]
 pub extern "C" fn arrow_reader_open(alloc: Global, limits: &ReadLimits, out: &mut *mut u8)
     ensures* { ∃ₛ (λ (made : Option ReadSession). sem 𝓛 (reader_or_null out.new made)
-        ∗ ⌜ Opens limits.now made ⌝) }
+        ∗ ⌜ OpensReader limits.now made ⌝) }
 {
     let ReaderHandle { at } = ReaderHandle::fresh(alloc, limits);
     *out = at;
@@ -131,7 +131,7 @@ pub unsafe extern "C" fn arrow_reader_take(alloc: Global, reader: *mut u8, out: 
     requires* { sem 𝓛 (reader_at reader was) }
     ensures* { ∃ₛ (λ (is : ReadSession). ∃ₛ (λ (found : Option ReadBatch).
         sem 𝓛 (reader_at reader is) ∗ (sem 𝓛 (batch_or_null out.new found)
-        ∗ ⌜ Takes was is found ⌝))) }
+        ∗ ⌜ TakesBatch was is found ⌝))) }
 {
     let BatchHandle { at } = reader_calls::take(alloc, &mut *(reader as *mut ReadSession));
     *out = at;

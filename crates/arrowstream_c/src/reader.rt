@@ -1,13 +1,13 @@
 //! A reader that C holds, or null.
 ghost use Rattle.std.specs.Coded.{coded_option};
 ghost use Rattle.std.specs.Prelude.{◌≡◌, None, Option, Some};
-ghost use Rattle.ipc_session.specs.contracts.session.ReadSession as session;
-ghost use Rattle.ipc_session.specs.declared.session.ReadSession.{ReadSession};
-ghost use Rattle.arrowstream_c.specs.Calls.{Opens};
+ghost use Rattle.ipc_stream_session.specs.contracts.session.ReadSession as session;
+ghost use Rattle.ipc_stream_session.specs.declared.session.ReadSession.{ReadSession};
+ghost use Rattle.arrowstream_c.specs.Calls.{OpensReader};
 
 use crate::answers::{ReadLimits, capped};
 use crate::block::Block;
-use ipc_session::ReadSession;
+use ipc_stream_session::ReadSession;
 use std::alloc::Global;
 use std::marker::Model;
 use std::ptr::null_mut;
@@ -27,7 +27,7 @@ impl Model for ReaderHandle {
 impl ReaderHandle {
     // A new reader, or null if memory ran out.
     pub(crate) fn fresh(alloc: Global, limits: &ReadLimits) -> ReaderHandle
-        ensures { Opens limits.now result.held }
+        ensures { OpensReader limits.now result.held }
     {
         match Box::new(alloc, ReadSession::new(alloc, capped(limits))) {
             Ok(whole) => ReaderHandle::of(Block::out_of(whole)),

@@ -8,11 +8,12 @@ use Rattle.std.specs.Int.{Width, w8, w16, w32, w64, w128, byte_len, cast_unsigne
 use Rattle.std.proofs.Common.{FitsSigned}
 use Rattle.std.proofs.Math.Facts.{Fits-of_z}
 use Rattle.ipc_scalar.specs.Bytes.{num}
-use Rattle.ipc_scalar.specs.Flat.{vtable_of, entry_of}
+use Rattle.ipc_scalar.specs.Flat.{vtable_of, vtable_entry}
 use Rattle.ipc_build.specs.Trees.{Content, Tree, none, field}
 use Rattle.ipc_build.specs.Trees as k
 use Rattle.ipc_build.specs.Layout.{little, padding, prefix_place, members, entry_count, table_place, inline_end, string_end, target_end}
-use Rattle.ipc_build.specs.Layout.{targets_end, inline_value, inline_bytes, entries, head_bytes, own_bytes, struct_bytes, target_bytes}
+use Rattle.ipc_build.specs.Layout.{targets_end, inline_value, inline_bytes, vtable_entries, head_bytes, own_bytes, struct_bytes}
+use Rattle.ipc_build.specs.Layout.{target_bytes}
 use Rattle.ipc_build.specs.Layout.{targets}
 use Rattle.ipc_build.specs.Encodes.{HasField, inline_width}
 use Rattle.ipc_build.specs.Ascends.{Role, fields, elements, IsInRange, Below, Writable}
@@ -49,15 +50,15 @@ entry_count_small none n s h = s
 entry_count_small (field m content inner rest) n s h = entry_count_small rest (m + 1) (omega (arith, h.1)) h.4
 
 -- the entries from number n on take 2 bytes each
-length_entries : (f : Tree) (n d : ℕ) → Writable (fields n) f → length (entries n d f) ≡ 2 * (entry_count n f - n)
-unfolding entry_count Writable entries
+length_entries : (f : Tree) (n d : ℕ) → Writable (fields n) f → length (vtable_entries n d f) ≡ 2 * (entry_count n f - n)
+unfolding entry_count Writable vtable_entries
 length_entries none n d h = omega arith
 length_entries (field m content inner rest) n d h =
     let e = length_entries rest (m + 1) (d + 8) h.4 in
     let u = entry_count_up rest (m + 1) h.4 in
     let z = length-replicate {A = ℕ} (2 * (m - n)) 0 in
-    length-append (padding (2 * (m - n))) (little 2 d ++ entries (m + 1) (d + 8) rest)
-    ∙ rw (length-append (little 2 d) (entries (m + 1) (d + 8) rest), length_low_bytes 0 2 d) (omega (arith, e, u, z, h.0))
+    length-append (padding (2 * (m - n))) (little 2 d ++ vtable_entries (m + 1) (d + 8) rest)
+    ∙ rw (length-append (little 2 d) (vtable_entries (m + 1) (d + 8) rest), length_low_bytes 0 2 d) (omega (arith, e, u, z, h.0))
 
 -- fields from h on, each in c bytes, and what they point to from p on
 pub record Stored (b : List ℕ) (c : ℕ) (f : Tree) (h p : ℕ) : Type 0 where
@@ -73,14 +74,14 @@ pub record Entered (b : List ℕ) (t n h : ℕ) (f : Tree) : Type 0 where
   pub found : vtable_of b t ≡ Ok vtable
   pub size : num b vtable 2 ≡ 4 + 2 * entry_count n f
   pub ends : t + num b (vtable + 2) 2 ≡ h + 8 * members f
-  pub there : Has b (vtable + (4 + 2 * n)) (entries n (h - t) f)
+  pub there : Has b (vtable + (4 + 2 * n)) (vtable_entries n (h - t) f)
   pub above : t + 4 ≤ h
   pub near : h ≤ t + 4 + 8 * n
 
 -- the entry of a number that no field has is 0
-zero_entry : (b : List ℕ) (f : Tree) (v k d n : ℕ) → Writable (fields k) f → Has b (v + (4 + 2 * k)) (entries k d f)
+zero_entry : (b : List ℕ) (f : Tree) (v k d n : ℕ) → Writable (fields k) f → Has b (v + (4 + 2 * k)) (vtable_entries k d f)
     → (HasField n f → ⊥) → k ≤ n → n < entry_count k f → num b (v + (4 + 2 * n)) 2 ≡ 0
-unfolding entry_count Writable entries HasField
+unfolding entry_count Writable vtable_entries HasField
 zero_entry b none v k d n h e no_such low high = absurd (omega (arith, low, high))
 zero_entry b (field m content inner rest) v k d n h e no_such low high =
     by (λ o f. zero_entry b rest v (m + 1) (d + 8) n h.4 f (λ i. no_such (inr i)) o high) (cases_order n m)
@@ -88,12 +89,12 @@ zero_entry b (field m content inner rest) v k d n h e no_such low high =
     gap : Has b (v + (4 + 2 * k)) (padding (2 * (m - k)))
     gap = has_left b _ (padding (2 * (m - k))) _ e
 
-    others : Has b (v + (4 + 2 * (m + 1))) (entries (m + 1) (d + 8) rest)
+    others : Has b (v + (4 + 2 * (m + 1))) (vtable_entries (m + 1) (d + 8) rest)
     others =
         let z = length-replicate {A = ℕ} (2 * (m - k)) 0 in
         has_at b _ _ _ (omega (arith, z, h.0)) (has_past b _ 2 d _ (has_right b _ (padding (2 * (m - k))) _ e))
 
-    by : (m + 1 ≤ n → Has b (v + (4 + 2 * (m + 1))) (entries (m + 1) (d + 8) rest) → num b (v + (4 + 2 * n)) 2 ≡ 0)
+    by : (m + 1 ≤ n → Has b (v + (4 + 2 * (m + 1))) (vtable_entries (m + 1) (d + 8) rest) → num b (v + (4 + 2 * n)) 2 ≡ 0)
         → (n ≡ m) ⊎ ((n < m) ⊎ (m < n)) → num b (v + (4 + 2 * n)) 2 ≡ 0
     by go (inl same) = absurd (no_such (inl same))
     by go (inr (inl below)) = subst (λ (x : ℕ). num b x 2 ≡ 0) (omega arith)
@@ -102,11 +103,11 @@ zero_entry b (field m content inner rest) v k d n h e no_such low high =
 
 -- "Tables": a field that the table lacks is absent: its entry in the vtable is 0, or lies behind the vtable's end
 pub absent_entry : (b : List ℕ) (f : Tree) (v n : ℕ) → Writable (fields 0) f → num b v 2 ≡ 4 + 2 * entry_count 0 f
-    → Has b (v + 4) (entries 0 4 f) → (HasField n f → ⊥) → entry_of b v n ≡ 0
+    → Has b (v + 4) (vtable_entries 0 4 f) → (HasField n f → ⊥) → vtable_entry b v n ≡ 0
 absent_entry b f v n h size e no_such =
     by (nat_le (6 + 2 * n) (num b v 2)) refl
   where
-    by : (t : Bool) → nat_le (6 + 2 * n) (num b v 2) ≡ t → entry_of b v n ≡ 0
+    by : (t : Bool) → nat_le (6 + 2 * n) (num b v 2) ≡ t → vtable_entry b v n ≡ 0
     by false is = rw is refl
     by true is = let big = leb-true (6 + 2 * n) (num b v 2) is in rw is
         (zero_entry b f v 0 4 n h e no_such (omega arith) (omega (arith, big, size)))
@@ -121,7 +122,7 @@ multiple h j w e f =
 pub record Parts (b : List ℕ) (f : Tree) (p : ℕ) : Type 0 where
   pub size : Has b p (little 2 (4 + 2 * entry_count 0 f))
   pub inline_size : Has b (p + 2) (little 2 (4 + 8 * members f))
-  pub entered : Has b (p + 4) (entries 0 4 f)
+  pub entered : Has b (p + 4) (vtable_entries 0 4 f)
   pub back : Has b (table_place f p) (little 4 (table_place f p - p))
   pub front : Has b (table_place f p + 4) (inline_bytes 8 f (table_place f p + 4) (inline_end f p))
 
@@ -155,12 +156,12 @@ parts b f p h e =
     let z = length-replicate {A = ℕ} (table_place f p - (p + 4 + 2 * entry_count 0 f)) 0 in
     let one = has_past b p 2 (4 + 2 * entry_count 0 f) _ head in
     let two = has_at b _ (p + 4) _ (omega arith) (has_past b (p + 2) 2 (4 + 8 * members f) _ one) in
-    let three = has_right b _ (entries 0 4 f) _ two in
+    let three = has_right b _ (vtable_entries 0 4 f) _ two in
     let four = has_right b _ (padding (table_place f p - (p + 4 + 2 * entry_count 0 f))) _ three in
     record {
       size = has_left b _ (little 2 (4 + 2 * entry_count 0 f)) _ head;
       inline_size = has_left b _ (little 2 (4 + 8 * members f)) _ one;
-      entered = has_left b _ (entries 0 4 f) _ two;
+      entered = has_left b _ (vtable_entries 0 4 f) _ two;
       back = has_at b _ (table_place f p) _ (omega (arith, d, z)) four;
       front = has_at b _ (table_place f p + 4) _ (omega (arith, l)) (has_right b p (head_bytes f p) inline e);
     }

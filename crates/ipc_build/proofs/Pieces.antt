@@ -10,7 +10,8 @@ use Rattle.ipc_build.specs.declared.tree.Slot.TheVariants as v
 use Rattle.ipc_build.specs.declared.tree.FlatTree.{FlatTree}
 use Rattle.ipc_build.specs.Trees.{Tree, Node, none, field, node, view, fields_view, tables_view, slot_step, tree_step}
 use Rattle.ipc_build.specs.Trees as k
-use Rattle.ipc_build.specs.Layout.{little, padding, entry_count, members, inline_bytes, entries, targets_end, inline_end, table_place}
+use Rattle.ipc_build.specs.Layout.{little, padding, entry_count, members, inline_bytes, vtable_entries, targets_end, inline_end}
+use Rattle.ipc_build.specs.Layout.{table_place}
 use Rattle.ipc_build.specs.Layout.{head_bytes, own_bytes, target_bytes, targets, struct_bytes, prefix_place, as_vector, buffer}
 use Rattle.ipc_build.specs.Ascends.{fields, elements, Below, Writable}
 use Rattle.ipc_build.proofs.Lengths.{length_head, entry_count_small, members_below}
@@ -78,21 +79,22 @@ module _ (xs : List (ℕ × Slot)) (i : ℕ) (x : ℕ × Slot) (e : x ≡ get_or
 
   -- a loop over a vtable's entries has written one more, when it wrote the zeros of the absent fields before it and then its place
   pub entries_more : (out padded now base : List ℕ) (n d : ℕ) → padded ≡ out ++ padding (2 * (x.0 - n)) → now ≡ padded ++ little 2 d
-      → out ++ entries n d (fields_view (drop i xs)) ≡ base → now ++ entries (x.0 + 1) (d + 8) (fields_view (drop (i + 1) xs)) ≡ base
-  unfolding entries
+      → out ++ vtable_entries n d (fields_view (drop i xs)) ≡ base → now ++ vtable_entries (x.0 + 1) (d + 8) (fields_view (drop (i + 1) xs))
+      ≡ base
+  unfolding vtable_entries
   entries_more out padded now base n d f g inv =
-      let rest = entries (x.0 + 1) (d + 8) (fields_view (drop (i + 1) xs)) in
-      let step : entries n d (fields_view (drop i xs)) ≡ padding (2 * (x.0 - n)) ++ (little 2 d ++ rest) =
-      ap (λ (ys : List (ℕ × Slot)). entries n d (fields_view ys)) (front xs i x e h) in
+      let rest = vtable_entries (x.0 + 1) (d + 8) (fields_view (drop (i + 1) xs)) in
+      let step : vtable_entries n d (fields_view (drop i xs)) ≡ padding (2 * (x.0 - n)) ++ (little 2 d ++ rest) =
+      ap (λ (ys : List (ℕ × Slot)). vtable_entries n d (fields_view ys)) (front xs i x e h) in
       more padded now (little 2 d) rest (little 2 d ++ rest) base g refl
-      (more out padded (padding (2 * (x.0 - n))) (little 2 d ++ rest) (entries n d (fields_view (drop i xs))) base f step inv)
+      (more out padded (padding (2 * (x.0 - n))) (little 2 d ++ rest) (vtable_entries n d (fields_view (drop i xs))) base f step inv)
 
 -- when no field is left, all entries are written
 pub entries_done : (xs : List (ℕ × Slot)) (i n d : ℕ) (out base : List ℕ) → length xs ≤ i
-    → out ++ entries n d (fields_view (drop i xs)) ≡ base → out ≡ base
-unfolding entries
+    → out ++ vtable_entries n d (fields_view (drop i xs)) ≡ base → out ≡ base
+unfolding vtable_entries
 entries_done xs i n d out base h inv = sym (append-nil out)
-    ∙ (ap (λ (ys : List (ℕ × Slot)). out ++ entries n d (fields_view ys)) (sym (drop_of_length-le xs h)) ∙ inv)
+    ∙ (ap (λ (ys : List (ℕ × Slot)). out ++ vtable_entries n d (fields_view ys)) (sym (drop_of_length-le xs h)) ∙ inv)
 
 module _ (xs : List FlatTree) (i : ℕ) (x : FlatTree) (e : x ≡ get_or xs i x) (h : i < length xs) where
   -- a loop over a vector's offsets has written one more, when it wrote the distance to the table
@@ -142,13 +144,13 @@ joined a b c x y e f = f ∙ (ap (λ (l : List ℕ). l ++ y) e ∙ append_assoc 
 -- "Tables": a vtable's size, its table's size, the entries, padding and the distance to the vtable are a table's head
 pub head_joined : (f : Tree) (p size table : ℕ) (a b c d g i : List ℕ) → size ≡ 4 + 2 * entry_count 0 f → table ≡ table_place f p
     → (places : ℕ) → places ≡ 8 * members f →
-    b ≡ a ++ little 2 size → c ≡ b ++ little 2 (4 + places) → d ≡ c ++ entries 0 4 f → g ≡ d ++ padding (table - (p + size))
+    b ≡ a ++ little 2 size → c ≡ b ++ little 2 (4 + places) → d ≡ c ++ vtable_entries 0 4 f → g ≡ d ++ padding (table - (p + size))
     → i ≡ g ++ little 4 (table - p) → i ≡ a ++ head_bytes f p
 unfolding head_bytes
 head_joined f p size table a b c d g i es et l el u w x y z =
     joined a b i (little 2 (4 + 2 * entry_count 0 f)) _ (u ∙ ap (λ (n : ℕ). a ++ little 2 n) es)
     (joined b c i (little 2 (4 + 8 * members f)) _ (w ∙ ap (λ (n : ℕ). b ++ little 2 (4 + n)) el)
-    (joined c d i (entries 0 4 f) _ x
+    (joined c d i (vtable_entries 0 4 f) _ x
     (joined d g i (padding (table_place f p - (p + 4 + 2 * entry_count 0 f))) _ (y ∙ ap (λ (n : ℕ). d ++ padding n) (omega (arith, es, et)))
     (z ∙ ap (λ (n : ℕ). g ++ little 4 (n - p)) et))))
 

@@ -11,9 +11,9 @@ use Rattle.ipc_scalar.specs.Flat.{vtable_of, slot_of}
 use Rattle.ipc_build.specs.Trees.{Content, Tree, none, field}
 use Rattle.ipc_build.specs.Trees as k
 use Rattle.ipc_build.specs.Layout.{little, padding, prefix_place, members, entry_count, table_place, inline_end, target_end}
-use Rattle.ipc_build.specs.Layout.{targets_end, inline_value, inline_bytes, entries, own_bytes, struct_bytes, target_bytes}
+use Rattle.ipc_build.specs.Layout.{targets_end, inline_value, inline_bytes, vtable_entries, own_bytes, struct_bytes, target_bytes}
 use Rattle.ipc_build.specs.Layout.{targets}
-use Rattle.ipc_build.specs.Encodes.{in_table, in_vector, inline_width, EncodesPairs, TableStands, EncodesTarget, EncodesTable}
+use Rattle.ipc_build.specs.Encodes.{in_table, in_vector, inline_width, EncodesPairs, IsTablePlaced, EncodesTarget, EncodesTable}
 use Rattle.ipc_build.specs.Ascends.{fields, elements, PairsFit, IsInRange, Below, Writable}
 use Rattle.ipc_build.proofs.Has.{Has, has_at, has_left, has_right, has_past, has_num, has_num_front, has_narrow}
 use Rattle.ipc_scalar.proofs.Places.{length_low_bytes}
@@ -56,7 +56,8 @@ module _ (P : ℕ → ℕ → Type 0) (b : List ℕ) (aligned : (w p q : ℕ) �
 
   table_lies : (f : Tree) (p : ℕ) → Writable (fields 0) f → Has b p (own_bytes f p) → Has b (inline_end f p) (targets f (inline_end f p))
       → targets_end f (inline_end f p) < 2 ^ 31 → p % 4 ≡ 0
-      → (vtable_of b (table_place f p) ≡ Ok p) × TableStands P b (table_place f p) f × Entered b (table_place f p) 0 (table_place f p + 4) f
+      → (vtable_of b (table_place f p) ≡ Ok p) × IsTablePlaced P b (table_place f p) f
+      × Entered b (table_place f p) 0 (table_place f p + 4) f
       × Stored b 8 f (table_place f p + 4) (inline_end f p)
   table_lies f p h head behind small even = (
     found,
@@ -73,7 +74,7 @@ module _ (P : ℕ → ℕ → Type 0) (b : List ℕ) (aligned : (w p q : ℕ) �
       found = found;
       size = size;
       ends = omega (arith, inline_size);
-      there = subst (λ (d : ℕ). Has b (p + 4) (entries 0 d f)) (omega arith) ps.entered;
+      there = subst (λ (d : ℕ). Has b (p + 4) (vtable_entries 0 d f)) (omega arith) ps.entered;
       above = omega arith;
       near = omega arith;
     },
@@ -238,7 +239,7 @@ module _ (P : ℕ → ℕ → Type 0) (b : List ℕ) (aligned : (w p q : ℕ) �
       apart = let e : h + c * (1 + members rest) ≤ p = stored.apart in omega (arith, e)
 
   in_table_more : (m : ℕ) (content : Content) (inner rest : Tree) → Placed inner → InTable rest → InTable (field m content inner rest)
-  unfolding EncodesTable Writable entries entry_count members
+  unfolding EncodesTable Writable vtable_entries entry_count members
   in_table_more m content inner rest inner_placed rest_table t n h p writable entered stored even = (
     (
       h,
@@ -252,7 +253,7 @@ module _ (P : ℕ → ℕ → Type 0) (b : List ℕ) (aligned : (w p q : ℕ) �
           found = entered.found;
           size = entered.size;
           ends = omega (arith, ends);
-          there = subst (λ (d : ℕ). Has b (entered.vtable + (4 + 2 * (m + 1))) (entries (m + 1) d rest)) (omega (arith, above)) next;
+          there = subst (λ (d : ℕ). Has b (entered.vtable + (4 + 2 * (m + 1))) (vtable_entries (m + 1) d rest)) (omega (arith, above)) next;
           above = omega (arith, above);
           near = omega (arith, near, writable.0);
         }) one.others (omega arith),
@@ -276,11 +277,11 @@ module _ (P : ℕ → ℕ → Type 0) (b : List ℕ) (aligned : (w p q : ℕ) �
       ends : t + num b (entered.vtable + 2) 2 ≡ h + 8 * (1 + members rest)
       ends = entered.ends
 
-      here : Has b (entered.vtable + (4 + 2 * m)) (little 2 (h - t) ++ entries (m + 1) (h - t + 8) rest)
+      here : Has b (entered.vtable + (4 + 2 * m)) (little 2 (h - t) ++ vtable_entries (m + 1) (h - t + 8) rest)
       here = let z = length-replicate {A = ℕ} (2 * (m - n)) 0 in has_at b _ _ _ (omega (arith, z, writable.0))
           (has_right b _ (padding (2 * (m - n))) _ entered.there)
 
-      next : Has b (entered.vtable + (4 + 2 * (m + 1))) (entries (m + 1) (h - t + 8) rest)
+      next : Has b (entered.vtable + (4 + 2 * (m + 1))) (vtable_entries (m + 1) (h - t + 8) rest)
       next = has_at b _ _ _ (omega arith) (has_past b _ 2 (h - t) _ here)
 
       entry : num b (entered.vtable + (4 + 2 * m)) 2 ≡ h - t

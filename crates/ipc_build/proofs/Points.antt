@@ -5,7 +5,7 @@ use Rattle.std.specs.Int.{w32, cast_signed}
 use Rattle.std.specs.Str.{is_utf8}
 use Rattle.std.proofs.Math.Dec.{eqb-suc-zero}
 use Rattle.ipc_scalar.specs.Bytes.{num}
-use Rattle.ipc_scalar.specs.Flat.{vtable_of, slot_of, points, table_of, elements_of, text_of, entry_of}
+use Rattle.ipc_scalar.specs.Flat.{vtable_of, slot_of, points, table_position, elements_of, text_of, vtable_entry}
 use Rattle.ipc_build.proofs.Has.{Has, has_slice}
 
 positive : (d : ℕ) → 0 < d → (d == 0) ≡ false
@@ -21,7 +21,7 @@ slot_found b t v n w h hv big entry some inside =
     rw (hv, le-leb (6 + 2 * n) (num b v 2) big, entry, positive (h - t) (omega arith), there, le-leb (h + w) (length b) inside) refl
 
 -- "Tables": where a field's entry in the vtable is 0, the field is absent
-pub slot_zero : (b : List ℕ) (t v n w : ℕ) → vtable_of b t ≡ Ok v → entry_of b v n ≡ 0 → slot_of b t n w ≡ Ok None
+pub slot_zero : (b : List ℕ) (t v n w : ℕ) → vtable_of b t ≡ Ok v → vtable_entry b v n ≡ 0 → slot_of b t n w ≡ Ok None
 unfolding slot_of
 slot_zero b t v n w hv zero_there = rw (hv, zero_there) refl
 
@@ -33,8 +33,8 @@ points_at b h q e apart inside =
     rw (le-leb (h + 4) (length b) (omega arith), e, positive (q - h) (omega arith), there, le-leb q (length b) inside) refl
 
 -- where an offset points to a place with a vtable, the table is there
-pub table_there : (b : List ℕ) (h t v : ℕ) → points b h ≡ Ok t → vtable_of b t ≡ Ok v → table_of b h ≡ Ok t
-unfolding table_of
+pub table_there : (b : List ℕ) (h t v : ℕ) → points b h ≡ Ok t → vtable_of b t ≡ Ok v → table_position b h ≡ Ok t
+unfolding table_position
 table_there b h t v e f = rw (e, f) refl
 
 -- "Strings and Vectors": where an offset points to a count, and so many elements fit behind it, they stand there

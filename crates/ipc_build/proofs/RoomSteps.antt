@@ -17,7 +17,7 @@ use Rattle.ipc_build.specs.Trees.{Content, Tree, Node, none, field, node, view, 
 use Rattle.ipc_build.specs.Trees as k
 use Rattle.ipc_build.specs.Layout.{entry_count}
 use Rattle.ipc_build.specs.Ascends.{Role, fields, elements, IsInRange, Below, Writable, Ascends, InRange}
-use Rattle.ipc_build.specs.Room.{Counts, target_room, targets_room, room}
+use Rattle.ipc_build.specs.Room.{CountsBytes, target_room, targets_room, room}
 use Rattle.ipc_build.proofs.Nodes.{text_is, tables_is, pairs_is}
 use Rattle.ipc_build.proofs.Views.{front, members_tables}
 
@@ -85,17 +85,17 @@ writable (field m content inner rest) (fields n) g a =
 writable (field m content inner rest) elements g a = (a.0, writable inner (fields 0) g.1 a.1, writable rest elements g.2 a.2)
 
 -- a count of n is one of m where they are equal, with what follows from what holds
-pub counts_at : (g n m : ℕ) (F G : Type 0) (o : Option ℕ) → n ≡ m → (F → G) → Counts g n F o → Counts g m G o
+pub counts_at : (g n m : ℕ) (F G : Type 0) (o : Option ℕ) → n ≡ m → (F → G) → CountsBytes g n F o → CountsBytes g m G o
 counts_at g n m F G None e f h = subst (λ (x : ℕ). g < x) e h
 counts_at g n m F G (Some s) e f h = (h.0 ∙ e, h.1, f h.2)
 
 -- a plain count of n is one of m where they are equal, with whatever holds
-pub counts_plain : (g n m : ℕ) (G : Type 0) (o : Option ℕ) → n ≡ m → G → Counts g n ⊤ o → Counts g m G o
+pub counts_plain : (g n m : ℕ) (G : Type 0) (o : Option ℕ) → n ≡ m → G → CountsBytes g n ⊤ o → CountsBytes g m G o
 counts_plain g n m G o e p h = counts_at g n m ⊤ G o e (λ _. p) h
 
 -- the room of what a field points to, counted beside what is taken, within a greatest room
 abbrev Counted : ℕ → ℕ → Option ℕ → Node → Type 0
-Counted g taken o x = Counts g (taken + target_room x.0 x.1 (targets_room x.1)) (IsInRange x.0 × InRange x.1) o
+Counted g taken o x = CountsBytes g (taken + target_room x.0 x.1 (targets_room x.1)) (IsInRange x.0 × InRange x.1) o
 
 -- a byte takes no room beside its place in the table
 pub byte_counted : (s : Slot) (x g taken : ℕ) → node s ≡ (k.byte x, none) → x < 256 → taken ≤ g → Counted g taken (Some taken) (node s)
@@ -109,7 +109,7 @@ signed_counted s w z g taken e fits divides small =
 
 -- a string takes 8 and its bytes
 pub string_counted : (s : Slot) (t u : List ℕ) (g taken : ℕ) (o : Option ℕ) → s ≡ v.Text t → u ≡ t → IsUtf8 u
-    → Counts g (taken + (8 + length u)) ⊤ o → Counted g taken o (node s)
+    → CountsBytes g (taken + (8 + length u)) ⊤ o → Counted g taken o (node s)
 string_counted s t u g taken o e f utf8 h =
     let i : node s ≡ (k.string u, none) = ap node e ∙ (text_is t ∙ ap (λ (z : List ℕ). (k.string z, none)) (sym f)) in
     subst (Counted g taken o) (sym i) (counts_plain g (taken + (8 + length u)) (taken + (8 + length u)) _ o refl
@@ -117,7 +117,7 @@ string_counted s t u g taken o e f utf8 h =
 
 -- a vector of structs takes 12, and 16 for each
 pub pairs_counted : (s : Slot) (xs ys : List (ℤ × ℤ)) (g taken : ℕ) (o : Option ℕ) → s ≡ v.Pairs xs → ys ≡ xs
-    → Counts g (taken + (12 + 16 * length ys)) (PairsFit ys) o → Counted g taken o (node s)
+    → CountsBytes g (taken + (12 + 16 * length ys)) (PairsFit ys) o → Counted g taken o (node s)
 pairs_counted s xs ys g taken o e f h =
     let i : node s ≡ (k.pairs ys, none) = ap node e ∙ (pairs_is xs ∙ ap (λ (zs : List (ℤ × ℤ)). (k.pairs zs, none)) (sym f)) in
     subst (Counted g taken o) (sym i) (counts_at g (taken + (12 + 16 * length ys)) (taken + (12 + 16 * length ys)) _ _ o refl
@@ -125,7 +125,7 @@ pairs_counted s xs ys g taken o e f h =
 
 -- a vector of tables takes 12, 4 for each, and what the tables take
 pub tables_counted : (s : Slot) (ts us : List FlatTree) (g taken : ℕ) (o : Option ℕ) → s ≡ v.Tables ts → us ≡ ts
-    → Counts g (taken + (12 + 4 * length us + targets_room (tables_view us))) (InRange (tables_view us)) o → Counted g taken o (node s)
+    → CountsBytes g (taken + (12 + 4 * length us + targets_room (tables_view us))) (InRange (tables_view us)) o → Counted g taken o (node s)
 tables_counted s ts us g taken o e f h =
     let i : node s ≡ (k.tables, tables_view us) =
     ap node e ∙ (tables_is ts ∙ ap (λ (xs : List FlatTree). (k.tables, tables_view xs)) (sym f)) in
@@ -158,11 +158,11 @@ Yes true = ⊤
 Yes false = ⊥
 
 -- where nothing was counted, the greatest room is passed
-pub over_limit : (g n : ℕ) (F : Type 0) (o : Option ℕ) → Counts g n F o → is_some o ≡ false → g < n
+pub over_limit : (g n : ℕ) (F : Type 0) (o : Option ℕ) → CountsBytes g n F o → is_some o ≡ false → g < n
 over_limit g n F None h e = h
 over_limit g n F (Some s) h e = absurd (subst Yes e tt)
 
 -- where something was counted, it is within the greatest room
-pub within_limit : (g n : ℕ) (F : Type 0) (o : Option ℕ) → Counts g n F o → is_some o ≡ true → (n ≤ g) × F
+pub within_limit : (g n : ℕ) (F : Type 0) (o : Option ℕ) → CountsBytes g n F o → is_some o ≡ true → (n ≤ g) × F
 within_limit g n F None h e = absurd (subst Yes (sym e) tt)
 within_limit g n F (Some s) h e = (omega (arith, h.0, h.1), h.2)

@@ -5,7 +5,7 @@ use Rattle.std.specs.Prelude.{ℤ, ℕ, ◌+◌, ◌*◌, ◌<◌, ◌≤◌, �
 use Rattle.std.specs.Prelude.{Ok, ⊤}
 use Rattle.std.specs.Int.{byte_len, cast_signed}
 use Rattle.ipc_scalar.specs.Bytes.{num, byte, int64}
-use Rattle.ipc_scalar.specs.Flat.{vtable_of, slot_of, points, table_of, elements_of, text_of}
+use Rattle.ipc_scalar.specs.Flat.{vtable_of, slot_of, points, table_position, elements_of, text_of}
 use Rattle.ipc_build.specs.Trees.{Content, Tree, none, field}
 use Rattle.ipc_build.specs.Trees as k
 use Rattle.ipc_build.specs.Layout.{members}
@@ -40,10 +40,10 @@ inline_end_of b v t = t + num b (v + 2) 2
 module _ (P : ℕ → ℕ → Type 0) (b : List ℕ) where
   -- "Tables", "Strings and Vectors": field n, of w bytes, is at p and ends within the table's
   -- inline part; or the next offset of a vector is at p
-  abbrev pub StandsAt : Holder → ℕ → ℕ → ℕ → Type 0
-  StandsAt (in_table t) n w p = (slot_of b t n w ≡ Ok (Some p))
+  abbrev pub IsPlacedAt : Holder → ℕ → ℕ → ℕ → Type 0
+  IsPlacedAt (in_table t) n w p = (slot_of b t n w ≡ Ok (Some p))
       × ((v : ℕ) × (vtable_of b t ≡ Ok v) × (p + w ≤ inline_end_of b v t))
-  StandsAt (in_vector q) n w p = p ≡ q
+  IsPlacedAt (in_vector q) n w p = p ≡ q
 
   -- "Structs": structs of two signed 64-bit numbers, one after another from q on
   unfoldable pub EncodesPairs : ℕ → List (ℤ × ℤ) → Type 0
@@ -53,7 +53,7 @@ module _ (P : ℕ → ℕ → Type 0) (b : List ℕ) where
 
   -- "Tables": there is a table at t, its inline part ends inside the bytes, and every field whose
   -- number is not among these fields is absent
-  pub record TableStands (t : ℕ) (f : Tree) : Type 0 where
+  pub record IsTablePlaced (t : ℕ) (f : Tree) : Type 0 where
     pub vtable : ℕ
     pub found : vtable_of b t ≡ Ok vtable
     pub holds : P 4 t
@@ -78,7 +78,7 @@ module _ (P : ℕ → ℕ → Type 0) (b : List ℕ) where
   EncodesTarget (k.pairs xs) f below p =
       (q : ℕ) × (elements_of b p 16 ≡ Ok (q + 4, length xs)) × P 4 q × EncodesPairs (q + 4) xs
   EncodesTarget k.table f below p =
-      (t : ℕ) × (table_of b p ≡ Ok t) × TableStands t f × below (in_table t)
+      (t : ℕ) × (table_position b p ≡ Ok t) × IsTablePlaced t f × below (in_table t)
   EncodesTarget k.tables f below p =
       (q : ℕ) × (elements_of b p 4 ≡ Ok (q + 4, members f)) × P 4 q × below (in_vector (q + 4))
 
@@ -86,7 +86,7 @@ module _ (P : ℕ → ℕ → Type 0) (b : List ℕ) where
   unfoldable pub EncodesTable : Holder → Tree → Type 0
   EncodesTable at none = ⊤
   EncodesTable at (field n content inner rest) =
-      ((p : ℕ) × StandsAt at n (inline_width content) p × P (inline_width content) p
+      ((p : ℕ) × IsPlacedAt at n (inline_width content) p × P (inline_width content) p
       × EncodesTarget content inner (λ there. EncodesTable there inner) p)
       × EncodesTable (next_in at) rest
 

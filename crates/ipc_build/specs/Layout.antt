@@ -77,17 +77,17 @@ inline_bytes w (field n content inner rest) h p =
     ++ inline_bytes w rest (h + w) (target_end content inner (targets_end inner) p)
 
 -- a vtable's entries from number n on; the next field is d bytes after the start of its table
-unfoldable pub entries : ℕ → ℕ → Tree → List ℕ
-entries n d none = []
-entries n d (field m content inner rest) =
-    padding (2 * (m - n)) ++ (little 2 d ++ entries (m + 1) (d + 8) rest)
+unfoldable pub vtable_entries : ℕ → ℕ → Tree → List ℕ
+vtable_entries n d none = []
+vtable_entries n d (field m content inner rest) =
+    padding (2 * (m - n)) ++ (little 2 d ++ vtable_entries (m + 1) (d + 8) rest)
 
 -- a vtable at p: its size, its table's size, the entries and padding; then the first 4 bytes of its
 -- table, the distance between the two
 unfoldable pub head_bytes : Tree → ℕ → List ℕ
 head_bytes f p =
     little 2 (4 + 2 * entry_count 0 f) ++ (little 2 (4 + 8 * members f)
-    ++ (entries 0 4 f ++ (padding (table_place f p - (p + 4 + 2 * entry_count 0 f))
+    ++ (vtable_entries 0 4 f ++ (padding (table_place f p - (p + 4 + 2 * entry_count 0 f))
     ++ little 4 (table_place f p - p))))
 
 -- a vtable at p, and its table

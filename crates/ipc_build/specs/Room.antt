@@ -32,5 +32,5 @@ abbrev pub size : Tree → ℕ
 size f = targets_end (as_vector f) 4
 
 -- a result of counting room: the sum n, and P holds; or none if n is above `greatest`
-abbrev pub Counts : ℕ → ℕ → Type 0 → Option ℕ → Type 0
-Counts greatest n P sum = MatchOption sum (greatest < n) (λ x. (x ≡ n) × (x ≤ greatest) × P)
+abbrev pub CountsBytes : ℕ → ℕ → Type 0 → Option ℕ → Type 0
+CountsBytes greatest n P sum = MatchOption sum (greatest < n) (λ x. (x ≡ n) × (x ≤ greatest) × P)

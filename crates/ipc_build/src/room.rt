@@ -3,12 +3,13 @@ ghost use Rattle.std.specs.Prelude.{◌≡◌, ◌≤◌, ◌<◌, ◌+◌, ◌*
 ghost use Rattle.ipc_build.specs.Trees.{node, view, fields_view, tables_view};
 ghost use Rattle.ipc_build.specs.Layout.{entry_count};
 ghost use Rattle.ipc_build.specs.Ascends.{IsInRange, InRange, PairsFit};
-ghost use Rattle.ipc_build.specs.Room.{Counts, room, target_room, targets_room};
+ghost use Rattle.ipc_build.specs.Room.{CountsBytes, room, target_room, targets_room};
 
 use crate::places::entry_count;
 use crate::tree::{FlatTree, Slot};
 
-// What is taken with `fixed` bytes and `count` times `width` bytes more, where that is at most
+// What is taken with `fixed_bytes` bytes and `count` times `width` bytes more, where that is at
+// most
 // `greatest`.
 fn add(taken: usize, fixed: usize, width: usize, count: usize, greatest: usize) -> Option<usize>
     requires limit { greatest < 2 ^ 31 }
@@ -16,7 +17,7 @@ fn add(taken: usize, fixed: usize, width: usize, count: usize, greatest: usize) 
     requires fixed { fixed ≤ 2 ^ 10 }
     requires width { width ≤ 2 ^ 10 }
     requires some { 1 ≤ width }
-    ensures { Counts greatest (taken + (fixed + width * count)) ⊤ result }
+    ensures { CountsBytes greatest (taken + (fixed + width * count)) ⊤ result }
 {
     if count > greatest {
         return None;
@@ -33,7 +34,8 @@ fn add(taken: usize, fixed: usize, width: usize, count: usize, greatest: usize) 
 fn pairs_room(pairs: &[(i64, i64)], taken: usize, greatest: usize) -> Option<usize>
     requires limit { greatest < 2 ^ 31 }
     requires taken { taken ≤ greatest }
-    ensures { Counts greatest (taken + (12 + 16 * length pairs.now)) (PairsFit pairs.now) result }
+    ensures { CountsBytes greatest (taken + (12 + 16 * length pairs.now)) (PairsFit pairs.now)
+        result }
 {
     for &(_first, _second) in pairs {}
     add(taken, 12, 16, pairs.len(), greatest)
@@ -43,7 +45,7 @@ fn pairs_room(pairs: &[(i64, i64)], taken: usize, greatest: usize) -> Option<usi
 fn text_room(text: &str, taken: usize, greatest: usize) -> Option<usize>
     requires limit { greatest < 2 ^ 31 }
     requires taken { taken ≤ greatest }
-    ensures { Counts greatest (taken + (8 + length text.now)) ⊤ result }
+    ensures { CountsBytes greatest (taken + (8 + length text.now)) ⊤ result }
 {
     add(taken, 8, 1, text.len(), greatest)
 }
@@ -54,7 +56,7 @@ fn text_room(text: &str, taken: usize, greatest: usize) -> Option<usize>
 fn target_room(slot: &Slot, taken: usize, greatest: usize) -> Option<usize>
     requires limit { greatest < 2 ^ 31 }
     requires taken { taken ≤ greatest }
-    ensures { Counts greatest (taken + target_room (node slot.now).0 (node slot.now).1
+    ensures { CountsBytes greatest (taken + target_room (node slot.now).0 (node slot.now).1
         (targets_room (node slot.now).1))
         (IsInRange (node slot.now).0 × InRange (node slot.now).1) result }
 {
@@ -76,7 +78,7 @@ fn target_room(slot: &Slot, taken: usize, greatest: usize) -> Option<usize>
 fn table_room(tree: &FlatTree, taken: usize, greatest: usize) -> Option<usize>
     requires limit { greatest < 2 ^ 31 }
     requires taken { taken ≤ greatest }
-    ensures { Counts greatest (taken + (24 + 10 * entry_count 0 (view tree.now)
+    ensures { CountsBytes greatest (taken + (24 + 10 * entry_count 0 (view tree.now)
         + targets_room (view tree.now))) (InRange (view tree.now)) result }
 {
     let slots = tree.slots.as_slice();
@@ -89,7 +91,7 @@ fn table_room(tree: &FlatTree, taken: usize, greatest: usize) -> Option<usize>
 fn targets_room(slots: &[(u16, Slot)], taken: usize, greatest: usize) -> Option<usize>
     requires limit { greatest < 2 ^ 31 }
     requires taken { taken ≤ greatest }
-    ensures { Counts greatest (taken + targets_room (fields_view slots.now))
+    ensures { CountsBytes greatest (taken + targets_room (fields_view slots.now))
         (InRange (fields_view slots.now)) result }
 {
     let mut sum = taken;
@@ -104,7 +106,7 @@ fn targets_room(slots: &[(u16, Slot)], taken: usize, greatest: usize) -> Option<
 fn vector_room(trees: &[FlatTree], taken: usize, greatest: usize) -> Option<usize>
     requires limit { greatest < 2 ^ 31 }
     requires taken { taken ≤ greatest }
-    ensures { Counts greatest
+    ensures { CountsBytes greatest
         (taken + (12 + 4 * length trees.now + targets_room (tables_view trees.now)))
         (InRange (tables_view trees.now)) result }
 {
@@ -117,7 +119,7 @@ fn vector_room(trees: &[FlatTree], taken: usize, greatest: usize) -> Option<usiz
 fn elements_room(trees: &[FlatTree], taken: usize, greatest: usize) -> Option<usize>
     requires limit { greatest < 2 ^ 31 }
     requires taken { taken ≤ greatest }
-    ensures { Counts greatest (taken + targets_room (tables_view trees.now))
+    ensures { CountsBytes greatest (taken + targets_room (tables_view trees.now))
         (InRange (tables_view trees.now)) result }
 {
     let mut sum = taken;
@@ -130,7 +132,7 @@ fn elements_room(trees: &[FlatTree], taken: usize, greatest: usize) -> Option<us
 // The room of a tree, where that is at most `greatest`.
 pub(crate) fn room(tree: &FlatTree, greatest: usize) -> Option<usize>
     requires { greatest < 2 ^ 31 }
-    ensures { Counts greatest (room (view tree.now)) (InRange (view tree.now)) result }
+    ensures { CountsBytes greatest (room (view tree.now)) (InRange (view tree.now)) result }
 {
     if greatest < 16 {
         return None;

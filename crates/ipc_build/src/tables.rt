@@ -3,7 +3,8 @@ ghost use Rattle.std.specs.Prelude.{◌≡◌, ◌≤◌, ◌<◌, ◌+◌, ◌-
 ghost use Rattle.std.specs.Int.{w64, cast_unsigned};
 ghost use Rattle.ipc_build.specs.Trees.{node, view, fields_view, tables_view};
 ghost use Rattle.ipc_build.specs.Layout.{little, padding, targets_end, target_end, target_bytes};
-ghost use Rattle.ipc_build.specs.Layout.{targets, inline_end, table_place, inline_bytes, entries};
+ghost use Rattle.ipc_build.specs.Layout.{targets, inline_end, table_place, inline_bytes};
+ghost use Rattle.ipc_build.specs.Layout.{vtable_entries};
 ghost use Rattle.ipc_build.specs.Layout.{head_bytes, own_bytes, struct_bytes, prefix_place};
 ghost use Rattle.ipc_build.specs.Layout.{string_end};
 ghost use Rattle.ipc_build.specs.Ascends.{fields, elements, Below, Writable};
@@ -19,7 +20,7 @@ use std::alloc::AllocError;
 fn write_entries(out: &mut Vec<u8>, slots: &[(u16, Slot)]) -> Result<(), AllocError>
     requires { Writable (fields 0) (fields_view slots.now) }
     ensures { IfOk result (λ _. out.new.items
-        ≡ out.old.items ++ entries 0 4 (fields_view slots.now)) }
+        ≡ out.old.items ++ vtable_entries 0 4 (fields_view slots.now)) }
 {
     let mut first = 0;
     let mut distance = 4;

@@ -25,17 +25,17 @@ use Rattle.ipc_column.specs.declared.batch.Shared.{Shared}
 use Rattle.ipc_column.specs.declared.dictionary.Leaf.{Leaf}
 use Rattle.ipc_column.specs.declared.ranges.ColumnRanges.{ColumnRanges}
 use Rattle.ipc_column.specs.declared.ranges.ColumnRanges.TheViews.{out-ColumnRanges}
-use Rattle.ipc_column.specs.Checks.{Holds, are_long, good, good_below, in_order}
+use Rattle.ipc_column.specs.Checks.{PassTests, children_have_slots, good, good_below, in_order}
 use Rattle.ipc_column.specs.Columns.{Column, Columns, none, column}
 use Rattle.ipc_column.specs.Contents.{Contents}
 use Rattle.ipc_column.specs.DictionaryBatches.{IsDictionary, dictionaries_in, dictionary_values}
-use Rattle.ipc_column.specs.Dictionaries.{stands_alone, values_for}
+use Rattle.ipc_column.specs.Dictionaries.{has_no_children, values_for}
 use Rattle.ipc_column.specs.Leaves.{leaf_column, leaf_values}
 use Rattle.ipc_column.specs.Lending.{AreAlone}
-use Rattle.ipc_column.specs.Lent.{HoldSlots, found, values_in}
+use Rattle.ipc_column.specs.Lent.{HoldSlots, column_of_buffers, values_in}
 use Rattle.ipc_column.specs.Values.{first_of, is_valid, items, own_value, place_below, row, rows_of, value_at, value_of}
 use Rattle.ipc_column.specs.Sharing.{contents_of}
-use Rattle.ipc_column.specs.Views.{columns, column_of, children_of, own_column}
+use Rattle.ipc_column.specs.Views.{part_columns, column_of, children_of, own_column}
 use Rattle.ipc_column.proofs.Cells.{items_more}
 use Rattle.ipc_column.proofs.Lent.{nested_layouts}
 use Rattle.ipc_column.proofs.Found.{column_holds, column_slots, items_first}
@@ -44,18 +44,18 @@ use Rattle.ipc_column.proofs.Slots.{items_length}
 
 -- ---- layouts that stand alone
 
-order_alone : (layout : Layout) (n : ℕ) (o : List ℕ) (size : ℕ) (cs : Columns) → stands_alone layout ≡ true
+order_alone : (layout : Layout) (n : ℕ) (o : List ℕ) (size : ℕ) (cs : Columns) → has_no_children layout ≡ true
     → in_order layout n o size cs ≡ true → in_order layout n o size none ≡ true
 order_alone l.Lists n o size cs a h = absurd (false≢true a)
 order_alone (l.VariableBytes utf8) n o size cs a h = h
 order_alone _ n o size cs a h = refl
 
-long_alone : (layout : Layout) (n : ℕ) → stands_alone layout ≡ true → are_long layout n none ≡ true
+long_alone : (layout : Layout) (n : ℕ) → has_no_children layout ≡ true → children_have_slots layout n none ≡ true
 long_alone l.Structs n a = absurd (false≢true a)
 long_alone (l.FixedLists size) n a = absurd (false≢true a)
 long_alone _ n a = refl
 
-good_alone : (why : Cause) (layout : Layout) (d e : List Value) (f g : ℕ → ℕ → Bool) (o w : List ℕ) (i : ℕ) → stands_alone layout ≡ true
+good_alone : (why : Cause) (layout : Layout) (d e : List Value) (f g : ℕ → ℕ → Bool) (o w : List ℕ) (i : ℕ) → has_no_children layout ≡ true
     → good_below why layout d f o w i ≡ good_below why layout e g o w i
 good_alone why l.Lists d e f g o w i a = absurd (false≢true a)
 good_alone why (l.FixedLists size) d e f g o w i a = absurd (false≢true a)
@@ -68,7 +68,7 @@ good_alone why l.Bits d e f g o w i a = refl
 good_alone why (l.Numbers bits signed) d e f g o w i a = refl
 good_alone why (l.FixedBytes width) d e f g o w i a = refl
 
-value_alone : (layout : Layout) (d e : List Value) (f g : ℕ → List Value) (o w : List ℕ) (i : ℕ) → stands_alone layout ≡ true
+value_alone : (layout : Layout) (d e : List Value) (f g : ℕ → List Value) (o w : List ℕ) (i : ℕ) → has_no_children layout ≡ true
     → own_value layout d f o w i ≡ own_value layout e g o w i
 value_alone l.Lists d e f g o w i a = absurd (false≢true a)
 value_alone (l.FixedLists size) d e f g o w i a = absurd (false≢true a)
@@ -84,9 +84,9 @@ value_alone (l.FixedBytes width) d e f g o w i a = refl
 
 -- the same column, without a dictionary
 abbrev alone_of : Column → Column
-alone_of c = found c.layout c.slots c.validity c.offsets c.values []
+alone_of c = column_of_buffers c.layout c.slots c.validity c.offsets c.values []
 
-hold_alone : (c : Column) (cs : Columns) → stands_alone c.layout ≡ true → HoldSlots c cs → HoldSlots (alone_of c) none
+hold_alone : (c : Column) (cs : Columns) → has_no_children c.layout ≡ true → HoldSlots c cs → HoldSlots (alone_of c) none
 hold_alone c cs a h = record {
   bitmap = h.bitmap;
   values = h.values;
@@ -99,7 +99,7 @@ hold_alone c cs a h = record {
       (good cause.ValueNotUtf8 none) (good cause.ValueNotUtf8 cs) c.offsets c.values i a) ∙ h.good i m;
 }
 
-values_alone : (c : Column) (cs : Columns) (i : ℕ) → stands_alone c.layout ≡ true
+values_alone : (c : Column) (cs : Columns) (i : ℕ) → has_no_children c.layout ≡ true
     → value_of (row none) (alone_of c) i ≡ value_of (row cs) c i
 values_alone c cs i a =
     ap (λ (x : Value). cond (is_valid c.validity i) x v.Null)
@@ -122,49 +122,50 @@ firsts c cs (suc n) =
     ∙ (ap (λ (vs : List Value). vs ++ f n ∷ []) (firsts c cs n)
     ∙ sym (ap (λ (k : ℕ). items f 0 k) e ∙ (items_more f 0 n ∙ ap (λ (k : ℕ). items f 0 n ++ f k ∷ []) z)))
 
-one_part : (body : List ℕ) (ps : List ColumnRanges) (p : ColumnRanges) → AreAlone (columns body ps) → p ≡ get_or ps 0 p
-    → (ps ≡ p ∷ []) × (stands_alone (column_of body p).layout ≡ true)
+one_part : (body : List ℕ) (ps : List ColumnRanges) (p : ColumnRanges) → AreAlone (part_columns body ps) → p ≡ get_or ps 0 p
+    → (ps ≡ p ∷ []) × (has_no_children (column_of body p).layout ≡ true)
 one_part body [] p a e = absurd (no_layout a.layout a.one)
   where
     no_layout : (x : Layout) → [] ≡ x ∷ [] → ⊥
     no_layout x e = let n = ap (λ (ls : List Layout). length ls) e in omega (arith, n)
 one_part body (q ∷ []) p a e = (
   ap (λ (x : ColumnRanges). x ∷ []) (sym e),
-  subst (λ (x : ColumnRanges). stands_alone (column_of body x).layout ≡ true) (sym e)
-      (ap stands_alone (ap (λ (ls : List Layout). get_or ls 0 l.Null) a.one) ∙ a.alone),
+  subst (λ (x : ColumnRanges). has_no_children (column_of body x).layout ≡ true) (sym e)
+      (ap has_no_children (ap (λ (ls : List Layout). get_or ls 0 l.Null) a.one) ∙ a.alone),
 )
 one_part body (q ∷ r ∷ ps) p a e =
     let n = ap (λ (ls : List Layout). length ls) a.one in absurd (omega (arith, n))
 
-pub some_part : (body : List ℕ) (ps : List ColumnRanges) → AreAlone (columns body ps) → 0 < length ps
+pub some_part : (body : List ℕ) (ps : List ColumnRanges) → AreAlone (part_columns body ps) → 0 < length ps
 some_part body [] a = let n = ap (λ (ls : List Layout). length ls) a.one in absurd (omega (arith, n))
 some_part body (p ∷ ps) a = omega arith
 
 -- one part that stands alone
 pub alone_from : (body : List ℕ) (ps : List ColumnRanges) (p : ColumnRanges) → length ps ≡ 1 → p ≡ get_or ps 0 p
-    → stands_alone (out-ColumnRanges p).layout ≡ true → AreAlone (columns body ps)
+    → has_no_children (out-ColumnRanges p).layout ≡ true → AreAlone (part_columns body ps)
 alone_from body [] p n e a = absurd (omega (arith, n))
 alone_from body (q ∷ []) p n e a = record {
   layout = (column_of body q).layout;
   one = refl;
-  alone = subst (λ (x : ColumnRanges). stands_alone (column_of body x).layout ≡ true) e
-      (ap (λ (c : Column). stands_alone c.layout) (column_is body p) ∙ a);
+  alone = subst (λ (x : ColumnRanges). has_no_children (column_of body x).layout ≡ true) e
+      (ap (λ (c : Column). has_no_children c.layout) (column_is body p) ∙ a);
 }
 alone_from body (q ∷ r ∷ ps) p n e a = absurd (omega (arith, n))
 
-pub alone_one : (body : List ℕ) (ps : List ColumnRanges) → AreAlone (columns body ps) → length ps ≡ 1
+pub alone_one : (body : List ℕ) (ps : List ColumnRanges) → AreAlone (part_columns body ps) → length ps ≡ 1
 alone_one body [] a = let n = ap (λ (ls : List Layout). length ls) a.one in absurd (omega (arith, n))
 alone_one body (q ∷ []) a = omega arith
 alone_one body (q ∷ r ∷ ps) a = let n = ap (λ (ls : List Layout). length ls) a.one in absurd (omega (arith, n))
 
-pub alone_is : (body : List ℕ) (ps : List ColumnRanges) (p : ColumnRanges) → p ≡ get_or ps 0 p → AreAlone (columns body ps)
-    → stands_alone (out-ColumnRanges p).layout ≡ true
-alone_is body ps p e a = ap (λ (c : Column). stands_alone c.layout) (sym (column_is body p)) ∙ (one_part body ps p a e).1
+pub alone_is : (body : List ℕ) (ps : List ColumnRanges) (p : ColumnRanges) → p ≡ get_or ps 0 p → AreAlone (part_columns body ps)
+    → has_no_children (out-ColumnRanges p).layout ≡ true
+alone_is body ps p e a = ap (λ (c : Column). has_no_children c.layout) (sym (column_is body p)) ∙ (one_part body ps p a e).1
 
-module _ (body : List ℕ) (ps : List ColumnRanges) (n : ℕ) (p : ColumnRanges) (is : p ≡ get_or ps 0 p) (holds : Holds n (columns body ps))
-    (alone : AreAlone (columns body ps)) where
-  pub part_alone : stands_alone (out-ColumnRanges p).layout ≡ true
-  part_alone = ap (λ (c : Column). stands_alone c.layout) (sym (column_is body p)) ∙ (one_part body ps p alone is).1
+module _ (body : List ℕ) (ps : List ColumnRanges) (n : ℕ) (p : ColumnRanges) (is : p ≡ get_or ps 0 p)
+    (holds : PassTests n (part_columns body ps))
+    (alone : AreAlone (part_columns body ps)) where
+  pub part_alone : has_no_children (out-ColumnRanges p).layout ≡ true
+  part_alone = ap (λ (c : Column). has_no_children c.layout) (sym (column_is body p)) ∙ (one_part body ps p alone is).1
 
   pub part_holds : HoldSlots (alone_of (own_column body p)) none
   part_holds =
@@ -172,21 +173,21 @@ module _ (body : List ℕ) (ps : List ColumnRanges) (n : ℕ) (p : ColumnRanges)
       (hold_alone (column_of body p) (children_of body p) (one_part body ps p alone is).1
       (column_holds body ps n 0 p (some_part body ps alone) is holds))
 
-  pub part_firsts : values_in (alone_of (own_column body p)) none ≡ map first_of (rows_of (columns body ps) n)
+  pub part_firsts : values_in (alone_of (own_column body p)) none ≡ map first_of (rows_of (part_columns body ps) n)
   part_firsts =
-      subst (λ (c : Column). values_in (alone_of c) none ≡ map first_of (rows_of (columns body ps) n)) (column_is body p)
+      subst (λ (c : Column). values_in (alone_of c) none ≡ map first_of (rows_of (part_columns body ps) n)) (column_is body p)
       (items_same (value_of (row none) (alone_of (column_of body p))) (value_of (row (children_of body p)) (column_of body p)) 0
       (column_of body p).slots (λ i. values_alone (column_of body p) (children_of body p) i (one_part body ps p alone is).1)
       ∙ (ap (λ (k : ℕ). items (value_of (row (children_of body p)) (column_of body p)) 0 k)
       (column_slots body ps n 0 p (some_part body ps alone) is holds)
       ∙ (sym (firsts (column_of body p) (children_of body p) n)
-      ∙ sym (ap (λ (qs : List ColumnRanges). map first_of (rows_of (columns body qs) n)) (one_part body ps p alone is).0))))
+      ∙ sym (ap (λ (qs : List ColumnRanges). map first_of (rows_of (part_columns body qs) n)) (one_part body ps p alone is).0))))
 
 -- a batch of one column that stands alone is a dictionary
-pub as_dictionary : (s : Shared) → AreAlone (columns s.body.value.items s.parts.items) → IsDictionary (contents_of s)
+pub as_dictionary : (s : Shared) → AreAlone (part_columns s.body.value.items s.parts.items) → IsDictionary (contents_of s)
 as_dictionary s a = record { layout = a.layout; one = nested_layouts s.body.value.items s.parts.items ∙ a.one; alone = a.alone }
 
-pub from_dictionary : (s : Shared) → IsDictionary (contents_of s) → AreAlone (columns s.body.value.items s.parts.items)
+pub from_dictionary : (s : Shared) → IsDictionary (contents_of s) → AreAlone (part_columns s.body.value.items s.parts.items)
 from_dictionary s d = record { layout = d.layout; one = sym (nested_layouts s.body.value.items s.parts.items) ∙ d.one; alone = d.alone }
 
 -- ---- values of a dictionary

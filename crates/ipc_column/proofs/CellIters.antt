@@ -8,7 +8,7 @@ use Rattle.ipc_column.specs.declared.ranges.ColumnRanges.{ColumnRanges}
 use Rattle.ipc_column.specs.Columns.{Columns}
 use Rattle.ipc_column.specs.Lent.{HaveValues, HasValue}
 use Rattle.ipc_column.specs.Values.{items}
-use Rattle.ipc_column.specs.Views.{columns, column_of, children_of}
+use Rattle.ipc_column.specs.Views.{part_columns, column_of, children_of}
 use Rattle.ipc_column.proofs.Goods.{good_within}
 use Rattle.ipc_column.proofs.Slots.{slot_value, slots_first, slots_within}
 
@@ -30,17 +30,17 @@ have_next cs i j l h = record {
 
 -- the first part has a value where all have
 pub have_first : (body : List ℕ) (ps qs : List ColumnRanges) (p : ColumnRanges) (i j : ℕ) → i < j → ps ≡ p ∷ qs
-    → HaveValues (columns body ps) i j → HasValue (column_of body p) (children_of body p) i
+    → HaveValues (part_columns body ps) i j → HasValue (column_of body p) (children_of body p) i
 have_first body ps qs p i j l e h =
     slot_value body (p ∷ qs) i j i 0 p (omega arith) refl (omega arith) l
-    (subst (λ (all : List ColumnRanges). HaveValues (columns body all) i j) e h)
+    (subst (λ (all : List ColumnRanges). HaveValues (part_columns body all) i j) e h)
 
 -- and so have those behind it
 pub have_others : (body : List ℕ) (ps qs : List ColumnRanges) (p : ColumnRanges) (i j : ℕ) → ps ≡ p ∷ qs
-    → HaveValues (columns body ps) i j → HaveValues (columns body qs) i j
+    → HaveValues (part_columns body ps) i j → HaveValues (part_columns body qs) i j
 have_others body ps qs p i j e h =
-    let all = subst (λ (all : List ColumnRanges). HaveValues (columns body all) i j) e h in
+    let all = subst (λ (all : List ColumnRanges). HaveValues (part_columns body all) i j) e h in
     record {
-      slots = (slots_first (column_of body p) (children_of body p) (columns body qs) i j all.slots).1;
+      slots = (slots_first (column_of body p) (children_of body p) (part_columns body qs) i j all.slots).1;
       good = (and_parts _ _ all.good).1;
     }

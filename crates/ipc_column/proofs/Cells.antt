@@ -9,18 +9,18 @@ use Rattle.ipc_model.specs.declared.value.Value.{Value}
 use Rattle.ipc_column.specs.declared.ranges.ColumnRanges.{ColumnRanges}
 use Rattle.ipc_column.specs.Columns.{Columns}
 use Rattle.ipc_column.specs.Values.{row, rows_of, value_of, items}
-use Rattle.ipc_column.specs.Views.{columns, column_of, children_of}
+use Rattle.ipc_column.specs.Views.{part_columns, column_of, children_of}
 use Rattle.std.proofs.Math.ListN.{get_or-append}
 use Rattle.std.proofs.Math.Seq.{get_or-append_seam}
 
 -- a row has as many values as there are columns
-pub row_length : (body : List ℕ) (ps : List ColumnRanges) (i : ℕ) → length (row (columns body ps) i) ≡ length ps
+pub row_length : (body : List ℕ) (ps : List ColumnRanges) (i : ℕ) → length (row (part_columns body ps) i) ≡ length ps
 row_length body [] i = refl
 row_length body (p ∷ ps) i = ap (λ (n : ℕ). suc n) (row_length body ps i)
 
 -- the value of row i in a column is the one in the column's slot i
 pub row_cell : (body : List ℕ) (ps : List ColumnRanges) (i j : ℕ) (p : ColumnRanges) → j < length ps → p ≡ get_or ps j p
-    → slice_get (row (columns body ps) i) j ≡ Some (value_of (row (children_of body p)) (column_of body p) i)
+    → slice_get (row (part_columns body ps) i) j ≡ Some (value_of (row (children_of body p)) (column_of body p) i)
 row_cell body [] i j p l e = absurd (omega arith)
 row_cell body (q ∷ ps) i zero p l e = rw e refl
 row_cell body (q ∷ ps) i (suc j) p l e = row_cell body ps i j p (omega arith) e

@@ -7,10 +7,10 @@ use Rattle.ipc_column.specs.declared.cause.Cause.TheVariants as cause
 use Rattle.ipc_column.specs.declared.ranges.ColumnRanges.{ColumnRanges}
 use Rattle.ipc_column.specs.declared.ranges.ColumnRanges.TheViews.{out-ColumnRanges}
 use Rattle.ipc_column.specs.Columns.{Column, Columns}
-use Rattle.ipc_column.specs.Checks.{passes, top_passes, Holds}
-use Rattle.ipc_column.specs.Lent.{HoldSlots, AreOfColumn, found, refound, values_in}
+use Rattle.ipc_column.specs.Checks.{passes, top_passes, PassTests}
+use Rattle.ipc_column.specs.Lent.{HoldSlots, AreOfColumn, column_of_buffers, without_null_count, values_in}
 use Rattle.ipc_column.specs.Values.{row, rows_of, value_of, items}
-use Rattle.ipc_column.specs.Views.{columns, column_of, children_of, own_column}
+use Rattle.ipc_column.specs.Views.{part_columns, column_of, children_of, own_column}
 use Rattle.ipc_column.specs.Spans.{span_bytes}
 use Rattle.ipc_column.proofs.Cells.{row_cell, rows_at, rows_length}
 use Rattle.ipc_column.proofs.Parts.{children_out, column_is, every_at, every_top_at}
@@ -25,13 +25,13 @@ items_first f n k l = items_at f 0 n k l ∙ ap (λ (j : ℕ). Some (f j)) (from
 
 -- a column of parts that give n rows has n slots
 pub column_slots : (body : List ℕ) (ps : List ColumnRanges) (n j : ℕ) (p : ColumnRanges) → j < length ps → p ≡ get_or ps j p
-    → Holds n (columns body ps) → (column_of body p).slots ≡ n
+    → PassTests n (part_columns body ps) → (column_of body p).slots ≡ n
 column_slots body ps n j p l e h =
     eqb-true _ _ (every_top_at (top_passes cause.BadNode n) body ps j p l e (and_parts _ _ (and_parts _ _ (h cause.BadNode)).1).0)
 
 -- its buffers have what its slots need
 pub column_holds : (body : List ℕ) (ps : List ColumnRanges) (n j : ℕ) (p : ColumnRanges) → j < length ps → p ≡ get_or ps j p
-    → Holds n (columns body ps) → HoldSlots (column_of body p) (children_of body p)
+    → PassTests n (part_columns body ps) → HoldSlots (column_of body p) (children_of body p)
 column_holds body ps n j p l e h =
     let own = long (column_of body p) (children_of body p) (λ why. (every_at (passes why) body ps j p l e (and_parts _ _ (h why)).0).0) in
     let size = column_slots body ps n j p l e h in
@@ -44,19 +44,20 @@ column_holds body ps n j p l e h =
       sound = λ why. (every_at (passes why) body ps j p l e (and_parts _ _ (h why)).0).1;
       good = λ i m.
           (slot_value body ps i (i + 1) i j p l e (omega arith) (omega arith)
-          (row_values (columns body ps) n i (omega (arith, m, size)) h)).good;
+          (row_values (part_columns body ps) n i (omega (arith, m, size)) h)).good;
     }
 
 -- its values are those of its place in the rows
 pub column_rows : (body : List ℕ) (ps : List ColumnRanges) (n j : ℕ) (p : ColumnRanges) → j < length ps → p ≡ get_or ps j p
-    → Holds n (columns body ps) → AreOfColumn (rows_of (columns body ps) n) j (values_in (column_of body p) (children_of body p))
+    → PassTests n (part_columns body ps) → AreOfColumn (rows_of (part_columns body ps) n) j
+    (values_in (column_of body p) (children_of body p))
 column_rows body ps n j p l e h =
     let size = column_slots body ps n j p l e h in
-    let all = rows_length (columns body ps) n in
+    let all = rows_length (part_columns body ps) n in
     record {
       size = items_length (value_of (row (children_of body p)) (column_of body p)) 0 (column_of body p).slots ∙ (size ∙ sym all);
       each = λ i m.
-          ap (λ (r : List Value). slice_get r j) (rows_at (columns body ps) n i [] (omega (arith, m, all)))
+          ap (λ (r : List Value). slice_get r j) (rows_at (part_columns body ps) n i [] (omega (arith, m, all)))
           ∙ (row_cell body ps i j p l e
           ∙ sym (items_first (value_of (row (children_of body p)) (column_of body p)) (column_of body p).slots i
           (omega (arith, m, all, size))));
@@ -67,18 +68,20 @@ pub found_is : (body : List ℕ) (p : ColumnRanges) (v o w : List ℕ) (d : List
     → o ≡ span_bytes body (out-ColumnRanges p).offsets → w ≡ span_bytes body (out-ColumnRanges p).values
     → d ≡ (out-ColumnRanges p).dictionary
     → (P : Column → Columns → Type 0)
-    → P (refound (column_of body p)) (children_of body p)
-    → P (found (out-ColumnRanges p).layout (out-ColumnRanges p).slots v o w d) (columns body (out-ColumnRanges p).children.items)
+    → P (without_null_count (column_of body p)) (children_of body p)
+    → P (column_of_buffers (out-ColumnRanges p).layout (out-ColumnRanges p).slots v o w d)
+    (part_columns body (out-ColumnRanges p).children.items)
 found_is body p v o w d ev eo ew ed P h =
     rw (ev, eo, ew, ed)
-    (subst (λ (cs : Columns). P (refound (own_column body p)) cs) (children_out body p)
-    (subst (λ (c : Column). P (refound c) (children_of body p)) (column_is body p) h))
+    (subst (λ (cs : Columns). P (without_null_count (own_column body p)) cs) (children_out body p)
+    (subst (λ (c : Column). P (without_null_count c) (children_of body p)) (column_is body p) h))
 
 pub found_holds : (body : List ℕ) (p : ColumnRanges) (v o w : List ℕ) (d : List Value) → v ≡ span_bytes body (out-ColumnRanges p).validity
     → o ≡ span_bytes body (out-ColumnRanges p).offsets → w ≡ span_bytes body (out-ColumnRanges p).values
     → d ≡ (out-ColumnRanges p).dictionary
     → HoldSlots (column_of body p) (children_of body p)
-    → HoldSlots (found (out-ColumnRanges p).layout (out-ColumnRanges p).slots v o w d) (columns body (out-ColumnRanges p).children.items)
+    → HoldSlots (column_of_buffers (out-ColumnRanges p).layout (out-ColumnRanges p).slots v o w d)
+    (part_columns body (out-ColumnRanges p).children.items)
 found_holds body p v o w d ev eo ew ed h = found_is body p v o w d ev eo ew ed HoldSlots (record {
   bitmap = h.bitmap;
   values = h.values;
@@ -92,7 +95,8 @@ found_holds body p v o w d ev eo ew ed h = found_is body p v o w d ev eo ew ed H
 pub found_values : (body : List ℕ) (p : ColumnRanges) (v o w : List ℕ) (d : List Value) → v ≡ span_bytes body (out-ColumnRanges p).validity
     → o ≡ span_bytes body (out-ColumnRanges p).offsets → w ≡ span_bytes body (out-ColumnRanges p).values
     → d ≡ (out-ColumnRanges p).dictionary
-    → values_in (found (out-ColumnRanges p).layout (out-ColumnRanges p).slots v o w d) (columns body (out-ColumnRanges p).children.items)
+    → values_in (column_of_buffers (out-ColumnRanges p).layout (out-ColumnRanges p).slots v o w d)
+    (part_columns body (out-ColumnRanges p).children.items)
     ≡ values_in (column_of body p) (children_of body p)
 found_values body p v o w d ev eo ew ed =
     found_is body p v o w d ev eo ew ed (λ c cs. values_in c cs ≡ values_in (column_of body p) (children_of body p)) refl

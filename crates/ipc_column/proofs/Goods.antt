@@ -6,14 +6,14 @@ use Rattle.std.proofs.Math.Nat.{mul-le-mul_left}
 use Rattle.std.proofs.lemmas.Bool.{false≢true, and_parts, and_from, leb-true}
 use Rattle.ipc_model.specs.declared.layout.Layout.{Layout}
 use Rattle.ipc_model.specs.declared.layout.Layout.TheVariants as l
-use Rattle.ipc_model.specs.Layouts.{is_judged, is_texts}
+use Rattle.ipc_model.specs.Layouts.{needs_slot_checks, is_texts}
 use Rattle.ipc_model.specs.declared.schema.IntBits.{IntBits}
 use Rattle.ipc_model.specs.declared.value.Value.{Value}
 use Rattle.ipc_column.specs.declared.cause.Cause.{Cause}
 use Rattle.ipc_column.specs.declared.cause.Cause.TheVariants as cause
 use Rattle.ipc_column.specs.Columns.{Column, Columns, none, column}
-use Rattle.ipc_column.specs.Values.{between, number_in, place, is_valid, child_slot}
-use Rattle.ipc_column.specs.Rules.{have_judged}
+use Rattle.ipc_column.specs.Values.{between, number_in, offset_position, is_valid, child_slot}
+use Rattle.ipc_column.specs.Rules.{have_slot_checks}
 use Rattle.ipc_column.specs.Checks.{all_below, all_slots, have_slots, good, good_slot, good_below, range_good, text_good}
 use Rattle.ipc_column.specs.Checks.{IsIndexed, index_good, index_passes, text_passes, visible_passes}
 use Rattle.ipc_column.proofs.Below.{below_at, below_from, below_fails}
@@ -115,41 +115,43 @@ or_true true = refl
 or_true false = refl
 
 -- where neither texts nor indices stand in the columns or below them, nothing is asked
-pub quiet_good : (why : Cause) (cs : Columns) (i j : ℕ) → have_judged cs ≡ false → good why cs i j ≡ true
+pub quiet_good : (why : Cause) (cs : Columns) (i j : ℕ) → have_slot_checks cs ≡ false → good why cs i j ≡ true
 quiet_good why none i j h = refl
 quiet_good why (column c children rest) i j h =
-    let p = or_parts (is_judged c.layout) (have_judged children || have_judged rest) h in
-    let q = or_parts (have_judged children) (have_judged rest) p.1 in
+    let p = or_parts (needs_slot_checks c.layout) (have_slot_checks children || have_slot_checks rest) h in
+    let q = or_parts (have_slot_checks children) (have_slot_checks rest) p.1 in
     and_from _ _ (below_from (λ k. good_slot why (good why children) c (i + k)) (j - i)
     (λ k m. ap (λ (b : Bool). not (is_valid c.validity (i + k)) || b)
     (below c.layout c.dictionary c.offsets c.values (i + k) p.0 (λ a b. quiet_good why children a b q.0))
     ∙ or_true (not (is_valid c.validity (i + k)))))
     (quiet_good why rest i j q.1)
   where
-    below : (layout : Layout) (dictionary : List Value) (o w : List ℕ) (k : ℕ) → is_judged layout ≡ false
+    below : (layout : Layout) (dictionary : List Value) (o w : List ℕ) (k : ℕ) → needs_slot_checks layout ≡ false
         → ((a b : ℕ) → good why children a b ≡ true) → good_below why layout dictionary (good why children) o w k ≡ true
     below (l.VariableBytes true) d o w k e all = absurd (false≢true (sym e))
     below (l.Indices bits signed id) d o w k e all = absurd (false≢true (sym e))
-    below l.Lists d o w k e all = all (place o k) (place o (k + 1))
+    below l.Lists d o w k e all = all (offset_position o k) (offset_position o (k + 1))
     below (l.FixedLists size) d o w k e all = all (size * k) (size * (k + 1))
     below l.Structs d o w k e all = all k (k + 1)
     below _ d o w k e all = refl
 
 -- what the slots of several rows lead to
 run_good : (why : Cause) (layout : Layout) (dictionary : List Value) (children : Columns) (o w : List ℕ) (a m : ℕ)
-    → is_judged layout ≡ false
+    → needs_slot_checks layout ≡ false
     → ((i : ℕ) → a ≤ i → i < a + m → child_slot layout o i ≤ child_slot layout o (i + 1))
     → all_slots (good_below why layout dictionary (good why children) o w) a m ≡ range_good layout (good why children) o a (a + m)
 run_good why (l.VariableBytes true) d children o w a m t up = absurd (false≢true (sym t))
 run_good why l.Lists d children o w a zero t up =
     let e : a + 0 ≡ a = omega arith in
-    rw e (sym (good_none why children (place o a)))
+    rw e (sym (good_none why children (offset_position o a)))
 run_good why l.Lists d children o w a (suc m) t up =
     let e : a + suc m ≡ a + m + 1 = omega arith in
     rw (e, run_good why l.Lists d children o w a m t (λ i h k. up i h (omega (arith, k))))
-    (sym (good_add why children (place o a) (place o (a + m)) (place o (a + m + 1)) (far m up) (up (a + m) (omega arith) (omega arith))))
+    (sym (good_add why children (offset_position o a) (offset_position o (a + m)) (offset_position o (a + m + 1)) (far m up)
+    (up (a + m) (omega arith) (omega arith))))
   where
-    far : (d : ℕ) → ((i : ℕ) → a ≤ i → i < a + suc d → place o i ≤ place o (i + 1)) → place o a ≤ place o (a + d)
+    far : (d : ℕ) → ((i : ℕ) → a ≤ i → i < a + suc d → offset_position o i ≤ offset_position o (i + 1)) → offset_position o a
+        ≤ offset_position o (a + d)
     far zero h = let e : a + 0 ≡ a = omega arith in rw e (omega arith)
     far (suc d) h =
         let e : a + suc d ≡ a + d + 1 = omega arith in
@@ -178,7 +180,8 @@ run_good why (l.VariableBytes false) d children o w a m t up = below_from (λ k.
 run_good why (l.Indices bits signed id) d children o w a m t up = absurd (false≢true (sym t))
 
 -- without a bitmap, what the slots of a range lead to is what the range leads to
-pub range_whole : (why : Cause) (c : Column) (children : Columns) (i j : ℕ) → is_judged c.layout ≡ false → length c.validity ≡ 0 → i ≤ j
+pub range_whole : (why : Cause) (c : Column) (children : Columns) (i j : ℕ) → needs_slot_checks c.layout ≡ false → length c.validity ≡ 0 → i
+    ≤ j
     → ((k : ℕ) → i ≤ k → k < j → child_slot c.layout c.offsets k ≤ child_slot c.layout c.offsets (k + 1))
     → range_good c.layout (good why children) c.offsets i j ≡ good why (column c children none) i j
 range_whole why c children i j t v l up =
@@ -193,7 +196,7 @@ range_whole why c children i j t v l up =
 
 -- what one slot leads to
 pub slot_range : (why : Cause) (layout : Layout) (dictionary : List Value) (below : ℕ → ℕ → Bool) (o w : List ℕ) (i : ℕ)
-    → is_judged layout ≡ false → range_good layout below o i (i + 1) ≡ good_below why layout dictionary below o w i
+    → needs_slot_checks layout ≡ false → range_good layout below o i (i + 1) ≡ good_below why layout dictionary below o w i
 slot_range why (l.VariableBytes true) d below o w i t = absurd (false≢true (sym t))
 slot_range why (l.VariableBytes false) d below o w i t = refl
 slot_range why l.Lists d below o w i t = refl
@@ -297,7 +300,7 @@ asks_nothing why texts indices (column c children rest) i j =
         → good_below why layout c.dictionary (good why children) c.offsets c.values k ≡ true
     below (l.VariableBytes true) k all = texts (between c.offsets c.values k)
     below (l.Indices bits signed id) k all = indices c.dictionary (number_in bits signed c.values k)
-    below l.Lists k all = all (place c.offsets k) (place c.offsets (k + 1))
+    below l.Lists k all = all (offset_position c.offsets k) (offset_position c.offsets (k + 1))
     below (l.FixedLists size) k all = all (size * k) (size * (k + 1))
     below l.Structs k all = all k (k + 1)
     below _ k all = refl
@@ -315,7 +318,7 @@ shown_is cause.BadNullCount n cs = asks_nothing cause.BadNullCount (λ b. refl) 
 shown_is cause.BadOffsets n cs = asks_nothing cause.BadOffsets (λ b. refl) (λ d z. refl) cs 0 n
 
 -- what the slots of a range lead to is enough, null or not
-pub range_enough : (why : Cause) (c : Column) (children : Columns) (i j : ℕ) → is_judged c.layout ≡ false → i ≤ j
+pub range_enough : (why : Cause) (c : Column) (children : Columns) (i j : ℕ) → needs_slot_checks c.layout ≡ false → i ≤ j
     → ((k : ℕ) → i ≤ k → k < j → child_slot c.layout c.offsets k ≤ child_slot c.layout c.offsets (k + 1))
     → range_good c.layout (good why children) c.offsets i j ≡ true → good why (column c children none) i j ≡ true
 range_enough why c children i j t l up h =

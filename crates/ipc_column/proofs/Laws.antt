@@ -13,9 +13,9 @@ use Rattle.ipc_column.specs.declared.cause.Cause.{Cause}
 use Rattle.ipc_column.specs.declared.cause.Cause.TheVariants as cause
 use Rattle.ipc_column.specs.Contents.{Contents}
 use Rattle.ipc_column.specs.Columns.{Column, Columns, every, every_top}
-use Rattle.ipc_column.specs.Shapes.{Shape, shape_of, columns_of, cut}
+use Rattle.ipc_column.specs.Shapes.{Shape, shape_of, field_columns, assigned_columns}
 use Rattle.ipc_column.specs.Values.{row, rows_of}
-use Rattle.ipc_column.specs.Checks.{fits, head_passes, all, is_slot_count, is_node, CountsHold, IsCounted, Holds, Passing, Failing}
+use Rattle.ipc_column.specs.Checks.{fits, head_passes, all, is_slot_count, is_node, CountsHold, AreCountsRight, PassTests, Passing, Failing}
 use Rattle.ipc_column.specs.Checks.{HeadHolds, passes, all_pass, fault_of, is_shown}
 use Rattle.ipc_column.specs.Rows.{Rows, RefusesParts, IsOneList, HasCounts, HasParts}
 use Rattle.ipc_column.specs.Dictionaries.{Dictionaries}
@@ -25,11 +25,11 @@ use Rattle.ipc_model.specs.declared.limits.Limits.{Limits}
 
 -- the rows of columns, by index
 rows_values : (rows : List (List Value)) (m : Dictionaries) (fields : List Field) (head : BatchHead) (body : List ℕ) (n : ℕ)
-    → rows ≡ rows_of (columns_of m fields head body) n
-    → (i : ℕ) → i < length rows → slice_index_or rows i [] ≡ row (columns_of m fields head body) i
+    → rows ≡ rows_of (field_columns m fields head body) n
+    → (i : ℕ) → i < length rows → slice_index_or rows i [] ≡ row (field_columns m fields head body) i
 rows_values rows m fields head body n e i l =
-    let size : length rows ≡ n = ap (λ (x : List (List Value)). length x) e ∙ rows_length (columns_of m fields head body) n in
-    ap (λ (x : List (List Value)). get_or x i []) e ∙ rows_at (columns_of m fields head body) n i [] (rw size at l)
+    let size : length rows ≡ n = ap (λ (x : List (List Value)). length x) e ∙ rows_length (field_columns m fields head body) n in
+    ap (λ (x : List (List Value)). get_or x i []) e ∙ rows_at (field_columns m fields head body) n i [] (rw size at l)
 
 -- the rows found where every test passes are the rows of the parts
 pub rows_from : {limits : Limits} → (m : Dictionaries) (fields : List Field) (head : BatchHead) (body : List ℕ) (rows : List (List Value))
@@ -48,23 +48,23 @@ rows_from {limits} m fields head body rows p =
       indices = (decides limits cause.BadIndex m fields head body).0 (p.sound cause.BadIndex);
       count = length_is head.length lengths.batch
           ∙ ap (λ (n : ℕ). pos n) (sym (ap (λ (x : List (List Value)). length x) p.values
-          ∙ rows_length (columns_of m fields head body) (unsigned_abs head.length)));
+          ∙ rows_length (field_columns m fields head body) (unsigned_abs head.length)));
       values = rows_values rows m fields head body (unsigned_abs head.length) p.values;
     }
 
 rows_are : {limits : Limits} → (m : Dictionaries) (fields : List Field) (head : BatchHead) (body : List ℕ) (rows : List (List Value))
     → Rows limits m fields head body rows
-    → rows ≡ rows_of (columns_of m fields head body) (length rows)
+    → rows ≡ rows_of (field_columns m fields head body) (length rows)
 rows_are m fields head body rows w =
-    ext_get_or [] rows (rows_of (columns_of m fields head body) (length rows)) (sym (rows_length (columns_of m fields head body)
+    ext_get_or [] rows (rows_of (field_columns m fields head body) (length rows)) (sym (rows_length (field_columns m fields head body)
     (length rows)))
-    (λ i l. w.values i l ∙ sym (rows_at (columns_of m fields head body) (length rows) i [] l))
+    (λ i l. w.values i l ∙ sym (rows_at (field_columns m fields head body) (length rows) i [] l))
 
 -- the parts of a batch give one list of rows at most
 pub one_list : IsOneList
 one_list limits others m fields head body rows more a b =
     let size : length rows ≡ length more = ap unsigned_abs (sym a.count ∙ b.count) in
-    rows_are m fields head body rows a ∙ (ap (rows_of (columns_of m fields head body)) size ∙ sym (rows_are m fields head body more b))
+    rows_are m fields head body rows a ∙ (ap (rows_of (field_columns m fields head body)) size ∙ sym (rows_are m fields head body more b))
 
 has_counts : {limits : Limits} → (fields : List Field) (head : BatchHead) (body : List ℕ)
     → CountsHold limits (shape_of fields) head (length body)
@@ -162,8 +162,8 @@ err_refuses limits m fields head body (Err f) h = refuses_from limits f m fields
 -- what the passes found, of the columns that were cut
 pub passing : {limits : Limits} → (m : Dictionaries) (shape : Shape) (head : BatchHead) (body : List ℕ) (n : ℕ) (cs : Columns)
     → n ≡ unsigned_abs head.length
-    → cs ≡ cut m shape head body 0 0
-    → ((why : Cause) → head_passes limits why shape head (length body) ≡ true) → Holds n cs
+    → cs ≡ assigned_columns m shape head body 0 0
+    → ((why : Cause) → head_passes limits why shape head (length body) ≡ true) → PassTests n cs
     → Passing limits m shape head body (rows_of cs n)
 passing m shape head body n cs en ec h p = record {
   sound = λ why. and_from _ _ (h why) (rw (en, ec) at (p why));
@@ -173,7 +173,7 @@ passing m shape head body n cs en ec h p = record {
 -- what a refused head says
 pub head_failing : (limits : Limits) (why : Cause) (m : Dictionaries) (shape : Shape) (head : BatchHead) (body : List ℕ)
     → head_passes limits why shape head (length body) ≡ false
-    → IsCounted limits why shape head (length body) → Failing limits (fault_of why) m shape head body
+    → AreCountsRight limits why shape head (length body) → Failing limits (fault_of why) m shape head body
 head_failing limits cause.WrongNodeCount m shape head body h n = and_left _ _ h
 head_failing limits cause.WrongBufferCount m shape head body h n = and_left _ _ h
 head_failing limits cause.BadNode m shape head body h n = (n, and_left _ _ h)
@@ -188,7 +188,7 @@ head_failing limits cause.BadIndex m shape head body h n = absurd (cc)
 pub columns_failing : (limits : Limits) (why : Cause) (m : Dictionaries) (shape : Shape) (head : BatchHead) (body : List ℕ) (n : ℕ)
     (cs : Columns)
     → n ≡ unsigned_abs head.length
-    → cs ≡ cut m shape head body 0 0
+    → cs ≡ assigned_columns m shape head body 0 0
     → HeadHolds limits shape head body → all_pass why n cs ≡ false → (is_shown why ≡ true → (other : Cause)
     → every (passes other) cs ≡ true)
     → Failing limits (fault_of why) m shape head body
@@ -198,12 +198,14 @@ columns_failing limits why m shape head body n cs en ec h f t =
     counts : CountsHold limits shape head (length body)
     counts = record { nodes = h cause.WrongNodeCount; buffers = h cause.WrongBufferCount }
 
-    holds : (test : Column → Columns → Bool) → every test (cut m shape head body 0 0) ≡ true
-        → (true && (every test (cut m shape head body 0 0) && (every_top (λ c. true) (cut m shape head body 0 0) && true))) ≡ true
-    holds test e = and_from (every test (cut m shape head body 0 0)) _ e (and_from _ _ (every_top_true (cut m shape head body 0 0)) refl)
+    holds : (test : Column → Columns → Bool) → every test (assigned_columns m shape head body 0 0) ≡ true
+        → (true && (every test (assigned_columns m shape head body 0 0) && (every_top (λ c. true) (assigned_columns m shape head body 0 0)
+        && true))) ≡ true
+    holds test e = and_from (every test (assigned_columns m shape head body 0 0)) _ e
+        (and_from _ _ (every_top_true (assigned_columns m shape head body 0 0)) refl)
 
     of_cause : (why : Cause) → fits limits m shape head body why ≡ false
-        → (is_shown why ≡ true → (other : Cause) → every (passes other) (cut m shape head body 0 0) ≡ true)
+        → (is_shown why ≡ true → (other : Cause) → every (passes other) (assigned_columns m shape head body 0 0) ≡ true)
         → Failing limits (fault_of why) m shape head body
     of_cause cause.WrongNodeCount e s = e
     of_cause cause.WrongBufferCount e s = e

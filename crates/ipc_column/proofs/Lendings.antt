@@ -11,7 +11,7 @@ use Rattle.ipc_column.specs.Checks.{has_bitmap, holds_offsets, holds_values, in_
 use Rattle.ipc_column.specs.Columns.{Column, Columns}
 use Rattle.ipc_column.specs.Lending.{AreBuffers, HoldsEntry}
 use Rattle.ipc_column.specs.Lent.{AreFound}
-use Rattle.ipc_column.specs.Nested.{Nested, below}
+use Rattle.ipc_column.specs.Nested.{Nested, child_columns}
 use Rattle.ipc_column.specs.Rules.{HasLongChildren, HasOffsets, IsLongEnough}
 use Rattle.ipc_column.specs.Values.{is_valid, number_in, place_below}
 use Rattle.ipc_column.proofs.Alone.{index_within}
@@ -30,16 +30,16 @@ found_children c children h = (of_long c.layout c.slots children).0 h.long
 
 module _ (s : Nested) (b : Buffers) (h : AreBuffers s b) where
   pub lent_bitmap : has_bitmap s.column.slots (length s.column.validity) ≡ true
-  lent_bitmap = (and_parts _ _ ((of_bytes s.column (below s)).1 h.long_enough)).0
+  lent_bitmap = (and_parts _ _ ((of_bytes s.column (child_columns s)).1 h.long_enough)).0
 
   pub lent_values : holds_values s.column.layout s.column.slots (length s.column.values) ≡ true
-  lent_values = (and_parts _ _ (and_parts _ _ ((of_bytes s.column (below s)).1 h.long_enough)).1).0
+  lent_values = (and_parts _ _ (and_parts _ _ ((of_bytes s.column (child_columns s)).1 h.long_enough)).1).0
 
   pub lent_offsets : holds_offsets s.column.layout s.column.slots (length s.column.offsets) ≡ true
-  lent_offsets = (and_parts _ _ (and_parts _ _ ((of_bytes s.column (below s)).1 h.long_enough)).1).1
+  lent_offsets = (and_parts _ _ (and_parts _ _ ((of_bytes s.column (child_columns s)).1 h.long_enough)).1).1
 
-  pub lent_order : in_order s.column.layout s.column.slots s.column.offsets (length s.column.values) (below s) ≡ true
-  lent_order = (of_order s.column.layout s.column.slots s.column.offsets (length s.column.values) (below s)).1 h.in_order
+  pub lent_order : in_order s.column.layout s.column.slots s.column.offsets (length s.column.values) (child_columns s) ≡ true
+  lent_order = (of_order s.column.layout s.column.slots s.column.offsets (length s.column.values) (child_columns s)).1 h.in_order
 
 -- ---- indices
 

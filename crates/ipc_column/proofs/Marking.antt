@@ -5,7 +5,7 @@ use Rattle.std.specs.declared.vec.Vec.{Vec}
 use Rattle.std.specs.Vec.{with_items}
 use Rattle.std.proofs.lemmas.Bool.{and_from, and_parts, le-leb}
 use Rattle.std.proofs.lemmas.List.{with_items_is}
-use Rattle.ipc_model.specs.Layouts.{is_judged}
+use Rattle.ipc_model.specs.Layouts.{needs_slot_checks}
 use Rattle.ipc_column.specs.declared.cause.Cause.{Cause}
 use Rattle.ipc_column.specs.declared.ranges.ColumnRanges.{ColumnRanges}
 use Rattle.ipc_column.specs.declared.ranges.ColumnRanges.TheOpen.{ColumnRanges-F}
@@ -15,7 +15,7 @@ use Rattle.ipc_column.specs.Checks.{passes}
 use Rattle.ipc_column.specs.Columns.{Column, Columns, column, every, none}
 use Rattle.ipc_column.specs.Lent.{AreSlots}
 use Rattle.ipc_column.specs.Marks.{mark, each_valid, all_valid, IsMarked, AreMarked}
-use Rattle.ipc_column.specs.Views.{columns, column_of, children_of, one, view, part_step}
+use Rattle.ipc_column.specs.Views.{part_columns, column_of, children_of, one, view, part_step}
 use Rattle.ipc_column.proofs.Marks.{marked_from}
 use Rattle.ipc_column.proofs.Parts.{children_out, column_is}
 use Rattle.ipc_column.proofs.Visited.{layout_is}
@@ -50,12 +50,12 @@ returned_column body p new =
     body p)
 
 pub returned_children : (body : List ℕ) (p : ColumnRanges) (held new : List ColumnRanges) → held ≡ (out-ColumnRanges p).children.items
-    → length new ≡ length held → columns body new ≡ columns body held
+    → length new ≡ length held → part_columns body new ≡ part_columns body held
     → children_of body (roll-ColumnRanges (returned p new)) ≡ children_of body p
 returned_children body p held new e size same =
     children_out body (roll-ColumnRanges (returned p new))
-    ∙ (ap (λ (ps : List ColumnRanges). columns body ps) (returned_items p held new e size)
-    ∙ (same ∙ (ap (λ (ps : List ColumnRanges). columns body ps) e ∙ sym (children_out body p))))
+    ∙ (ap (λ (ps : List ColumnRanges). part_columns body ps) (returned_items p held new e size)
+    ∙ (same ∙ (ap (λ (ps : List ColumnRanges). part_columns body ps) e ∙ sym (children_out body p))))
 
 -- what a part passes, one with the same column and children does
 pub passes_still : (body : List ℕ) (p q : ColumnRanges) → column_of body q ≡ column_of body p → children_of body q ≡ children_of body p
@@ -66,7 +66,7 @@ passes_still body p q e k h why =
 
 -- what a part passes, those below it do
 pub passes_below : (body : List ℕ) (p : ColumnRanges) → ((why : Cause) → every (passes why) (one body p) ≡ true) → (why : Cause)
-    → every (passes why) (columns body (out-ColumnRanges p).children.items) ≡ true
+    → every (passes why) (part_columns body (out-ColumnRanges p).children.items) ≡ true
 passes_below body p h why =
     subst (λ (cs : Columns). every (passes why) cs ≡ true) (children_out body p) (and_parts _ _ (and_parts _ _ (h why)).1).0
 
@@ -79,13 +79,13 @@ stored_view body p known =
 
 -- a part of marked children that stores what is so is marked
 pub stored_mark : (body : List ℕ) (p : ColumnRanges) (known : Bool) → AreMarked body (out-ColumnRanges p).children.items
-    → (known ≡ true → is_judged (column_of body p).layout ≡ true → all_valid (column_of body p).layout (column_of body p) ≡ true)
-    → (is_judged (column_of body p).layout ≡ false → known ≡ each_valid (map (mark body) (out-ColumnRanges p).children.items))
+    → (known ≡ true → needs_slot_checks (column_of body p).layout ≡ true → all_valid (column_of body p).layout (column_of body p) ≡ true)
+    → (needs_slot_checks (column_of body p).layout ≡ false → known ≡ each_valid (map (mark body) (out-ColumnRanges p).children.items))
     → IsMarked body (roll-ColumnRanges (record (out-ColumnRanges p) { known_valid = known }))
 stored_mark body p known m own below =
     marked_from body (record (out-ColumnRanges p) { known_valid = known }) m
-    (λ j k. subst (λ (c : Column). all_valid c.layout c ≡ true) (column_is body p) (own k (ap is_judged (layout_is body p) ∙ j)))
-    (λ j. below (ap is_judged (layout_is body p) ∙ j))
+    (λ j k. subst (λ (c : Column). all_valid c.layout c ≡ true) (column_is body p) (own k (ap needs_slot_checks (layout_is body p) ∙ j)))
+    (λ j. below (ap needs_slot_checks (layout_is body p) ∙ j))
 
 -- a part that passes its tests has all its slots
 pub own_slots : (body : List ℕ) (p : ColumnRanges) → ((why : Cause) → every (passes why) (one body p) ≡ true)
@@ -99,8 +99,9 @@ own_slots body p h = record {
 
 -- parts that were lent and came back with the same columns
 pub kept_columns : {Z : Type 0} (body : List ℕ) (parts : Vec ColumnRanges Z) (held new : List ColumnRanges) → held ≡ parts.items
-    → length new ≡ length held → columns body new ≡ columns body held → columns body (with_items parts new).items ≡ columns body parts.items
+    → length new ≡ length held → part_columns body new ≡ part_columns body held → part_columns body (with_items parts new).items
+    ≡ part_columns body parts.items
 kept_columns body parts held new e size same =
     let len : length new ≡ parts.len = omega (arith, size, ap (λ (ps : List ColumnRanges). length ps) e, parts.ok) in
-    ap (λ (ps : List ColumnRanges). columns body ps) (with_items_is parts new len)
-    ∙ (same ∙ ap (λ (ps : List ColumnRanges). columns body ps) e)
+    ap (λ (ps : List ColumnRanges). part_columns body ps) (with_items_is parts new len)
+    ∙ (same ∙ ap (λ (ps : List ColumnRanges). part_columns body ps) e)

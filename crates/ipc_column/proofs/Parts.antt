@@ -8,14 +8,14 @@ use Rattle.ipc_column.specs.declared.ranges.ColumnRanges.{ColumnRanges}
 use Rattle.ipc_column.specs.declared.ranges.ColumnRanges.TheViews.{out-ColumnRanges}
 use Rattle.ipc_column.specs.declared.ranges.ColumnRanges.TheFolds.{fold_out-ColumnRanges}
 use Rattle.ipc_column.specs.declared.cause.Cause.{Cause}
-use Rattle.ipc_model.specs.Layouts.{is_judged}
+use Rattle.ipc_model.specs.Layouts.{needs_slot_checks}
 use Rattle.ipc_column.specs.Columns.{Column, Columns, column, every, every_top}
-use Rattle.ipc_column.specs.Rules.{have_judged}
+use Rattle.ipc_column.specs.Rules.{have_slot_checks}
 use Rattle.ipc_column.specs.Checks.{Judges}
-use Rattle.ipc_column.specs.Views.{columns, part_step, column_of, children_of, own_column, one}
+use Rattle.ipc_column.specs.Views.{part_columns, part_step, column_of, children_of, own_column, one}
 
 -- the columns below a part are those of its children
-pub children_out : (body : List ℕ) (p : ColumnRanges) → children_of body p ≡ columns body (out-ColumnRanges p).children.items
+pub children_out : (body : List ℕ) (p : ColumnRanges) → children_of body p ≡ part_columns body (out-ColumnRanges p).children.items
 children_out body p = ap (λ (v : Column × Columns). v.1) (fold_out-ColumnRanges (Column × Columns) (part_step body) p)
 
 -- a part's column is made of the part's own ranges of the body
@@ -24,7 +24,7 @@ column_is body p = ap (λ (v : Column × Columns). v.0) (fold_out-ColumnRanges (
 
 -- the columns from one part on
 pub columns_from : (body : List ℕ) (ps : List ColumnRanges) (i : ℕ) (p : ColumnRanges) → i < length ps → p ≡ get_or ps i p
-    → columns body (drop i ps) ≡ column (column_of body p) (children_of body p) (columns body (drop (i + 1) ps))
+    → part_columns body (drop i ps) ≡ column (column_of body p) (children_of body p) (part_columns body (drop (i + 1) ps))
 columns_from body ps i p h e = rw (drop-cons ps i p) (rw (← e, add-one) refl)
 
 regroup : (a b c : Bool) → (a && (b && c)) ≡ ((a && b) && c)
@@ -34,22 +34,26 @@ regroup false b c = refl
 -- all columns from a part on pass a test where its own does, those below it do and those behind it do
 pub every_from : (test : Column → Columns → Bool) (body : List ℕ) (ps : List ColumnRanges) (i : ℕ) (p : ColumnRanges) → i < length ps
     → p ≡ get_or ps i p
-    → every test (columns body (drop i ps))
-    ≡ ((test (column_of body p) (children_of body p) && every test (children_of body p)) && every test (columns body (drop (i + 1) ps)))
+    → every test (part_columns body (drop i ps))
+    ≡ ((test (column_of body p) (children_of body p) && every test (children_of body p))
+    && every test (part_columns body (drop (i + 1) ps)))
 every_from test body ps i p h e = rw (columns_from body ps i p h e)
-    (regroup (test (column_of body p) (children_of body p)) (every test (children_of body p)) (every test (columns body (drop (i + 1) ps))))
+    (regroup (test (column_of body p) (children_of body p)) (every test (children_of body p))
+    (every test (part_columns body (drop (i + 1) ps))))
 
 -- the top columns from a part on pass a test where its own does and those behind it do
 pub every_top_from : (test : Column → Bool) (body : List ℕ) (ps : List ColumnRanges) (i : ℕ) (p : ColumnRanges) → i < length ps
     → p ≡ get_or ps i p
-    → every_top test (columns body (drop i ps)) ≡ (test (column_of body p) && every_top test (columns body (drop (i + 1) ps)))
+    → every_top test (part_columns body (drop i ps)) ≡ (test (column_of body p) && every_top test (part_columns body (drop (i + 1) ps)))
 every_top_from test body ps i p h e = rw (columns_from body ps i p h e) refl
 
 -- texts or indices stand in the columns from a part on where they stand in it, below it or behind it
 pub judged_from : (body : List ℕ) (ps : List ColumnRanges) (i : ℕ) (p : ColumnRanges) → i < length ps → p ≡ get_or ps i p
-    → have_judged (columns body (drop i ps)) ≡ (have_judged (one body p) || have_judged (columns body (drop (i + 1) ps)))
+    → have_slot_checks (part_columns body (drop i ps)) ≡ (have_slot_checks (one body p)
+    || have_slot_checks (part_columns body (drop (i + 1) ps)))
 judged_from body ps i p h e = rw (columns_from body ps i p h e)
-    (shift (is_judged (column_of body p).layout) (have_judged (children_of body p)) (have_judged (columns body (drop (i + 1) ps))))
+    (shift (needs_slot_checks (column_of body p).layout) (have_slot_checks (children_of body p))
+    (have_slot_checks (part_columns body (drop (i + 1) ps))))
   where
     shift : (a b c : Bool) → (a || (b || c)) ≡ ((a || (b || false)) || c)
     shift true b c = refl
@@ -58,7 +62,7 @@ judged_from body ps i p h e = rw (columns_from body ps i p h e)
 
 -- a test of every part of a list is one of the parts
 pub every_at : (test : Column → Columns → Bool) (body : List ℕ) (ps : List ColumnRanges) (j : ℕ) (p : ColumnRanges) → j < length ps
-    → p ≡ get_or ps j p → every test (columns body ps) ≡ true
+    → p ≡ get_or ps j p → every test (part_columns body ps) ≡ true
     → (test (column_of body p) (children_of body p) ≡ true) × (every test (children_of body p) ≡ true)
 every_at test body [] j p l e h = absurd (omega arith)
 every_at test body (q ∷ ps) zero p l e h = rw e (let a = and_parts _ _ h in (a.0, (and_parts _ _ a.1).0))
@@ -66,7 +70,7 @@ every_at test body (q ∷ ps) (suc j) p l e h = every_at test body ps j p (omega
 
 -- and so is one of the top columns alone
 pub every_top_at : (test : Column → Bool) (body : List ℕ) (ps : List ColumnRanges) (j : ℕ) (p : ColumnRanges) → j < length ps
-    → p ≡ get_or ps j p → every_top test (columns body ps) ≡ true → test (column_of body p) ≡ true
+    → p ≡ get_or ps j p → every_top test (part_columns body ps) ≡ true → test (column_of body p) ≡ true
 every_top_at test body [] j p l e h = absurd (omega arith)
 every_top_at test body (q ∷ ps) zero p l e h = rw e (and_parts _ _ h).0
 every_top_at test body (q ∷ ps) (suc j) p l e h = every_top_at test body ps j p (omega arith) e (and_parts _ _ h).1

@@ -19,13 +19,13 @@ use Rattle.ipc_model.specs.declared.value.Value.TheVariants as v
 use Rattle.ipc_model.specs.Layouts.{number_bytes}
 use Rattle.ipc_column.specs.Columns.{Column, Columns}
 use Rattle.ipc_column.specs.Checks.{holds_values}
-use Rattle.ipc_column.specs.Dictionaries.{stands_alone}
+use Rattle.ipc_column.specs.Dictionaries.{has_no_children}
 use Rattle.ipc_column.specs.Lent.{AreFound, values_in}
-use Rattle.ipc_column.specs.Nested.{Nested, below, slot_values}
-use Rattle.ipc_column.specs.Plain.{IsShownBy, spelled, spelled_len}
+use Rattle.ipc_column.specs.Nested.{Nested, child_columns, slot_values}
+use Rattle.ipc_column.specs.Plain.{IsShownBy, text_bytes, text_bytes_len}
 use Rattle.ipc_column.specs.Rules.{HoldValues}
 use Rattle.ipc_column.specs.Slots.{is_null}
-use Rattle.ipc_column.specs.Values.{is_valid, items, own_value, place, row, signed_at, value_of}
+use Rattle.ipc_column.specs.Values.{is_valid, items, own_value, offset_position, row, signed_at, value_of}
 use Rattle.ipc_column.proofs.Leads.{bytes_rise, nothing_null}
 use Rattle.ipc_column.proofs.Slices.{places}
 use Rattle.ipc_column.proofs.Slots.{items_length}
@@ -94,24 +94,24 @@ fixed_size w n i bs h m =
     let size = range_size bs (w * i) (w * i + w) (omega (arith, room)) in
     omega (arith, size)
 
-text_or_bytes : (utf8 : Bool) (d : List Value) (below : ℕ → List Value) (o w : List ℕ) (i : ℕ)
-    → IsShownBy (l.VariableBytes utf8) (own_value (l.VariableBytes utf8) d below o w i)
-text_or_bytes true d below o w i = tt
-text_or_bytes false d below o w i = tt
+text_or_bytes : (utf8 : Bool) (d : List Value) (child_columns : ℕ → List Value) (o w : List ℕ) (i : ℕ)
+    → IsShownBy (l.VariableBytes utf8) (own_value (l.VariableBytes utf8) d child_columns o w i)
+text_or_bytes true d child_columns o w i = tt
+text_or_bytes false d child_columns o w i = tt
 
 -- what a valid slot holds is of its layout
-own_shown : (layout : Layout) (d : List Value) (below : ℕ → List Value) (o w : List ℕ) (n i : ℕ) → AreBytes w
-    → holds_values layout n (length w) ≡ true → i < n → IsShownBy layout (own_value layout d below o w i)
-own_shown l.Null d below o w n i bytes h m = tt
-own_shown l.Bits d below o w n i bytes h m = tt
-own_shown (l.Numbers bits true) d below o w n i bytes h m = signed_within bits w (number_bytes bits * i) bytes
-own_shown (l.Numbers bits false) d below o w n i bytes h m = unsigned_within bits w (number_bytes bits * i) bytes
-own_shown (l.FixedBytes size) d below o w n i bytes h m = fixed_size size n i w h m
-own_shown (l.VariableBytes utf8) d below o w n i bytes h m = text_or_bytes utf8 d below o w i
-own_shown l.Lists d below o w n i bytes h m = tt
-own_shown (l.FixedLists size) d below o w n i bytes h m = tt
-own_shown l.Structs d below o w n i bytes h m = tt
-own_shown (l.Indices bits signed id) d below o w n i bytes h m = tt
+own_shown : (layout : Layout) (d : List Value) (child_columns : ℕ → List Value) (o w : List ℕ) (n i : ℕ) → AreBytes w
+    → holds_values layout n (length w) ≡ true → i < n → IsShownBy layout (own_value layout d child_columns o w i)
+own_shown l.Null d child_columns o w n i bytes h m = tt
+own_shown l.Bits d child_columns o w n i bytes h m = tt
+own_shown (l.Numbers bits true) d child_columns o w n i bytes h m = signed_within bits w (number_bytes bits * i) bytes
+own_shown (l.Numbers bits false) d child_columns o w n i bytes h m = unsigned_within bits w (number_bytes bits * i) bytes
+own_shown (l.FixedBytes size) d child_columns o w n i bytes h m = fixed_size size n i w h m
+own_shown (l.VariableBytes utf8) d child_columns o w n i bytes h m = text_or_bytes utf8 d child_columns o w i
+own_shown l.Lists d child_columns o w n i bytes h m = tt
+own_shown (l.FixedLists size) d child_columns o w n i bytes h m = tt
+own_shown l.Structs d child_columns o w n i bytes h m = tt
+own_shown (l.Indices bits signed id) d child_columns o w n i bytes h m = tt
 
 -- null is shown by slots of any layout
 pub null_shown : (layout : Layout) → IsShownBy layout v.Null
@@ -148,19 +148,19 @@ all_shown c children bytes h =
 
 -- how many bytes a value spells
 abbrev pub spells : Value → ℕ
-spells value = length (spelled value)
+spells value = length (text_bytes value)
 
 -- those of a slot are no more than those of what it holds
-slot_spells : (c : Column) (below : ℕ → List Value) (i most : ℕ)
-    → spells (own_value c.layout c.dictionary below c.offsets c.values i) ≤ most → spells (value_of below c i) ≤ most
-slot_spells c below i most h = either (is_valid c.validity i)
+slot_spells : (c : Column) (child_columns : ℕ → List Value) (i most : ℕ)
+    → spells (own_value c.layout c.dictionary child_columns c.offsets c.values i) ≤ most → spells (value_of child_columns c i) ≤ most
+slot_spells c child_columns i most h = either (is_valid c.validity i)
   where
-    either : (valid : Bool) → spells (cond valid (own_value c.layout c.dictionary below c.offsets c.values i) v.Null) ≤ most
+    either : (valid : Bool) → spells (cond valid (own_value c.layout c.dictionary child_columns c.offsets c.values i) v.Null) ≤ most
     either true = h
     either false = omega arith
 
 -- slots that spell at most so many bytes each
-spelled_each : (f : ℕ → Value) (w i n : ℕ) → ((k : ℕ) → i ≤ k → k < i + n → spells (f k) ≤ w) → spelled_len (items f i n) ≤ w * n
+spelled_each : (f : ℕ → Value) (w i n : ℕ) → ((k : ℕ) → i ≤ k → k < i + n → spells (f k) ≤ w) → text_bytes_len (items f i n) ≤ w * n
 spelled_each f w i zero h = omega arith
 spelled_each f w i (suc n) h =
     let one = h i (omega arith) (omega arith) in
@@ -170,7 +170,7 @@ spelled_each f w i (suc n) h =
 -- slots that lie one behind another
 spelled_rows : (f : ℕ → Value) (at : ℕ → ℕ) (i n : ℕ)
     → ((k : ℕ) → i ≤ k → k < i + n → (spells (f k) ≤ at (k + 1) - at k) × (at k ≤ at (k + 1)))
-    → at i + spelled_len (items f i n) ≤ at (i + n)
+    → at i + text_bytes_len (items f i n) ≤ at (i + n)
 spelled_rows f at i zero h = let e : i + 0 ≡ i = omega arith in rw e (omega arith)
 spelled_rows f at i (suc n) h =
     let one = h i (omega arith) (omega arith) in
@@ -179,29 +179,32 @@ spelled_rows f at i (suc n) h =
     rw e (omega (arith, one.0, one.1, more))
 
 -- the bytes between two places
-between_spells : (utf8 : Bool) (d : List Value) (below : ℕ → List Value) (o w : List ℕ) (i : ℕ) → place o (i + 1) ≤ length w
-    → spells (own_value (l.VariableBytes utf8) d below o w i) ≤ place o (i + 1) - place o i
-between_spells true d below o w i h = let size = range_size w (place o i) (place o (i + 1)) h in omega (arith, size)
-between_spells false d below o w i h = let size = range_size w (place o i) (place o (i + 1)) h in omega (arith, size)
+between_spells : (utf8 : Bool) (d : List Value) (child_columns : ℕ → List Value) (o w : List ℕ) (i : ℕ) → offset_position o (i + 1)
+    ≤ length w
+    → spells (own_value (l.VariableBytes utf8) d child_columns o w i) ≤ offset_position o (i + 1) - offset_position o i
+between_spells true d child_columns o w i h = let size = range_size w (offset_position o i) (offset_position o (i + 1)) h in
+    omega (arith, size)
+between_spells false d child_columns o w i h = let size = range_size w (offset_position o i) (offset_position o (i + 1)) h in
+    omega (arith, size)
 
 -- texts and binary values of any length
 variable_spelled : (c : Column) (children : Columns) (utf8 : Bool) → c.layout ≡ l.VariableBytes utf8 → AreFound c children
-    → spelled_len (values_in c children) ≤ length c.values
+    → text_bytes_len (values_in c children) ≤ length c.values
 variable_spelled c children utf8 e h = several c.slots refl
   where
     at : ℕ → ℕ
-    at = place c.offsets
+    at = offset_position c.offsets
 
-    several : (n : ℕ) → c.slots ≡ n → spelled_len (items (value_of (row children) c) 0 n) ≤ length c.values
+    several : (n : ℕ) → c.slots ≡ n → text_bytes_len (items (value_of (row children) c) 0 n) ≤ length c.values
     several zero same = omega arith
     several (suc n) same =
         let rise = bytes_rise utf8 c.offsets children c.slots 0 (length c.values) (omega (arith, same)) (rw e at h.offsets)
         (rw e at h.order) in
-        let whole = spelled_rows (value_of (row children) c) (place c.offsets) 0 (suc n) (λ k from to.
+        let whole = spelled_rows (value_of (row children) c) (offset_position c.offsets) 0 (suc n) (λ k from to.
         let p = places c.offsets c.slots (length c.values) k (k + 1) rise (omega arith) (omega (arith, same, to)) in
         let last = p.last in
         let inside = p.inside in (
-          slot_spells c (row children) k (place c.offsets (k + 1) - place c.offsets k)
+          slot_spells c (row children) k (offset_position c.offsets (k + 1) - offset_position c.offsets k)
               (rw e (between_spells utf8 c.dictionary (row children) c.offsets c.values k (omega (arith, last, inside)))),
           p.order,
         )) in
@@ -215,19 +218,19 @@ variable_spelled c children utf8 e h = several c.slots refl
 -- a valid slot of this layout spells nothing
 none_spelled : (c : Column) (children : Columns)
     → ((i : ℕ) → spells (own_value c.layout c.dictionary (row children) c.offsets c.values i) ≤ 0)
-    → spelled_len (values_in c children) ≤ length c.values
+    → text_bytes_len (values_in c children) ≤ length c.values
 none_spelled c children h =
     let none = spelled_each (value_of (row children) c) 0 0 c.slots (λ k from to. slot_spells c (row children) k 0 (h k)) in
     omega (arith, none)
 
-number_spells : (bits : IntBits) (signed : Bool) (d : List Value) (below : ℕ → List Value) (o w : List ℕ) (i : ℕ)
-    → spells (own_value (l.Numbers bits signed) d below o w i) ≤ 0
-number_spells bits true d below o w i = omega arith
-number_spells bits false d below o w i = omega arith
+number_spells : (bits : IntBits) (signed : Bool) (d : List Value) (child_columns : ℕ → List Value) (o w : List ℕ) (i : ℕ)
+    → spells (own_value (l.Numbers bits signed) d child_columns o w i) ≤ 0
+number_spells bits true d child_columns o w i = omega arith
+number_spells bits false d child_columns o w i = omega arith
 
 -- binary values of a fixed size
 fixed_spelled : (c : Column) (children : Columns) (size : ℕ) → c.layout ≡ l.FixedBytes size
-    → holds_values c.layout c.slots (length c.values) ≡ true → spelled_len (values_in c children) ≤ length c.values
+    → holds_values c.layout c.slots (length c.values) ≡ true → text_bytes_len (values_in c children) ≤ length c.values
 fixed_spelled c children size e h =
     let held = rw e at h in
     let room : size * c.slots ≤ length c.values = leb-true (size * c.slots) (length c.values) held in
@@ -237,11 +240,12 @@ fixed_spelled c children size e h =
     omega (arith, each, room)
 
 -- what slots spell together lies in their values
-pub all_spelled : (c : Column) (children : Columns) → AreFound c children → stands_alone c.layout ≡ true
-    → spelled_len (values_in c children) ≤ length c.values
+pub all_spelled : (c : Column) (children : Columns) → AreFound c children → has_no_children c.layout ≡ true
+    → text_bytes_len (values_in c children) ≤ length c.values
 all_spelled c children h = by_layout c.layout refl
   where
-    by_layout : (layout : Layout) → c.layout ≡ layout → stands_alone layout ≡ true → spelled_len (values_in c children) ≤ length c.values
+    by_layout : (layout : Layout) → c.layout ≡ layout → has_no_children layout ≡ true → text_bytes_len (values_in c children)
+        ≤ length c.values
     by_layout l.Null e alone = none_spelled c children (λ i. rw e (omega arith))
     by_layout l.Bits e alone = none_spelled c children (λ i. rw e (omega arith))
     by_layout (l.Numbers bits signed) e alone =
@@ -292,13 +296,13 @@ valid_at validity n k m none = either (length validity == 0) refl
     either false is = rw is (bits_set validity n k m (none (grind (arith, nat_tests))))
 
 -- a column whose values lie in it alone, and in whose bitmap no slot is null, has a value in each slot
-pub none_null : (n : Nested) → stands_alone n.column.layout ≡ true → ¬ (n.column.layout ≡ l.Null)
+pub none_null : (n : Nested) → has_no_children n.column.layout ≡ true → ¬ (n.column.layout ≡ l.Null)
     → (0 < length n.column.validity → clear n.column.validity (length (slot_values n)) ≡ 0)
     → AllByRecursion (λ v. is_null v ≡ false) (slot_values n)
 none_null n alone some none =
     let few : 0 < length n.column.validity → clear n.column.validity n.column.slots ≡ 0 =
-    λ marks. rw (items_length (value_of (row (below n)) n.column) 0 n.column.slots) at none marks in
-    items_each (λ v. is_null v ≡ false) (value_of (row (below n)) n.column) 0 n.column.slots
+    λ marks. rw (items_length (value_of (row (child_columns n)) n.column) 0 n.column.slots) at none marks in
+    items_each (λ v. is_null v ≡ false) (value_of (row (child_columns n)) n.column) 0 n.column.slots
     (λ k from to. let valid = valid_at n.column.validity n.column.slots k (omega (arith, to)) few in
-    rw valid (nothing_null n.column.layout n.column.dictionary (row (below n)) n.column.offsets n.column.values k some
+    rw valid (nothing_null n.column.layout n.column.dictionary (row (child_columns n)) n.column.offsets n.column.values k some
     (λ bits signed id e. absurd (let a = rw e at alone in cc))))

@@ -16,16 +16,18 @@ use Rattle.ipc_model.specs.Layouts.{number_bytes, has_validity}
 use Rattle.ipc_column.specs.declared.cause.Cause.{Cause}
 use Rattle.ipc_column.specs.declared.cause.Cause.TheVariants as cause
 use Rattle.ipc_column.specs.Columns.{Column, Columns, none, column, Each, EachTop, every, every_top}
-use Rattle.ipc_column.specs.Shapes.{shape_of, columns_of}
+use Rattle.ipc_column.specs.Shapes.{shape_of, field_columns}
 use Rattle.ipc_column.specs.Rules.{HasNodes, HasBuffers, HasLengths, HasRanges, HasBytes, HasNullCounts, HasOrder, HasTexts, IsSlotCount}
-use Rattle.ipc_column.specs.Rules.{IsFieldNode, LiesIn, HoldValues, HoldOffsets, IsLongEnough, CountsNulls, AreOffsets, HasOffsets, IsText}
+use Rattle.ipc_column.specs.Rules.{IsFieldNode, IsWithinBody, HoldValues, HoldOffsets, IsLongEnough, CountsNulls, AreOffsets, HasOffsets}
+use Rattle.ipc_column.specs.Rules.{IsText}
 use Rattle.ipc_column.specs.Rules.{SpellsTexts, HasLongChildren, IsIndex, HasIndex, HoldsIndices, HasIndices}
 use Rattle.ipc_column.specs.Dictionaries.{Dictionaries}
 use Rattle.ipc_model.specs.declared.value.Value.{Value}
-use Rattle.ipc_column.specs.Checks.{is_slot_count, is_node, lies_in, all, all_below, holds_values, holds_offsets, is_ascending_at}
-use Rattle.ipc_column.specs.Checks.{are_ascending, in_order, passes, top_passes, fits, have_slots, are_long, all_slots, good, good_slot}
+use Rattle.ipc_column.specs.Checks.{is_slot_count, is_node, is_within_body, all, all_below, holds_values, holds_offsets, is_ascending_at}
+use Rattle.ipc_column.specs.Checks.{are_ascending, in_order, passes, top_passes, fits, have_slots, children_have_slots, all_slots, good}
+use Rattle.ipc_column.specs.Checks.{good_slot}
 use Rattle.ipc_column.specs.Checks.{good_below}
-use Rattle.ipc_column.specs.Values.{offset, place, is_valid, number_in, place_below}
+use Rattle.ipc_column.specs.Values.{offset, offset_position, is_valid, number_in, place_below}
 use Rattle.ipc_column.proofs.Below.{below_from, decides_below}
 use Rattle.ipc_column.proofs.Shown.{of_good, of_indexed, of_when}
 use Rattle.ipc_column.proofs.Slices.{above}
@@ -71,7 +73,7 @@ of_end size (pos m) (pos n) h k =
 of_end size (negsuc m) b h k = absurd (omega (arith, ints))
 of_end size a (negsuc n) h k = absurd (omega (arith, ints))
 
-of_range : (size : ℕ) (r : ℤ × ℤ) → Decides (lies_in size r) (LiesIn size r)
+of_range : (size : ℕ) (r : ℤ × ℤ) → Decides (is_within_body size r) (IsWithinBody size r)
 of_range size r = (
   λ e.
       let p = and_parts _ _ e in
@@ -141,8 +143,8 @@ of_last (negsuc m) size h = absurd (cc)
 of_ascending : (o : List ℕ) (n size : ℕ) → Decides (are_ascending o n size) (AreOffsets o n (λ end. end ≤ℤ pos size))
 of_ascending o n size = (
   λ e.
-      let p = and_parts (int_le (pos 0) (offset o 0)) (all_below (is_ascending_at o) n && nat_le (place o n) size) e in
-      let q = and_parts (all_below (is_ascending_at o) n) (nat_le (place o n) size) p.1 in
+      let p = and_parts (int_le (pos 0) (offset o 0)) (all_below (is_ascending_at o) n && nat_le (offset_position o n) size) e in
+      let q = and_parts (all_below (is_ascending_at o) n) (nat_le (offset_position o n) size) p.1 in
       record {
         from = (of_le (pos 0) (offset o 0)).0 p.0;
         order = (of_ascending_at o n).0 q.0;
@@ -167,15 +169,15 @@ pub of_have_slots : (n : ℕ) (cs : Columns) → Decides (have_slots n cs) (Each
 of_have_slots n cs = of_each_top (λ c. nat_le n c.slots) (λ c. n ≤ c.slots) (λ c. of_bound n c.slots) cs
 
 -- offsets into the slots of a child
-of_lists : (o : List ℕ) (n : ℕ) (cs : Columns) → Decides (are_ascending o n (place o n) && have_slots (place o n) cs)
+of_lists : (o : List ℕ) (n : ℕ) (cs : Columns) → Decides (are_ascending o n (offset_position o n) && have_slots (offset_position o n) cs)
     (AreOffsets o n (λ end. EachTop (λ c. end ≤ℤ pos c.slots) cs))
 of_lists o n cs = (
   λ e.
-      let p = and_parts (are_ascending o n (place o n)) (have_slots (place o n) cs) e in
-      let h = (of_ascending o n (place o n)).0 p.0 in
+      let p = and_parts (are_ascending o n (offset_position o n)) (have_slots (offset_position o n) cs) e in
+      let h = (of_ascending o n (offset_position o n)).0 p.0 in
       record { from = h.from; order = h.order; to = (ends p.0).0 p.1 },
   λ h.
-      let both : are_ascending o n (place o n) ≡ true = (of_ascending o n (place o n)).1 (record {
+      let both : are_ascending o n (offset_position o n) ≡ true = (of_ascending o n (offset_position o n)).1 (record {
         from = h.from;
         order = h.order;
         to = last h.from h.order;
@@ -183,18 +185,21 @@ of_lists o n cs = (
       and_from _ _ both ((ends both).1 h.to),
 )
   where
-    last : pos 0 ≤ℤ offset o 0 → ((i : ℕ) → i < n → offset o i ≤ℤ offset o (i + 1)) → offset o n ≤ℤ pos (place o n)
+    last : pos 0 ≤ℤ offset o 0 → ((i : ℕ) → i < n → offset o i ≤ℤ offset o (i + 1)) → offset o n ≤ℤ pos (offset_position o n)
     last from order =
         let start = (of_le (pos 0) (offset o 0)).1 from in
         let rise : all_below (is_ascending_at o) n ≡ true = below_from (is_ascending_at o) n
         (λ i l. (of_le (offset o i) (offset o (i + 1))).1 (order i l)) in
-        (of_last (offset o n) (place o n) (above o n n start rise (omega arith))).0 (le-leb (place o n) (place o n) (omega arith))
+        (of_last (offset o n) (offset_position o n) (above o n n start rise (omega arith))).0
+        (le-leb (offset_position o n) (offset_position o n) (omega arith))
 
-    ends : are_ascending o n (place o n) ≡ true → Decides (have_slots (place o n) cs) (EachTop (λ c. offset o n ≤ℤ pos c.slots) cs)
+    ends : are_ascending o n (offset_position o n) ≡ true → Decides (have_slots (offset_position o n) cs)
+        (EachTop (λ c. offset o n ≤ℤ pos c.slots) cs)
     ends h =
-        let p = and_parts (int_le (pos 0) (offset o 0)) (all_below (is_ascending_at o) n && nat_le (place o n) (place o n)) h in
-        let q = and_parts (all_below (is_ascending_at o) n) (nat_le (place o n) (place o n)) p.1 in
-        of_each_top (λ c. nat_le (place o n) c.slots) (λ c. offset o n ≤ℤ pos c.slots)
+        let p = and_parts (int_le (pos 0) (offset o 0)) (all_below (is_ascending_at o) n
+        && nat_le (offset_position o n) (offset_position o n)) h in
+        let q = and_parts (all_below (is_ascending_at o) n) (nat_le (offset_position o n) (offset_position o n)) p.1 in
+        of_each_top (λ c. nat_le (offset_position o n) c.slots) (λ c. offset o n ≤ℤ pos c.slots)
         (λ c. of_last (offset o n) c.slots (above o n n p.0 q.0 (omega arith))) cs
 
 pub of_order : (l : Layout) (n : ℕ) (o : List ℕ) (size : ℕ) (cs : Columns) → Decides (in_order l n o size cs) (HasOffsets l n o size cs)
@@ -202,7 +207,7 @@ of_order (l.VariableBytes utf8) n o size cs = of_some n _ (of_when _ _ (of_bound
 of_order l.Lists n o size cs = of_some n _ (of_when _ _ (of_bound (4 * (n + 1)) (length o)) (of_lists o n cs))
 of_order _ n o size cs = (λ e. tt, λ h. refl)
 
-pub of_long : (l : Layout) (n : ℕ) (cs : Columns) → Decides (are_long l n cs) (HasLongChildren l n cs)
+pub of_long : (l : Layout) (n : ℕ) (cs : Columns) → Decides (children_have_slots l n cs) (HasLongChildren l n cs)
 of_long l.Structs n cs = of_have_slots n cs
 of_long (l.FixedLists size) n cs = of_have_slots (size * n) cs
 of_long _ n cs = (λ e. tt, λ h. refl)
@@ -263,7 +268,7 @@ of_visible test P cs d = Decides-like _ (λ p. p.1.1) (λ h. (every_true cs, (ev
 of_lengths : {limits : Limits} → (m : Dictionaries) (fields : List Field) (head : BatchHead) (body : List ℕ)
     → Decides (fits limits m (shape_of fields) head body cause.BadNode) (HasLengths limits m fields head body)
 of_lengths {limits} m fields head body =
-    let cs = columns_of m fields head body in
+    let cs = field_columns m fields head body in
     let n = unsigned_abs head.length in
     let top : Column → Bool = top_passes cause.BadNode n in
     let below = of_each (passes cause.BadNode) (λ c children. HasLongChildren c.layout c.slots children)
@@ -294,27 +299,27 @@ of_rows : (test : Bool) (P : ℕ → Type 0) (n : ℕ) → Decides test ((i : �
 of_rows test P n d = Decides-like test (λ h i l. h i (omega arith) l) (λ h i z l. h i l) d
 
 -- the test of the buffers' ranges decides whether each lies in the body
-pub of_ranges : (head : BatchHead) (body : List ℕ) → Decides (all (lies_in (length body)) head.buffers) (HasRanges head body)
-of_ranges head body = Decides-by_and (lies_in (length body)) (LiesIn (length body)) (all (lies_in (length body)))
+pub of_ranges : (head : BatchHead) (body : List ℕ) → Decides (all (is_within_body (length body)) head.buffers) (HasRanges head body)
+of_ranges head body = Decides-by_and (is_within_body (length body)) (IsWithinBody (length body)) (all (is_within_body (length body)))
     (of_range (length body)) refl (λ _ _. refl) head.buffers
 
 -- the test of each cause decides whether what the standard asks there holds
 pub decides : (limits : Limits) (why : Cause) (m : Dictionaries) (fields : List Field) (head : BatchHead) (body : List ℕ)
     → Decides (fits limits m (shape_of fields) head body why) (Asked limits why m fields head body)
-decides limits cause.WrongNodeCount m fields head body = of_head _ _ (columns_of m fields head body) (Decides-eqb _ _)
-decides limits cause.WrongBufferCount m fields head body = of_head _ _ (columns_of m fields head body) (Decides-eqb _ _)
+decides limits cause.WrongNodeCount m fields head body = of_head _ _ (field_columns m fields head body) (Decides-eqb _ _)
+decides limits cause.WrongBufferCount m fields head body = of_head _ _ (field_columns m fields head body) (Decides-eqb _ _)
 decides limits cause.BadNode m fields head body = of_lengths m fields head body
-decides limits cause.BufferOutOfBody m fields head body = of_head _ _ (columns_of m fields head body) (of_ranges head body)
-decides limits cause.BufferTooShort m fields head body = of_columns _ _ (columns_of m fields head body) of_bytes
-decides limits cause.BadNullCount m fields head body = of_columns _ _ (columns_of m fields head body) of_null_count
+decides limits cause.BufferOutOfBody m fields head body = of_head _ _ (field_columns m fields head body) (of_ranges head body)
+decides limits cause.BufferTooShort m fields head body = of_columns _ _ (field_columns m fields head body) of_bytes
+decides limits cause.BadNullCount m fields head body = of_columns _ _ (field_columns m fields head body) of_null_count
 decides limits cause.BadOffsets m fields head body =
-    of_columns _ _ (columns_of m fields head body) (λ c children. of_order c.layout c.slots c.offsets (length c.values) children)
-decides limits cause.ValueNotUtf8 m fields head body = of_visible _ _ (columns_of m fields head body)
-    (of_rows _ (SpellsTexts (columns_of m fields head body)) (unsigned_abs head.length)
-    (of_good (columns_of m fields head body) 0 (unsigned_abs head.length)))
-decides limits cause.BadIndex m fields head body = of_visible _ _ (columns_of m fields head body)
-    (of_rows _ (HoldsIndices (columns_of m fields head body)) (unsigned_abs head.length)
-    (of_indexed (columns_of m fields head body) 0 (unsigned_abs head.length)))
+    of_columns _ _ (field_columns m fields head body) (λ c children. of_order c.layout c.slots c.offsets (length c.values) children)
+decides limits cause.ValueNotUtf8 m fields head body = of_visible _ _ (field_columns m fields head body)
+    (of_rows _ (SpellsTexts (field_columns m fields head body)) (unsigned_abs head.length)
+    (of_good (field_columns m fields head body) 0 (unsigned_abs head.length)))
+decides limits cause.BadIndex m fields head body = of_visible _ _ (field_columns m fields head body)
+    (of_rows _ (HoldsIndices (field_columns m fields head body)) (unsigned_abs head.length)
+    (of_indexed (field_columns m fields head body) 0 (unsigned_abs head.length)))
 
 -- a length that isn't negative is its absolute value
 pub length_is : {limits : Limits} → (z : ℤ) → IsSlotCount limits z → z ≡ pos (unsigned_abs z)

@@ -13,7 +13,7 @@ use Rattle.ipc_column.specs.declared.cause.Cause.TheVariants as cause
 use Rattle.ipc_column.specs.Checks.{all_slots, good, good_below, good_slot}
 use Rattle.ipc_column.specs.Columns.{Column, Columns, none, column}
 use Rattle.ipc_column.specs.Rules.{HasIndex, HoldsIndices, IsIndex, IsText, SpellsTexts}
-use Rattle.ipc_column.specs.Values.{is_valid, number_in, place, place_below}
+use Rattle.ipc_column.specs.Values.{is_valid, number_in, offset_position, place_below}
 use Rattle.ipc_column.proofs.Goods.{slots_at, slots_from}
 
 -- one test where another holds
@@ -35,7 +35,7 @@ of_text : (l : Layout) (d : List Value) (below : ℕ → ℕ → Bool) (P : ℕ 
     → ((a b : ℕ) → Decides (below a b) ((i : ℕ) → a ≤ i → i < b → P i)) → (o w : List ℕ) (i : ℕ)
     → Decides (good_below cause.ValueNotUtf8 l d below o w i) (IsText l P o w i)
 of_text (l.VariableBytes true) _ below P d o w i = (λ e. IsUtf8-from_is_utf8 _ e, λ h. is_utf8-from_IsUtf8 _ h)
-of_text l.Lists _ below P d o w i = d (place o i) (place o (i + 1))
+of_text l.Lists _ below P d o w i = d (offset_position o i) (offset_position o (i + 1))
 of_text (l.FixedLists size) _ below P d o w i = d (size * i) (size * (i + 1))
 of_text l.Structs _ below P d o w i = (
   λ e. (d i (i + 1)).0 e i (omega arith) (omega arith),
@@ -80,7 +80,7 @@ of_index : (l : Layout) (values : List Value) (below : ℕ → ℕ → Bool) (P 
     → Decides (good_below cause.BadIndex l values below o w i) (HasIndex l values P o w i)
 of_index (l.Indices bits signed id) values below P d o w i = of_one values (number_in bits signed w i)
 of_index (l.VariableBytes true) values below P d o w i = (λ e. tt, λ h. refl)
-of_index l.Lists values below P d o w i = d (place o i) (place o (i + 1))
+of_index l.Lists values below P d o w i = d (offset_position o i) (offset_position o (i + 1))
 of_index (l.FixedLists size) values below P d o w i = d (size * i) (size * (i + 1))
 of_index l.Structs values below P d o w i = (
   λ e. (d i (i + 1)).0 e i (omega arith) (omega arith),

@@ -6,8 +6,8 @@ use Rattle.std.specs.Str.{is_utf8, IsUtf8, IsCharBoundary}
 use Rattle.std.proofs.lemmas.Str.{IsUtf8-from_is_utf8, is_utf8-from_IsUtf8, IsUtf8-between, IsCharBoundary-end}
 use Rattle.std.proofs.lemmas.List.{drop-take, take-take, drop-drop, length-take-le}
 use Rattle.std.proofs.lemmas.Bool.{and_parts, leb-true, cases_order}
-use Rattle.ipc_column.specs.Values.{offset, place, between, is_valid}
-use Rattle.ipc_column.specs.Checks.{all_below, all_slots, is_ascending_at, are_ascending, text_good, AreCuts}
+use Rattle.ipc_column.specs.Values.{offset, offset_position, between, is_valid}
+use Rattle.ipc_column.specs.Checks.{all_below, all_slots, is_ascending_at, are_ascending, text_good, AreCharBoundaries}
 use Rattle.ipc_column.proofs.Below.{below_at, below_from}
 
 -- two tests of one fact
@@ -34,16 +34,16 @@ above o n (suc i) h a l =
 -- nor where they ascend within some data
 pub above_in : (o : List ℕ) (n size i : ℕ) → are_ascending o n size ≡ true → i ≤ n → int_le (pos 0) (offset o i) ≡ true
 above_in o n size i h l =
-    let p = and_parts (int_le (pos 0) (offset o 0)) (all_below (is_ascending_at o) n && nat_le (place o n) size) h in
-    let q = and_parts (all_below (is_ascending_at o) n) (nat_le (place o n) size) p.1 in
+    let p = and_parts (int_le (pos 0) (offset o 0)) (all_below (is_ascending_at o) n && nat_le (offset_position o n) size) h in
+    let q = and_parts (all_below (is_ascending_at o) n) (nat_le (offset_position o n) size) p.1 in
     above o n i p.0 q.0 l
 
 step_up : (o : List ℕ) (n i : ℕ) → int_le (pos 0) (offset o 0) ≡ true → all_below (is_ascending_at o) n ≡ true → i < n
-    → place o i ≤ place o (i + 1)
+    → offset_position o i ≤ offset_position o (i + 1)
 step_up o n i h a l = (up_one (offset o i) (offset o (i + 1)) (above o n i h a (omega arith)) (below_at (is_ascending_at o) n i a l)).1
 
 far_up : (o : List ℕ) (n i d : ℕ) → int_le (pos 0) (offset o 0) ≡ true → all_below (is_ascending_at o) n ≡ true → i + d ≤ n
-    → place o i ≤ place o (i + d)
+    → offset_position o i ≤ offset_position o (i + d)
 far_up o n i zero h a l = let e : i + 0 ≡ i = omega arith in rw e (omega arith)
 far_up o n i (suc d) h a l =
     let before = far_up o n i d h a (omega arith) in
@@ -53,24 +53,24 @@ far_up o n i (suc d) h a l =
 
 -- the places of offsets in order
 pub record Places (o : List ℕ) (n size i j : ℕ) : Type 0 where
-  pub first : place o 0 ≤ place o i
-  pub order : place o i ≤ place o j
-  pub last : place o j ≤ place o n
-  pub inside : place o n ≤ size
+  pub first : offset_position o 0 ≤ offset_position o i
+  pub order : offset_position o i ≤ offset_position o j
+  pub last : offset_position o j ≤ offset_position o n
+  pub inside : offset_position o n ≤ size
 
 -- where the offsets ascend, those of two slots lie in their order, within the data
 pub places : (o : List ℕ) (n size i j : ℕ) → are_ascending o n size ≡ true → i ≤ j → j ≤ n → Places o n size i j
 places o n size i j h l m =
-    let p = and_parts (int_le (pos 0) (offset o 0)) (all_below (is_ascending_at o) n && nat_le (place o n) size) h in
-    let q = and_parts (all_below (is_ascending_at o) n) (nat_le (place o n) size) p.1 in
-    let up : (a b : ℕ) → a ≤ b → b ≤ n → place o a ≤ place o b = λ a b k t.
+    let p = and_parts (int_le (pos 0) (offset o 0)) (all_below (is_ascending_at o) n && nat_le (offset_position o n) size) h in
+    let q = and_parts (all_below (is_ascending_at o) n) (nat_le (offset_position o n) size) p.1 in
+    let up : (a b : ℕ) → a ≤ b → b ≤ n → offset_position o a ≤ offset_position o b = λ a b k t.
     let e : a + (b - a) ≡ b = omega arith in
     rw e at (far_up o n a (b - a) p.0 q.0 (omega arith)) in
     record {
       first = up 0 i (omega arith) (omega arith);
       order = up i j l m;
       last = up j n m (omega arith);
-      inside = leb-true (place o n) size q.1;
+      inside = leb-true (offset_position o n) size q.1;
     }
 
 -- a cut of a cut
@@ -94,44 +94,49 @@ cut_text w b l i j p q r u ci cj =
     (subst (λ (k : ℕ). IsUtf8 (take k (drop (i - b) (take l (drop b w))))) size t)
 
 -- one slot more that begins where a text may be cut
-pub cut_more : (o text : List ℕ) (a i : ℕ) → AreCuts o text a i → IsCharBoundary text (place o i - place o a) → AreCuts o text a (i + 1)
+pub cut_more : (o text : List ℕ) (a i : ℕ) → AreCharBoundaries o text a i → IsCharBoundary text (offset_position o i - offset_position o a)
+    → AreCharBoundaries o text a (i + 1)
 cut_more o text a i all here k from below =
-    elim (cases_order k i) as (λ _. IsCharBoundary text (place o k - place o a)) [
+    elim (cases_order k i) as (λ _. IsCharBoundary text (offset_position o k - offset_position o a)) [
       | inl e ↦ rw e here
-      | inr r ↦ elim r as (λ _. IsCharBoundary text (place o k - place o a)) [ inl m ↦ all k from m | inr m ↦ absurd (omega arith) ]
+      | inr r ↦ elim r as (λ _. IsCharBoundary text (offset_position o k - offset_position o a))
+          [ inl m ↦ all k from m | inr m ↦ absurd (omega arith) ]
     ]
 
 -- slots of one text are texts where it may be cut where they begin
 whole_text : (o w : List ℕ) (n a b : ℕ) → are_ascending o n (length w) ≡ true → a ≤ b → b ≤ n
-    → IsUtf8 (slice_range w (place o a) (place o b))
-    → AreCuts o (slice_range w (place o a) (place o b)) a b
+    → IsUtf8 (slice_range w (offset_position o a) (offset_position o b))
+    → AreCharBoundaries o (slice_range w (offset_position o a) (offset_position o b)) a b
     → (i : ℕ) → a ≤ i → i < b → is_utf8 (between o w i) ≡ true
 whole_text o w n a b h ab bn u cuts i f l = is_utf8-from_IsUtf8 _ spelled
   where
     all : Places o n (length w) a b
     all = places o n (length w) a b h ab bn
 
-    end : IsCharBoundary (slice_range w (place o a) (place o b)) (place o b - place o a)
+    end : IsCharBoundary (slice_range w (offset_position o a) (offset_position o b)) (offset_position o b - offset_position o a)
     end =
-        let size : length (slice_range w (place o a) (place o b)) ≡ place o b - place o a =
-        length-take-le (place o b - place o a) (drop (place o a) w) (omega (
+        let size : length (slice_range w (offset_position o a) (offset_position o b)) ≡ offset_position o b - offset_position o a =
+        length-take-le (offset_position o b - offset_position o a) (drop (offset_position o a) w) (omega (
           arith,
-          length-drop (place o a) w,
+          length-drop (offset_position o a) w,
           all.order,
           all.last,
           all.inside,
         )) in
-        subst (λ (k : ℕ). IsCharBoundary (slice_range w (place o a) (place o b)) k) size
-        (IsCharBoundary-end (slice_range w (place o a) (place o b)))
+        subst (λ (k : ℕ). IsCharBoundary (slice_range w (offset_position o a) (offset_position o b)) k) size
+        (IsCharBoundary-end (slice_range w (offset_position o a) (offset_position o b)))
 
-    next : IsCharBoundary (slice_range w (place o a) (place o b)) (place o (i + 1) - place o a)
+    next : IsCharBoundary (slice_range w (offset_position o a) (offset_position o b)) (offset_position o (i + 1) - offset_position o a)
     next =
-        elim (cases_order (i + 1) b) as (λ _. IsCharBoundary (slice_range w (place o a) (place o b)) (place o (i + 1) - place o a)) [
-          | inl e ↦ subst (λ (k : ℕ). IsCharBoundary (slice_range w (place o a) (place o b)) (place o k - place o a)) (sym e) end
-          | inr r ↦ elim r as (λ _. IsCharBoundary (slice_range w (place o a) (place o b)) (place o (i + 1) - place o a)) [
-            | inl k ↦ cuts (i + 1) (omega (arith, f)) k
-            | inr k ↦ absurd (omega arith)
-          ]
+        elim (cases_order (i + 1) b) as (λ _. IsCharBoundary (slice_range w (offset_position o a) (offset_position o b))
+        (offset_position o (i + 1) - offset_position o a)) [
+          | inl e ↦ subst (λ (k : ℕ). IsCharBoundary (slice_range w (offset_position o a) (offset_position o b))
+              (offset_position o k - offset_position o a)) (sym e) end
+          | inr r ↦ elim r as (λ _. IsCharBoundary (slice_range w (offset_position o a) (offset_position o b))
+              (offset_position o (i + 1) - offset_position o a)) [
+                | inl k ↦ cuts (i + 1) (omega (arith, f)) k
+                | inr k ↦ absurd (omega arith)
+              ]
         ]
 
     spelled : IsUtf8 (between o w i)
@@ -139,13 +144,14 @@ whole_text o w n a b h ab bn u cuts i f l = is_utf8-from_IsUtf8 _ spelled
         let p = places o n (length w) i (i + 1) h (omega arith) (omega arith) in
         let q = places o n (length w) a i h f (omega arith) in
         let r = places o n (length w) (i + 1) b h (omega arith) bn in
-        cut_text w (place o a) (place o b - place o a) (place o i) (place o (i + 1)) q.order p.order
+        cut_text w (offset_position o a) (offset_position o b - offset_position o a) (offset_position o i) (offset_position o (i + 1))
+        q.order p.order
         (omega (arith, q.order, p.order, r.order)) u (cuts i f l) next
 
 -- and so they pass, null or not
 pub whole_good : (o w v : List ℕ) (n a b : ℕ) → are_ascending o n (length w) ≡ true → a ≤ b → b ≤ n
-    → IsUtf8 (slice_range w (place o a) (place o b))
-    → AreCuts o (slice_range w (place o a) (place o b)) a b
+    → IsUtf8 (slice_range w (offset_position o a) (offset_position o b))
+    → AreCharBoundaries o (slice_range w (offset_position o a) (offset_position o b)) a b
     → all_slots (text_good v o w) a (b - a) ≡ true
 whole_good o w v n a b h ab bn u cuts = below_from (λ k. text_good v o w (a + k)) (b - a)
     (λ k l. or_true (not (is_valid v (a + k))) _ (whole_text o w n a b h ab bn u cuts (a + k) (omega arith) (omega (arith, l))))

@@ -14,11 +14,12 @@ use Rattle.ipc_column.specs.declared.ranges.ColumnRanges.TheViews.{out-ColumnRan
 use Rattle.ipc_column.specs.declared.cause.Cause.{Cause}
 use Rattle.ipc_column.specs.declared.cause.Cause.TheVariants as cause
 use Rattle.ipc_column.specs.Columns.{Column, Columns, none, column, every, every_top}
-use Rattle.ipc_column.specs.Values.{row, items, first_at, value_of, place, is_valid, child_slot, is_nested}
-use Rattle.ipc_column.specs.Checks.{passes, top_passes, has_bitmap, holds_values, holds_offsets, in_order, are_long, are_ascending}
-use Rattle.ipc_column.specs.Checks.{have_slots, good, good_slot, good_below, all_pass, is_shown, Holds}
+use Rattle.ipc_column.specs.Values.{row, items, first_at, value_of, offset_position, is_valid, child_slot, is_nested}
+use Rattle.ipc_column.specs.Checks.{passes, top_passes, has_bitmap, holds_values, holds_offsets, in_order, children_have_slots}
+use Rattle.ipc_column.specs.Checks.{are_ascending}
+use Rattle.ipc_column.specs.Checks.{have_slots, good, good_slot, good_below, all_pass, is_shown, PassTests}
 use Rattle.ipc_column.specs.Lent.{AreSlots, HaveValues, HasValue}
-use Rattle.ipc_column.specs.Views.{columns, column_of, children_of, own_column, one}
+use Rattle.ipc_column.specs.Views.{part_columns, column_of, children_of, own_column, one}
 use Rattle.ipc_column.proofs.Rules.{of_bound, of_some, every_true, every_top_true}
 use Rattle.ipc_column.proofs.Shown.{of_when}
 use Rattle.ipc_column.proofs.Parts.{children_out, column_is, every_at, every_top_at}
@@ -35,7 +36,7 @@ pub record Long (c : Column) (children : Columns) : Type 0 where
   pub values : holds_values c.layout c.slots (length c.values) ≡ true
   pub offsets : holds_offsets c.layout c.slots (length c.offsets) ≡ true
   pub order : in_order c.layout c.slots c.offsets (length c.values) children ≡ true
-  pub long : are_long c.layout c.slots children ≡ true
+  pub long : children_have_slots c.layout c.slots children ≡ true
 
 pub long : (c : Column) (children : Columns) → ((why : Cause) → passes why c children ≡ true) → Long c children
 long c children h =
@@ -46,9 +47,9 @@ long c children h =
 
 -- a part's column and children, by its fields
 pub part_by : (P : Column → Columns → Type 0) (body : List ℕ) (p : ColumnRanges) → P (column_of body p) (children_of body p)
-    → P (own_column body p) (columns body (out-ColumnRanges p).children.items)
+    → P (own_column body p) (part_columns body (out-ColumnRanges p).children.items)
 part_by P body p h =
-    subst (λ (c : Column). P c (columns body (out-ColumnRanges p).children.items)) (column_is body p)
+    subst (λ (c : Column). P c (part_columns body (out-ColumnRanges p).children.items)) (column_is body p)
     (subst (λ (cs : Columns). P (column_of body p) cs) (children_out body p) h)
 
 -- offsets of 32 bits, of so many slots
@@ -82,24 +83,30 @@ pub record ChildRange (layout : Layout) (o : List ℕ) (children : Columns) (i j
 -- what the slots of lists stand on
 pub record ListParts (c : Column) (children : Columns) : Type 0 where
   pub bytes : 4 * (c.slots + 1) ≤ length c.offsets
-  pub order : are_ascending c.offsets c.slots (place c.offsets c.slots) ≡ true
-  pub within : have_slots (place c.offsets c.slots) children ≡ true
+  pub order : are_ascending c.offsets c.slots (offset_position c.offsets c.slots) ≡ true
+  pub within : have_slots (offset_position c.offsets c.slots) children ≡ true
 
 pub list_parts : (c : Column) (children : Columns) → Long c children → c.layout ≡ l.Lists → 0 < c.slots → ListParts c children
 list_parts c children h e p =
     let bytes = bytes_from c.slots (length c.offsets) (rw e at h.offsets) p in
-    let both = and_parts (are_ascending c.offsets c.slots (place c.offsets c.slots)) (have_slots (place c.offsets c.slots) children)
+    let both = and_parts (are_ascending c.offsets c.slots (offset_position c.offsets c.slots))
+    (have_slots (offset_position c.offsets c.slots) children)
     (order_from c.slots c.offsets _ (rw e at h.order) p bytes) in
     record { bytes = bytes; order = both.0; within = both.1 }
 
 pub list_range : (c : Column) (children : Columns) → ListParts c children → (i j : ℕ) → i ≤ j → j ≤ c.slots
     → ChildRange l.Lists c.offsets children i j
 list_range c children h i j a b =
-    let p = places c.offsets c.slots (place c.offsets c.slots) i j h.order a b in
-    record { order = p.order; within = fewer_slots children (place c.offsets j) (place c.offsets c.slots) p.last h.within }
+    let p = places c.offsets c.slots (offset_position c.offsets c.slots) i j h.order a b in
+    record {
+      order = p.order;
+      within = fewer_slots children (offset_position c.offsets j) (offset_position c.offsets c.slots) p.last
+          h.within;
+    }
 
 -- the slots of the child that lists of a fixed size hold
-pub fixed_range : (o : List ℕ) (children : Columns) (size n : ℕ) → are_long (l.FixedLists size) n children ≡ true → (i j : ℕ) → i ≤ j
+pub fixed_range : (o : List ℕ) (children : Columns) (size n : ℕ) → children_have_slots (l.FixedLists size) n children ≡ true → (i j : ℕ) → i
+    ≤ j
     → j ≤ n → ChildRange (l.FixedLists size) o children i j
 fixed_range o children size n h i j a b = record {
   order = mul-le-mul_left size a;
@@ -174,7 +181,8 @@ items_at f i (suc n) (suc k) l =
     items_at f (i + 1) n k (omega arith) ∙ ap (λ (j : ℕ). Some (f j)) e
 
 good_at : (body : List ℕ) (ps : List ColumnRanges) (a b i j : ℕ) (p : ColumnRanges) → j < length ps → p ≡ get_or ps j p → a ≤ i → i < b
-    → good cause.ValueNotUtf8 (columns body ps) a b ≡ true → good_slot cause.ValueNotUtf8 (good cause.ValueNotUtf8 (children_of body p))
+    → good cause.ValueNotUtf8 (part_columns body ps) a b ≡ true → good_slot cause.ValueNotUtf8
+    (good cause.ValueNotUtf8 (children_of body p))
     (column_of body p) i ≡ true
 good_at body [] a b i j p l e f m h = absurd (omega arith)
 good_at body (q ∷ ps) a b i zero p l e f m h = rw e (slots_at (good_slot cause.ValueNotUtf8 (good cause.ValueNotUtf8
@@ -184,7 +192,7 @@ good_at body (q ∷ ps) a b i (suc j) p l e f m h = good_at body ps a b i j p (o
 
 -- one part has a value in a slot where all have
 pub slot_value : (body : List ℕ) (ps : List ColumnRanges) (a b i j : ℕ) (p : ColumnRanges) → j < length ps → p ≡ get_or ps j p → a ≤ i
-    → i < b → HaveValues (columns body ps) a b → HasValue (column_of body p) (children_of body p) i
+    → i < b → HaveValues (part_columns body ps) a b → HasValue (column_of body p) (children_of body p) i
 slot_value body ps a b i j p l e f m h =
     let within = leb-true b (column_of body p).slots (every_top_at (λ c. nat_le b c.slots) body ps j p l e h.slots.within) in
     record {
@@ -197,7 +205,7 @@ slot_value body ps a b i j p l e f m h =
     }
 
 pub first_is : (body : List ℕ) (ps : List ColumnRanges) (p : ColumnRanges) (i : ℕ) → 0 < length ps → p ≡ get_or ps 0 p
-    → first_at (columns body ps) i ≡ value_of (row (children_of body p)) (column_of body p) i
+    → first_at (part_columns body ps) i ≡ value_of (row (children_of body p)) (column_of body p) i
 first_is body [] p i l e = absurd (omega arith)
 first_is body (q ∷ ps) p i l e = rw e refl
 
@@ -228,19 +236,19 @@ stands c children i h =
 
 -- the same of a part, by its fields
 pub part_stands : (body : List ℕ) (p : ColumnRanges) (i : ℕ) → HasValue (column_of body p) (children_of body p) i
-    → Stands (own_column body p) (columns body (out-ColumnRanges p).children.items) i
-part_stands body p i h = stands (own_column body p) (columns body (out-ColumnRanges p).children.items) i
+    → Stands (own_column body p) (part_columns body (out-ColumnRanges p).children.items) i
+part_stands body p i h = stands (own_column body p) (part_columns body (out-ColumnRanges p).children.items) i
     (part_by (λ c cs. HasValue c cs i) body p h)
 
 pub part_value : (body : List ℕ) (p : ColumnRanges) (i : ℕ) → value_of (row (children_of body p)) (column_of body p) i
-    ≡ value_of (row (columns body (out-ColumnRanges p).children.items)) (own_column body p) i
+    ≡ value_of (row (part_columns body (out-ColumnRanges p).children.items)) (own_column body p) i
 part_value body p i =
     ap (λ (c : Column). value_of (row (children_of body p)) c i) (column_is body p)
     ∙ ap (λ (cs : Columns). value_of (row cs) (own_column body p) i) (children_out body p)
 
 -- the slots that a list holds have values
 pub list_values : (c : Column) (children : Columns) (i : ℕ) → Stands c children i → c.layout ≡ l.Lists → is_valid c.validity i ≡ true
-    → HaveValues children (place c.offsets i) (place c.offsets (i + 1))
+    → HaveValues children (offset_position c.offsets i) (offset_position c.offsets (i + 1))
 list_values c children i h e v =
     let slot = h.slot in
     let r = list_range c children (list_parts c children h.long e (omega arith)) i (i + 1) (omega arith) (omega arith) in
@@ -250,7 +258,7 @@ list_values c children i h e v =
     }
 
 -- the slots that a list of a fixed size holds have values
-pub fixed_values : (children : Columns) (size n i : ℕ) → i < n → are_long (l.FixedLists size) n children ≡ true
+pub fixed_values : (children : Columns) (size n i : ℕ) → i < n → children_have_slots (l.FixedLists size) n children ≡ true
     → ((why : Cause) → every (passes why) children ≡ true) → good_below cause.ValueNotUtf8 (l.FixedLists size) []
     (good cause.ValueNotUtf8 children) [] [] i ≡ true
     → HaveValues children (size * i) (size * (i + 1))
@@ -259,7 +267,7 @@ fixed_values children size n i l h s g =
     record { slots = record { order = r.order; within = r.within; sound = s }; good = g }
 
 -- a struct's slot has values in its children
-pub struct_values : (children : Columns) (n i : ℕ) → i < n → are_long l.Structs n children ≡ true
+pub struct_values : (children : Columns) (n i : ℕ) → i < n → children_have_slots l.Structs n children ≡ true
     → ((why : Cause) → every (passes why) children ≡ true) → good_below cause.ValueNotUtf8 l.Structs []
     (good cause.ValueNotUtf8 children) [] [] i ≡ true
     → HaveValues children i (i + 1)
@@ -281,7 +289,7 @@ pub row_slots : (cs : Columns) (n i j : ℕ) → i ≤ j → j ≤ n → ((why :
 row_slots cs n i j l m s t = record { order = l; within = have_at cs n j m t; sound = s }
 
 -- each row of n has values
-pub row_values : (cs : Columns) (n i : ℕ) → i < n → Holds n cs → HaveValues cs i (i + 1)
+pub row_values : (cs : Columns) (n i : ℕ) → i < n → PassTests n cs → HaveValues cs i (i + 1)
 row_values cs n i l h =
     let top : (why : Cause) → every_top (top_passes why n) cs ≡ true = λ why. (and_parts _ _ (and_parts _ _ (h why)).1).0 in
     let all : good cause.ValueNotUtf8 cs 0 n ≡ true = (and_parts _ _ (and_parts _ _ (h cause.ValueNotUtf8)).1).1 in
@@ -293,24 +301,31 @@ row_values cs n i l h =
 -- a list's slots, of these offsets and children
 pub list_have : (o : List ℕ) (cs : Columns) (n i size : ℕ) → i < n → holds_offsets l.Lists n (length o) ≡ true
     → in_order l.Lists n o size cs ≡ true → ((why : Cause) → every (passes why) cs ≡ true)
-    → good_below cause.ValueNotUtf8 l.Lists [] (good cause.ValueNotUtf8 cs) o [] i ≡ true → HaveValues cs (place o i) (place o (i + 1))
+    → good_below cause.ValueNotUtf8 l.Lists [] (good cause.ValueNotUtf8 cs) o [] i ≡ true
+    → HaveValues cs (offset_position o i) (offset_position o (i + 1))
 list_have o cs n i size m a b s g =
     let bytes = bytes_from n (length o) a (omega arith) in
-    let both = and_parts (are_ascending o n (place o n)) (have_slots (place o n) cs) (order_from n o _ b (omega arith) bytes) in
-    let p = places o n (place o n) i (i + 1) both.0 (omega arith) (omega arith) in
+    let both = and_parts (are_ascending o n (offset_position o n)) (have_slots (offset_position o n) cs)
+    (order_from n o _ b (omega arith) bytes) in
+    let p = places o n (offset_position o n) i (i + 1) both.0 (omega arith) (omega arith) in
     record {
-      slots = record { order = p.order; within = fewer_slots cs (place o (i + 1)) (place o n) p.last both.1; sound = s };
+      slots = record {
+        order = p.order;
+        within = fewer_slots cs (offset_position o (i + 1)) (offset_position o n) p.last both.1;
+        sound =
+            s;
+      };
       good = g;
     }
 
 -- columns without a part show null
-pub first_none : (body : List ℕ) (ps : List ColumnRanges) (i : ℕ) → length ps ≡ 0 → first_at (columns body ps) i ≡ v.Null
+pub first_none : (body : List ℕ) (ps : List ColumnRanges) (i : ℕ) → length ps ≡ 0 → first_at (part_columns body ps) i ≡ v.Null
 first_none body [] i h = refl
 first_none body (p ∷ ps) i h = absurd (omega arith)
 
 -- a part's column alone, by its fields
 abbrev pub own_one : List ℕ → ColumnRanges → Columns
-own_one body p = column (own_column body p) (columns body (out-ColumnRanges p).children.items) none
+own_one body p = column (own_column body p) (part_columns body (out-ColumnRanges p).children.items) none
 
 pub one_is : (body : List ℕ) (p : ColumnRanges) → one body p ≡ own_one body p
 one_is body p =
@@ -321,14 +336,15 @@ pub part_slots : (body : List ℕ) (p : ColumnRanges) (i j : ℕ) → AreSlots (
 part_slots body p i j h = subst (λ (cs : Columns). AreSlots cs i j) (one_is body p) h
 
 pub part_long : (body : List ℕ) (p : ColumnRanges) (i j : ℕ) → AreSlots (one body p) i j
-    → Long (own_column body p) (columns body (out-ColumnRanges p).children.items)
+    → Long (own_column body p) (part_columns body (out-ColumnRanges p).children.items)
 part_long body p i j h =
-    long (own_column body p) (columns body (out-ColumnRanges p).children.items)
-    (own_in_one (own_column body p) (columns body (out-ColumnRanges p).children.items) i j (part_slots body p i j h))
+    long (own_column body p) (part_columns body (out-ColumnRanges p).children.items)
+    (own_in_one (own_column body p) (part_columns body (out-ColumnRanges p).children.items) i j (part_slots body p i j h))
 
 -- the slots of a part are at least those of a range in it
 pub part_most : (body : List ℕ) (p : ColumnRanges) (i j : ℕ) → AreSlots (one body p) i j → j ≤ (out-ColumnRanges p).slots
-part_most body p i j h = slots_in_one (own_column body p) (columns body (out-ColumnRanges p).children.items) i j (part_slots body p i j h)
+part_most body p i j h = slots_in_one (own_column body p) (part_columns body (out-ColumnRanges p).children.items) i j
+    (part_slots body p i j h)
 
 -- the offsets of a list that has a value are there
 pub stands_bytes : (body : List ℕ) (p : ColumnRanges) (i k : ℕ) → HasValue (column_of body p) (children_of body p) i → k ≤ i + 1
@@ -336,7 +352,7 @@ pub stands_bytes : (body : List ℕ) (p : ColumnRanges) (i k : ℕ) → HasValue
 stands_bytes body p i k h m e =
     let s = part_stands body p i h in
     let inside = s.slot in
-    let parts = list_parts (own_column body p) (columns body (out-ColumnRanges p).children.items) s.long e (omega (arith, inside)) in
+    let parts = list_parts (own_column body p) (part_columns body (out-ColumnRanges p).children.items) s.long e (omega (arith, inside)) in
     let bytes = parts.bytes in
     omega (arith, inside, bytes)
 

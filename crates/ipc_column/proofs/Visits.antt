@@ -5,8 +5,8 @@ use Rattle.std.specs.Prelude.{◌^◌, ℤ, pos, negsuc, unsigned_abs}
 use Rattle.std.proofs.lemmas.Bool.{and_parts, leb-true}
 use Rattle.ipc_meta.specs.declared.head.BatchHead.{BatchHead}
 use Rattle.ipc_column.specs.Dictionaries.{Dictionaries}
-use Rattle.ipc_column.specs.Rules.{is_visited, visits_in, count_of, slots_in}
-use Rattle.ipc_column.specs.Shapes.{Shape, bare, field, cut, column_at, nodes_in, buffers_in, node_at}
+use Rattle.ipc_column.specs.Rules.{has_slot_visits, visits_in, count_or_zero, slots_in}
+use Rattle.ipc_column.specs.Shapes.{Shape, bare, field, assigned_columns, column_at, node_count, buffer_count, node_at}
 use Rattle.ipc_column.specs.Checks.{all, is_node, is_slot_count}
 use Rattle.ipc_model.specs.Layouts.{own_buffers}
 use Rattle.ipc_model.specs.declared.limits.Limits.{Limits}
@@ -16,17 +16,17 @@ all_at f [] i d h l = absurd (omega arith)
 all_at f (x ∷ xs) zero d h l = (and_parts _ _ h).0
 all_at f (x ∷ xs) (suc i) d h l = all_at f xs i d (and_parts _ _ h).1 (omega arith)
 
-count_is : (limits : Limits) (z : ℤ) → is_slot_count limits z ≡ true → unsigned_abs z ≡ count_of z
+count_is : (limits : Limits) (z : ℤ) → is_slot_count limits z ≡ true → unsigned_abs z ≡ count_or_zero z
 count_is limits (pos n) h = refl
 count_is limits (negsuc n) h = absurd (cc)
 
-count-lt : (limits : Limits) (z : ℤ) → is_slot_count limits z ≡ true → count_of z < 2 ^ 31
+count-lt : (limits : Limits) (z : ℤ) → is_slot_count limits z ≡ true → count_or_zero z < 2 ^ 31
 count-lt limits (pos n) h = let most = leb-true n limits.slots (and_parts _ _ h).1 in omega (arith, most)
 count-lt limits (negsuc n) h = absurd (cc)
 
 -- the slots of nodes from one on
 slots_from : (nodes : List (ℤ × ℤ)) (n : ℕ) → n < length nodes
-    → slots_in (drop n nodes) ≡ count_of (get_or nodes n (pos 0, pos 0)).0 + slots_in (drop (n + 1) nodes)
+    → slots_in (drop n nodes) ≡ count_or_zero (get_or nodes n (pos 0, pos 0)).0 + slots_in (drop (n + 1) nodes)
 slots_from nodes n l = rw (drop-cons nodes n (pos 0, pos 0), add-one) refl
 
 own_most : (b : Bool) (n : ℕ) → cond b n 0 ≤ n
@@ -35,28 +35,29 @@ own_most false n = omega arith
 
 visits_cut : (limits : Limits) (m : Dictionaries) (s : Shape) (head : BatchHead) (body : List ℕ) (n b : ℕ)
     → all (is_node limits) head.nodes ≡ true
-    → n + nodes_in s ≤ length head.nodes
-    → visits_in (cut m s head body n b) + slots_in (drop (n + nodes_in s) head.nodes) ≤ slots_in (drop n head.nodes)
-unfolding cut nodes_in
+    → n + node_count s ≤ length head.nodes
+    → visits_in (assigned_columns m s head body n b) + slots_in (drop (n + node_count s) head.nodes) ≤ slots_in (drop n head.nodes)
+unfolding assigned_columns node_count
 visits_cut limits m bare head body n b h l = let e : n + 0 ≡ n = omega arith in rw e (omega arith)
 visits_cut limits m (field layout children rest) head body n b h l =
     let here = slots_from head.nodes n (omega arith) in
     let node = (and_parts _ _ (all_at (is_node limits) head.nodes n (pos 0, pos 0) h (omega arith))).0 in
-    let own = own_most (is_visited (column_at m layout head body n b) (cut m children head body (n + 1) (b + own_buffers layout)))
+    let own = own_most (has_slot_visits (column_at m layout head body n b) (assigned_columns m children head body (n + 1)
+    (b + own_buffers layout)))
     (unsigned_abs (node_at head n).0) in
     let count = count_is limits (node_at head n).0 node in
     let below = visits_cut limits m children head body (n + 1) (b + own_buffers layout) h (omega arith) in
-    let after = visits_cut limits m rest head body (n + 1 + nodes_in children) (b + own_buffers layout + buffers_in children) h
+    let after = visits_cut limits m rest head body (n + 1 + node_count children) (b + own_buffers layout + buffer_count children) h
     (omega arith)
     in
-    let end : n + (1 + nodes_in children + nodes_in rest) ≡ n + 1 + nodes_in children + nodes_in rest = omega arith in
+    let end : n + (1 + node_count children + node_count rest) ≡ n + 1 + node_count children + node_count rest = omega arith in
     rw end (omega (arith, here, own, count, below, after))
 
 -- the slots of the nodes
 pub visits_most : (limits : Limits) (m : Dictionaries) (s : Shape) (head : BatchHead) (body : List ℕ)
     → all (is_node limits) head.nodes ≡ true
-    → nodes_in s ≤ length head.nodes
-    → visits_in (cut m s head body 0 0) ≤ slots_in head.nodes
+    → node_count s ≤ length head.nodes
+    → visits_in (assigned_columns m s head body 0 0) ≤ slots_in head.nodes
 visits_most limits m s head body h l = omega (arith, visits_cut limits m s head body 0 0 h (omega arith))
 
 -- nodes have at most 2^31 slots each

@@ -5,9 +5,9 @@ use Rattle.std.proofs.lemmas.Bool.{false≢true, cases_lt}
 use Rattle.ipc_model.specs.declared.layout.Layout.{Layout}
 use Rattle.ipc_model.specs.declared.layout.Layout.TheVariants as l
 use Rattle.ipc_column.specs.Columns.{Column, Columns, none, column}
-use Rattle.ipc_column.specs.Rules.{is_visited, visits_in}
+use Rattle.ipc_column.specs.Rules.{has_slot_visits, visits_in}
 use Rattle.ipc_column.specs.Lent.{AreSlots}
-use Rattle.ipc_column.specs.Values.{place, child_slot, is_nested}
+use Rattle.ipc_column.specs.Values.{offset_position, child_slot, is_nested}
 use Rattle.ipc_column.specs.Weights.{weight, weight_below}
 use Rattle.ipc_column.proofs.Slots.{slots_first, slots_within, slots_in_one, slots_below}
 
@@ -16,7 +16,7 @@ none_own true k = omega arith
 none_own false k = refl
 
 none_below : (layout : Layout) (w : ℕ → ℕ → ℕ) (o : List ℕ) (k : ℕ) → ((j : ℕ) → w j j ≡ 0) → weight_below layout w o k k ≡ 0
-none_below l.Lists w o k h = h (place o k)
+none_below l.Lists w o k h = h (offset_position o k)
 none_below (l.FixedLists size) w o k h = h (size * k)
 none_below l.Structs w o k h = h k
 none_below _ w o k h = refl
@@ -26,7 +26,7 @@ pub weight_none : (cs : Columns) (k : ℕ) → weight cs k k ≡ 0
 unfolding weight
 weight_none none k = refl
 weight_none (column c children rest) k =
-    let own = none_own (is_visited c children) k in
+    let own = none_own (has_slot_visits c children) k in
     let below = none_below c.layout (weight children) c.offsets k (λ j. weight_none children j) in
     let others = weight_none rest k in
     omega (arith, own, below, others)
@@ -111,7 +111,7 @@ unfolding weight
 weight_add none i j k h a b = refl
 weight_add (column c children rest) i j k h a b =
     let parts = slots_first c children rest i k h in
-    let own = own_add (is_visited c children) i j k a b in
+    let own = own_add (has_slot_visits c children) i j k a b in
     let others = weight_add rest i j k parts.1 a b in
     let below = below_add c children i j k parts.0 a b (λ x y z s l m. weight_add children x y z s l m) in
     omega (arith, own, below, others)
@@ -126,7 +126,7 @@ unfolding weight
 weight_most none i j h = omega arith
 weight_most (column c children rest) i j h =
     let parts = slots_first c children rest i j h in
-    let own = own_most (is_visited c children) c.slots i j (slots_in_one c children i j parts.0) in
+    let own = own_most (has_slot_visits c children) c.slots i j (slots_in_one c children i j parts.0) in
     let others = weight_most rest i j parts.1 in
     let below : weight_below c.layout (weight children) c.offsets i j ≤ visits_in children =
     elim (is_nested c.layout) as (λ b. is_nested c.layout ≡ b
@@ -179,7 +179,7 @@ cost_all cs a i b old tests new h l k t r =
     omega (arith, next, others)
 
 -- a visited column's slot weighs one, and what it leads to
-pub visited_weight : (c : Column) (children : Columns) (i : ℕ) → is_visited c children ≡ true
+pub visited_weight : (c : Column) (children : Columns) (i : ℕ) → has_slot_visits c children ≡ true
     → weight (column c children none) i (i + 1) ≡ 1 + weight_below c.layout (weight children) c.offsets i (i + 1)
 unfolding weight
 visited_weight c children i v = let one : i + 1 - i ≡ 1 = omega arith in rw (v, one) (omega arith)
@@ -191,6 +191,7 @@ unfolding weight
 below_weight c children i j = omega arith
 
 -- texts weigh their slots at least
-pub texts_weight : (c : Column) (children : Columns) (i j : ℕ) → is_visited c children ≡ true → j - i ≤ weight (column c children none) i j
+pub texts_weight : (c : Column) (children : Columns) (i j : ℕ) → has_slot_visits c children ≡ true → j - i
+    ≤ weight (column c children none) i j
 unfolding weight
 texts_weight c children i j v = rw v (omega arith)

@@ -15,8 +15,8 @@ use Rattle.ipc_model.specs.Layouts.{number_bytes, has_validity}
 use Rattle.ipc_column.specs.declared.cause.Cause.{Cause}
 use Rattle.ipc_column.specs.declared.cause.Cause.TheVariants as cause
 use Rattle.ipc_column.specs.Columns.{Column, Columns, none, column, every, every_top}
-use Rattle.ipc_column.specs.Shapes.{Shape, nodes_in, buffers_in, cut}
-use Rattle.ipc_column.specs.Values.{rows_of, offset, place, between, is_valid, number_in}
+use Rattle.ipc_column.specs.Shapes.{Shape, node_count, buffer_count, assigned_columns}
+use Rattle.ipc_column.specs.Values.{rows_of, offset, offset_position, between, is_valid, number_in}
 use Rattle.ipc_column.specs.Values.{place_below}
 use Rattle.ipc_column.specs.Dictionaries.{Dictionaries}
 use Rattle.ipc_model.specs.declared.schema.IntBits.{IntBits}
@@ -60,18 +60,19 @@ abbrev pub is_node : Limits → ℤ × ℤ → Bool
 is_node limits node = is_slot_count limits node.0 && (int_le (pos 0) node.1 && int_le node.1 node.0)
 
 -- a range, an offset and a length, is not negative; unless it is empty, it ends within `size` bytes
-abbrev pub lies_in : ℕ → ℤ × ℤ → Bool
-lies_in size range = int_le (pos 0) range.0
+abbrev pub is_within_body : ℕ → ℤ × ℤ → Bool
+is_within_body size range = int_le (pos 0) range.0
     && (int_le (pos 0) range.1 &&
     (unsigned_abs range.1 == 0 || nat_le (unsigned_abs range.0 + unsigned_abs range.1) size))
 
 -- the test of a batch's head for this cause; the head has none for other causes
 abbrev pub head_passes : Limits → Cause → Shape → BatchHead → ℕ → Bool
-head_passes limits cause.WrongNodeCount shape head size = length head.nodes == nodes_in shape
-head_passes limits cause.WrongBufferCount shape head size = length head.buffers == buffers_in shape
+head_passes limits cause.WrongNodeCount shape head size = length head.nodes == node_count shape
+head_passes limits cause.WrongBufferCount shape head size =
+    length head.buffers == buffer_count shape
 head_passes limits cause.BadNode shape head size = is_slot_count limits head.length
     && all (is_node limits) head.nodes
-head_passes limits cause.BufferOutOfBody shape head size = all (lies_in size) head.buffers
+head_passes limits cause.BufferOutOfBody shape head size = all (is_within_body size) head.buffers
 head_passes limits _ shape head size = true
 
 -- the head has exactly the nodes and buffers that the fields need
@@ -81,10 +82,10 @@ pub record CountsHold (limits : Limits) (shape : Shape) (head : BatchHead) (size
 
 -- for a bad node or a bad range, the counts of nodes and buffers hold; nothing is stated for other
 -- causes
-abbrev pub IsCounted : Limits → Cause → Shape → BatchHead → ℕ → Type 0
-IsCounted limits cause.BadNode shape head size = CountsHold limits shape head size
-IsCounted limits cause.BufferOutOfBody shape head size = CountsHold limits shape head size
-IsCounted limits _ shape head size = ⊤
+abbrev pub AreCountsRight : Limits → Cause → Shape → BatchHead → ℕ → Type 0
+AreCountsRight limits cause.BadNode shape head size = CountsHold limits shape head size
+AreCountsRight limits cause.BufferOutOfBody shape head size = CountsHold limits shape head size
+AreCountsRight limits _ shape head size = ⊤
 
 -- a bitmap of this many bytes has n bits, or is absent
 abbrev pub has_bitmap : ℕ → ℕ → Bool
@@ -111,7 +112,7 @@ is_ascending_at offsets i = int_le (offset offsets i) (offset offsets (i + 1))
 -- the offsets of n slots start at 0 or above, do not decrease, and end within `size` bytes
 abbrev pub are_ascending : List ℕ → ℕ → ℕ → Bool
 are_ascending offsets n size = int_le (pos 0) (offset offsets 0)
-    && (all_below (is_ascending_at offsets) n && nat_le (place offsets n) size)
+    && (all_below (is_ascending_at offsets) n && nat_le (offset_position offsets n) size)
 
 -- each of the columns has at least n slots
 abbrev pub have_slots : ℕ → Columns → Bool
@@ -123,15 +124,16 @@ abbrev pub in_order : Layout → ℕ → List ℕ → ℕ → Columns → Bool
 in_order (l.VariableBytes utf8) n offsets size children =
     n == 0 || (not (nat_le (4 * (n + 1)) (length offsets)) || are_ascending offsets n size)
 in_order l.Lists n offsets size children = n == 0 || (not (nat_le (4 * (n + 1)) (length offsets))
-    || (are_ascending offsets n (place offsets n) && have_slots (place offsets n) children))
+    || (are_ascending offsets n (offset_position offsets n)
+    && have_slots (offset_position offsets n) children))
 in_order _ n offsets size children = true
 
 -- each child of n structs has at least n slots; the child of n lists of a fixed size has at least
 -- size * n
-abbrev pub are_long : Layout → ℕ → Columns → Bool
-are_long l.Structs n children = have_slots n children
-are_long (l.FixedLists size) n children = have_slots (size * n) children
-are_long _ n children = true
+abbrev pub children_have_slots : Layout → ℕ → Columns → Bool
+children_have_slots l.Structs n children = have_slots n children
+children_have_slots (l.FixedLists size) n children = have_slots (size * n) children
+children_have_slots _ n children = true
 
 -- the test holds for n slots from slot i on
 abbrev pub all_slots : (ℕ → Bool) → ℕ → ℕ → Bool
@@ -155,7 +157,7 @@ good_below why (l.VariableBytes true) dictionary below offsets values i =
 good_below why (l.Indices bits signed id) dictionary below offsets values i =
     index_passes why dictionary (number_in bits signed values i)
 good_below why l.Lists dictionary below offsets values i =
-    below (place offsets i) (place offsets (i + 1))
+    below (offset_position offsets i) (offset_position offsets (i + 1))
 good_below why (l.FixedLists size) dictionary below offsets values i =
     below (size * i) (size * (i + 1))
 good_below why l.Structs dictionary below offsets values i = below i (i + 1)
@@ -164,7 +166,7 @@ good_below why _ dictionary below offsets values i = true
 -- the children's slots that belong to the slots from i up to j of a list or a struct pass the test
 -- `below`
 abbrev pub range_good : Layout → (ℕ → ℕ → Bool) → List ℕ → ℕ → ℕ → Bool
-range_good l.Lists below offsets i j = below (place offsets i) (place offsets j)
+range_good l.Lists below offsets i j = below (offset_position offsets i) (offset_position offsets j)
 range_good (l.FixedLists size) below offsets i j = below (size * i) (size * j)
 range_good l.Structs below offsets i j = below i j
 range_good _ below offsets i j = true
@@ -196,9 +198,9 @@ index_good validity bits signed n values i =
 
 -- each slot from i up to j begins at a character boundary of this text, which begins where slot i
 -- does
-abbrev pub AreCuts : List ℕ → List ℕ → ℕ → ℕ → Type 0
-AreCuts offsets text i j = (k : ℕ) → i ≤ k → k < j
-    → IsCharBoundary text (place offsets k - place offsets i)
+abbrev pub AreCharBoundaries : List ℕ → List ℕ → ℕ → ℕ → Type 0
+AreCharBoundaries offsets text i j = (k : ℕ) → i ≤ k → k < j
+    → IsCharBoundary text (offset_position offsets k - offset_position offsets i)
 
 -- how many of the first n slots are null
 abbrev pub nulls_in : List ℕ → ℕ → ℕ
@@ -206,7 +208,7 @@ nulls_in validity n = if length validity == 0 then 0 else clear validity n
 
 -- the tests of a column and the columns of its children for this cause
 abbrev pub passes : Cause → Column → Columns → Bool
-passes cause.BadNode c children = are_long c.layout c.slots children
+passes cause.BadNode c children = children_have_slots c.layout c.slots children
 passes cause.BufferTooShort c children = has_bitmap c.slots (length c.validity)
     && (holds_values c.layout c.slots (length c.values)
     && holds_offsets c.layout c.slots (length c.offsets))
@@ -241,17 +243,17 @@ all_pass why n cs = every (passes why) cs
 -- all tests of a head and a body for this cause
 abbrev pub fits : Limits → Dictionaries → Shape → BatchHead → List ℕ → Cause → Bool
 fits limits m shape head body why = head_passes limits why shape head (length body)
-    && all_pass why (unsigned_abs head.length) (cut m shape head body 0 0)
+    && all_pass why (unsigned_abs head.length) (assigned_columns m shape head body 0 0)
 
 -- n rows of the columns pass all tests, so they have values
-abbrev pub Holds : ℕ → Columns → Type 0
-Holds n cs = (why : Cause) → all_pass why n cs ≡ true
+abbrev pub PassTests : ℕ → Columns → Type 0
+PassTests n cs = (why : Cause) → all_pass why n cs ≡ true
 
 -- a head and a body pass all tests, and these are the rows of their columns
 pub record Passing (limits : Limits) (m : Dictionaries) (shape : Shape) (head : BatchHead)
     (body : List ℕ) (rows : List (List Value)) : Type 0 where
   pub sound : (why : Cause) → fits limits m shape head body why ≡ true
-  pub values : rows ≡ rows_of (cut m shape head body 0 0) (unsigned_abs head.length)
+  pub values : rows ≡ rows_of (assigned_columns m shape head body 0 0) (unsigned_abs head.length)
 
 -- the head passes all its tests
 abbrev pub HeadHolds : Limits → Shape → BatchHead → List ℕ → Type 0

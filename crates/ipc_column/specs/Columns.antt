@@ -52,6 +52,6 @@ forest [] = none
 forest (c ∷ cs) = column c.0 c.1 (forest cs)
 
 -- `len` bytes of the body from a place on, or none if they pass its end
-unfoldable pub bytes_of : List ℕ → ℕ → ℕ → List ℕ
-bytes_of body start len = if nat_le (start + len) (length body) then slice_range body start
+unfoldable pub body_range : List ℕ → ℕ → ℕ → List ℕ
+body_range body start len = if nat_le (start + len) (length body) then slice_range body start
     (start + len) else []

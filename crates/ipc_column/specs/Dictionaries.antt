@@ -17,13 +17,13 @@ abbrev pub values_for : Dictionaries → ℤ → List Value
 values_for m id = unwrap_or (lookup (is_at (int_cmp id)) m) []
 
 -- the values of this layout are stored in one column: they are neither lists, structs nor indices
-abbrev pub stands_alone : Layout → Bool
-stands_alone l.Null = true
-stands_alone l.Bits = true
-stands_alone (l.Numbers bits signed) = true
-stands_alone (l.FixedBytes width) = true
-stands_alone (l.VariableBytes utf8) = true
-stands_alone l.Lists = false
-stands_alone (l.FixedLists size) = false
-stands_alone l.Structs = false
-stands_alone (l.Indices bits signed id) = false
+abbrev pub has_no_children : Layout → Bool
+has_no_children l.Null = true
+has_no_children l.Bits = true
+has_no_children (l.Numbers bits signed) = true
+has_no_children (l.FixedBytes width) = true
+has_no_children (l.VariableBytes utf8) = true
+has_no_children l.Lists = false
+has_no_children (l.FixedLists size) = false
+has_no_children l.Structs = false
+has_no_children (l.Indices bits signed id) = false

@@ -6,7 +6,7 @@ use Rattle.std.specs.declared.rc.Rc.{Rc}
 use Rattle.ipc_model.specs.declared.layout.Layout.{Layout}
 use Rattle.ipc_model.specs.declared.value.Value.{Value}
 use Rattle.ipc_column.specs.Contents.{Contents, layouts}
-use Rattle.ipc_column.specs.Dictionaries.{Dictionaries, stands_alone}
+use Rattle.ipc_column.specs.Dictionaries.{Dictionaries, has_no_children}
 use Rattle.ipc_column.specs.Values.{first_of}
 
 -- the values of a dictionary batch, which has one column
@@ -22,7 +22,7 @@ dictionaries_in m = map (λ e. (e.0, dictionary_values e.1.value)) m.entries
 pub record IsDictionary (batch : Contents) : Type 0 where
   pub layout : Layout
   pub one : layouts batch ≡ layout ∷ []
-  pub alone : stands_alone layout ≡ true
+  pub alone : has_no_children layout ≡ true
 
 -- each batch of a map is a dictionary (`IsDictionary`)
 abbrev pub AreDictionaries : {Z : Type 0} → BTreeMap ℤ (Rc Contents Z) → Type 0

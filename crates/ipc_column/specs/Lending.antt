@@ -10,8 +10,8 @@ use Rattle.ipc_model.specs.Layouts.{number_bytes}
 use Rattle.ipc_column.specs.declared.buffers.Buffers.{Buffers}
 use Rattle.ipc_column.specs.declared.numbers.Numbers.{Numbers}
 use Rattle.ipc_column.specs.Columns.{Columns, none, column}
-use Rattle.ipc_column.specs.Dictionaries.{stands_alone}
-use Rattle.ipc_column.specs.Nested.{Nested, below, slot_values}
+use Rattle.ipc_column.specs.Dictionaries.{has_no_children}
+use Rattle.ipc_column.specs.Nested.{Nested, child_columns, slot_values}
 use Rattle.ipc_column.specs.Rules.{HasLongChildren, HasOffsets, IsLongEnough}
 use Rattle.ipc_column.specs.Values.{is_valid, number_in, own_value}
 
@@ -24,7 +24,7 @@ layouts_of (column c children rest) = c.layout ∷ layouts_of rest
 pub record AreAlone (cs : Columns) : Type 0 where
   pub layout : Layout
   pub one : layouts_of cs ≡ layout ∷ []
-  pub alone : stands_alone layout ≡ true
+  pub alone : has_no_children layout ≡ true
 
 -- the slots hold numbers
 abbrev pub are_numbers : Layout → Bool
@@ -32,8 +32,8 @@ are_numbers (l.Numbers bits signed) = true
 are_numbers _ = false
 
 -- the value of slot i in the lent numbers: null if the bitmap marks it, else the number
-abbrev pub number_of : Numbers → ℕ → Value
-number_of n i = if is_valid n.validity.now i
+abbrev pub lent_number : Numbers → ℕ → Value
+lent_number n i = if is_valid n.validity.now i
     then own_value (l.Numbers n.bits n.signed) [] (λ _. []) [] n.values.now i else v.Null
 
 -- these are the numbers of a column: they have its width and sign, and one number for each of its
@@ -42,7 +42,7 @@ pub record AreNumbers (s : Nested) (n : Numbers) : Type 0 where
   pub layout : s.column.layout ≡ l.Numbers n.bits n.signed
   pub long : number_bytes n.bits * length (slot_values s) ≤ length n.values.now
   pub each : (i : ℕ) → i < length (slot_values s)
-      → slice_get (slot_values s) i ≡ Some (number_of n i)
+      → slice_get (slot_values s) i ≡ Some (lent_number n i)
 
 -- these are the buffers of a column: they have the bytes that its slots need, offsets are in order
 -- within the values or the child, and children are long enough
@@ -53,8 +53,8 @@ pub record AreBuffers (s : Nested) (b : Buffers) : Type 0 where
   pub values : b.values.now ≡ s.column.values
   pub long_enough : IsLongEnough s.column
   pub in_order : HasOffsets s.column.layout s.column.slots s.column.offsets
-      (length s.column.values) (below s)
-  pub long_children : HasLongChildren s.column.layout s.column.slots (below s)
+      (length s.column.values) (child_columns s)
+  pub long_children : HasLongChildren s.column.layout s.column.slots (child_columns s)
 
 -- slot k holds, not null, the index i into the dictionary of its column (Arrow Columnar Format,
 -- "Dictionary-encoded Layout")

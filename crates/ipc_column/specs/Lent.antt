@@ -7,7 +7,8 @@ use Rattle.ipc_model.specs.declared.layout.Layout.{Layout}
 use Rattle.ipc_model.specs.declared.value.Value.{Value}
 use Rattle.ipc_column.specs.Columns.{Column, Columns, every}
 use Rattle.ipc_column.specs.Checks.{passes, have_slots, good, good_slot}
-use Rattle.ipc_column.specs.Checks.{has_bitmap, holds_values, holds_offsets, in_order, are_long}
+use Rattle.ipc_column.specs.Checks.{has_bitmap, holds_values, holds_offsets, in_order}
+use Rattle.ipc_column.specs.Checks.{children_have_slots}
 use Rattle.ipc_column.specs.Values.{Cells, items, value_of, row}
 
 -- each column has the slots from `from` up to `to`, and its buffers have what its slots need
@@ -39,7 +40,7 @@ pub record HoldSlots (c : Column) (children : Columns) : Type 0 where
   pub values : holds_values c.layout c.slots (length c.values) ≡ true
   pub offsets : holds_offsets c.layout c.slots (length c.offsets) ≡ true
   pub order : in_order c.layout c.slots c.offsets (length c.values) children ≡ true
-  pub long : are_long c.layout c.slots children ≡ true
+  pub long : children_have_slots c.layout c.slots children ≡ true
   pub sound : (why : Cause) → every (passes why) children ≡ true
   pub good : (i : ℕ) → i < c.slots
       → good_slot cause.ValueNotUtf8 (good cause.ValueNotUtf8 children) c i ≡ true
@@ -51,12 +52,12 @@ pub record AreFound (c : Column) (children : Columns) : Type 0 where
   pub values : holds_values c.layout c.slots (length c.values) ≡ true
   pub offsets : holds_offsets c.layout c.slots (length c.offsets) ≡ true
   pub order : in_order c.layout c.slots c.offsets (length c.values) children ≡ true
-  pub long : are_long c.layout c.slots children ≡ true
+  pub long : children_have_slots c.layout c.slots children ≡ true
   pub sound : (why : Cause) → every (passes why) children ≡ true
 
 -- a column of these buffers with this dictionary; its null count is set to 0, as it is not read
-abbrev pub found : Layout → ℕ → List ℕ → List ℕ → List ℕ → List Value → Column
-found layout slots validity offsets values dictionary = record {
+abbrev pub column_of_buffers : Layout → ℕ → List ℕ → List ℕ → List ℕ → List Value → Column
+column_of_buffers layout slots validity offsets values dictionary = record {
   layout = layout;
   slots = slots;
   nulls = 0;
@@ -67,8 +68,8 @@ found layout slots validity offsets values dictionary = record {
 }
 
 -- a column with its null count set to 0
-abbrev pub refound : Column → Column
-refound c = found c.layout c.slots c.validity c.offsets c.values c.dictionary
+abbrev pub without_null_count : Column → Column
+without_null_count c = column_of_buffers c.layout c.slots c.validity c.offsets c.values c.dictionary
 
 -- the values of all slots of a column with these children
 abbrev pub values_in : Column → Columns → Cells

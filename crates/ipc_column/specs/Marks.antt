@@ -4,7 +4,7 @@ use Rattle.std.specs.Prelude.{◌≡◌, ℕ, Bool, true, false, ◌&&◌, ◌||
 use Rattle.std.specs.Prelude.{map, if◌then◌else◌}
 use Rattle.ipc_model.specs.declared.layout.Layout.{Layout}
 use Rattle.ipc_model.specs.declared.layout.Layout.TheVariants as l
-use Rattle.ipc_model.specs.Layouts.{is_judged}
+use Rattle.ipc_model.specs.Layouts.{needs_slot_checks}
 use Rattle.ipc_column.specs.Checks.{all_slots, text_good, index_good}
 use Rattle.ipc_column.specs.Columns.{Column}
 use Rattle.ipc_column.specs.Spans.{span_bytes}
@@ -57,8 +57,8 @@ all_right (m ∷ ms) = m.right && all_right ms
 abbrev pub mark_step : List ℕ → ColumnRanges-F Mark → Mark
 mark_step body p = record {
   valid = p.known_valid;
-  right = (not (is_judged p.layout && p.known_valid) || all_valid p.layout (own_of body p))
-      && ((is_judged p.layout || is_same p.known_valid (each_valid p.children.items))
+  right = (not (needs_slot_checks p.layout && p.known_valid) || all_valid p.layout (own_of body p))
+      && ((needs_slot_checks p.layout || is_same p.known_valid (each_valid p.children.items))
       && all_right p.children.items);
 }
 

@@ -3,9 +3,9 @@
 use Rattle.std.specs.Prelude.{ℕ, List, [], ◌∷◌}
 use Rattle.ipc_column.specs.declared.ranges.ColumnRanges.{ColumnRanges}
 use Rattle.ipc_column.specs.Columns.{Column, Columns, column, none}
-use Rattle.ipc_column.specs.Lent.{refound, values_in}
+use Rattle.ipc_column.specs.Lent.{without_null_count, values_in}
 use Rattle.ipc_column.specs.Values.{Cells}
-use Rattle.ipc_column.specs.Views.{columns}
+use Rattle.ipc_column.specs.Views.{part_columns}
 
 -- a column, and the body ranges of its children
 pub record Nested : Type 0 where
@@ -14,22 +14,22 @@ pub record Nested : Type 0 where
   pub children : List ColumnRanges
 
 -- the columns of the children
-abbrev pub below : Nested → Columns
-below n = columns n.body n.children
+abbrev pub child_columns : Nested → Columns
+child_columns n = part_columns n.body n.children
 
 -- the column as the only one of a list
-abbrev pub alone : Nested → Columns
-alone n = column n.column (below n) none
+abbrev pub only_column : Nested → Columns
+only_column n = column n.column (child_columns n) none
 
 -- the values of all its slots, also of slots that no row refers to
 abbrev pub slot_values : Nested → Cells
-slot_values n = values_in n.column (below n)
+slot_values n = values_in n.column (child_columns n)
 
 -- the column, and the columns of its children
 abbrev pub with_children : Nested → Column × Columns
-with_children n = (n.column, below n)
+with_children n = (n.column, child_columns n)
 
 -- each of the columns, its null count set to 0, and the columns of its children
 abbrev pub found_columns : Columns → List (Column × Columns)
 found_columns none = []
-found_columns (column c children rest) = (refound c, children) ∷ found_columns rest
+found_columns (column c children rest) = (without_null_count c, children) ∷ found_columns rest

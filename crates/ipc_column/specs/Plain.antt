@@ -33,12 +33,12 @@ IsShownBy (l.VariableBytes false) (v.Bytes bytes) = ⊤
 IsShownBy (l.VariableBytes utf8) value = ⊥
 
 -- the bytes of a text or of binary; none of another value
-abbrev pub spelled : Value → List ℕ
-spelled (v.Bytes bytes) = bytes
-spelled (v.Text text) = text
-spelled _ = []
+abbrev pub text_bytes : Value → List ℕ
+text_bytes (v.Bytes bytes) = bytes
+text_bytes (v.Text text) = text
+text_bytes _ = []
 
 -- how many bytes the texts and binary values have together
-abbrev pub spelled_len : List Value → ℕ
-spelled_len [] = 0
-spelled_len (value ∷ values) = length (spelled value) + spelled_len values
+abbrev pub text_bytes_len : List Value → ℕ
+text_bytes_len [] = 0
+text_bytes_len (value ∷ values) = length (text_bytes value) + text_bytes_len values

@@ -9,7 +9,7 @@ use Rattle.ipc_column.specs.Dictionaries.{Dictionaries}
 use Rattle.ipc_model.specs.declared.schema.Field.{Field}
 use Rattle.ipc_model.specs.declared.value.Value.{Value}
 use Rattle.ipc_meta.specs.declared.head.BatchHead.{BatchHead}
-use Rattle.ipc_column.specs.Shapes.{columns_of}
+use Rattle.ipc_column.specs.Shapes.{field_columns}
 use Rattle.ipc_column.specs.Values.{row}
 use Rattle.ipc_column.specs.Rules.{HasNodes, HasBuffers, HasLengths, HasRanges, HasBytes}
 use Rattle.ipc_column.specs.Rules.{HasNullCounts, HasOrder, HasTexts, HasIndices, IsSlotCount}
@@ -37,7 +37,7 @@ pub record Rows (limits : Limits) (m : Dictionaries) (fields : List Field) (head
   -- there are as many rows as the head's length, and each has its values
   pub count : head.length ≡ pos (length rows)
   pub values : (i : ℕ) → i < length rows
-      → slice_index_or rows i [] ≡ row (columns_of m fields head body) i
+      → slice_index_or rows i [] ≡ row (field_columns m fields head body) i
 
 -- each field has its node and its buffers
 pub record HasCounts (fields : List Field) (head : BatchHead) : Type 0 where

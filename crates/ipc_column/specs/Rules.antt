@@ -12,20 +12,20 @@ use Rattle.ipc_column.specs.Dictionaries.{Dictionaries}
 use Rattle.ipc_meta.specs.declared.head.BatchHead.{BatchHead}
 use Rattle.ipc_model.specs.declared.layout.Layout.{Layout}
 use Rattle.ipc_model.specs.declared.layout.Layout.TheVariants as l
-use Rattle.ipc_model.specs.Layouts.{number_bytes, has_validity, is_judged}
+use Rattle.ipc_model.specs.Layouts.{number_bytes, has_validity, needs_slot_checks}
 use Rattle.ipc_column.specs.Columns.{Column, Columns, none, column, Each, EachTop}
-use Rattle.ipc_column.specs.Values.{offset, place, between, is_valid, number_in}
-use Rattle.ipc_column.specs.Shapes.{shape_of, nodes_in, buffers_in, columns_of}
+use Rattle.ipc_column.specs.Values.{offset, offset_position, between, is_valid, number_in}
+use Rattle.ipc_column.specs.Shapes.{shape_of, node_count, buffer_count, field_columns}
 use Rattle.ipc_model.specs.declared.limits.Limits.{Limits}
 
 -- the head has one node for each field, children included (Message.fbs, RecordBatch, "nodes")
 abbrev pub HasNodes : List Field → BatchHead → Type 0
-HasNodes fields head = length head.nodes ≡ nodes_in (shape_of fields)
+HasNodes fields head = length head.nodes ≡ node_count (shape_of fields)
 
 -- the head has each buffer that the layouts of the fields have (Message.fbs, RecordBatch,
 -- "buffers")
 abbrev pub HasBuffers : List Field → BatchHead → Type 0
-HasBuffers fields head = length head.buffers ≡ buffers_in (shape_of fields)
+HasBuffers fields head = length head.buffers ≡ buffer_count (shape_of fields)
 
 -- a number of slots is from 0 up to the limit (Arrow Columnar Format, "Array lengths")
 pub record IsSlotCount (limits : Limits) (count : ℤ) : Type 0 where
@@ -59,20 +59,20 @@ pub record HasLengths (limits : Limits) (m : Dictionaries) (fields : List Field)
     (head : BatchHead) (body : List ℕ) : Type 0 where
   pub batch : IsSlotCount limits head.length
   pub nodes : All (IsFieldNode limits) head.nodes
-  pub columns : EachTop (λ c. pos c.slots ≡ head.length) (columns_of m fields head body)
+  pub columns : EachTop (λ c. pos c.slots ≡ head.length) (field_columns m fields head body)
   pub children : Each (λ c children. HasLongChildren c.layout c.slots children)
-      (columns_of m fields head body)
+      (field_columns m fields head body)
 
 -- a range begins at 0 or above and, unless it is empty, ends within `size` bytes (Schema.fbs,
 -- Buffer)
-pub record LiesIn (size : ℕ) (range : ℤ × ℤ) : Type 0 where
+pub record IsWithinBody (size : ℕ) (range : ℤ × ℤ) : Type 0 where
   pub offset : pos 0 ≤ℤ range.0
   pub bytes : pos 0 ≤ℤ range.1
   pub within : pos 0 <ℤ range.1 → (range.0 +ℤ range.1) ≤ℤ pos size
 
 -- each buffer is inside the body
 abbrev pub HasRanges : BatchHead → List ℕ → Type 0
-HasRanges head body = All (LiesIn (length body)) head.buffers
+HasRanges head body = All (IsWithinBody (length body)) head.buffers
 
 -- this many bytes hold the values of n slots (Arrow Columnar Format, "Fixed-size Primitive Layout")
 abbrev pub HoldValues : Layout → ℕ → ℕ → Type 0
@@ -112,7 +112,7 @@ pub record IsLongEnough (c : Column) : Type 0 where
 
 -- the buffers of each column are long enough, at every level
 abbrev pub HasBytes : Dictionaries → List Field → BatchHead → List ℕ → Type 0
-HasBytes m fields head body = Each (λ c children. IsLongEnough c) (columns_of m fields head body)
+HasBytes m fields head body = Each (λ c children. IsLongEnough c) (field_columns m fields head body)
 
 -- the null count is the number of clear bits in the bitmap, and 0 without a bitmap
 -- (Arrow Columnar Format, "Null count"); a column of the null layout may have any
@@ -124,7 +124,7 @@ pub record CountsNulls (c : Column) : Type 0 where
 -- the null count of each column is right, at every level
 abbrev pub HasNullCounts : Dictionaries → List Field → BatchHead → List ℕ → Type 0
 HasNullCounts m fields head body =
-    Each (λ c children. CountsNulls c) (columns_of m fields head body)
+    Each (λ c children. CountsNulls c) (field_columns m fields head body)
 
 -- the offsets of n slots begin at 0 or above, do not decrease, and end within a bound
 -- (Arrow Columnar Format, "Variable-size Binary Layout", "Variable-size List Layout")
@@ -152,15 +152,15 @@ HasOffsets (l.Indices bits signed id) n offsets size children = ⊤
 abbrev pub HasOrder : Dictionaries → List Field → BatchHead → List ℕ → Type 0
 HasOrder m fields head body =
     Each (λ c children. HasOffsets c.layout c.slots c.offsets (length c.values) children)
-    (columns_of m fields head body)
+    (field_columns m fields head body)
 
 -- the content of slot i is UTF-8, if it is a text (Schema.fbs, Utf8). A list needs this of the
 -- slots that it holds, a struct of its slot in each child, by `below`
 abbrev pub IsText : Layout → (ℕ → Type 0) → List ℕ → List ℕ → ℕ → Type 0
 IsText (l.VariableBytes true) below offsets values i = IsUtf8 (between offsets values i)
 IsText (l.VariableBytes utf8) below offsets values i = ⊤
-IsText l.Lists below offsets values i = (j : ℕ) → place offsets i ≤ j
-    → j < place offsets (i + 1) → below j
+IsText l.Lists below offsets values i = (j : ℕ) → offset_position offsets i ≤ j
+    → j < offset_position offsets (i + 1) → below j
 IsText (l.FixedLists size) below offsets values i = (j : ℕ) → size * i ≤ j → j < size * (i + 1)
     → below j
 IsText l.Structs below offsets values i = below i
@@ -180,7 +180,7 @@ SpellsTexts (column c children rest) i = (is_valid c.validity i ≡ true
 -- the texts of each row are UTF-8
 abbrev pub HasTexts : Dictionaries → List Field → BatchHead → List ℕ → Type 0
 HasTexts m fields head body = (i : ℕ) → i < unsigned_abs head.length
-    → SpellsTexts (columns_of m fields head body) i
+    → SpellsTexts (field_columns m fields head body) i
 
 -- an index is at least 0 and below the number of the dictionary's values (Arrow Columnar Format,
 -- "Dictionary-encoded Layout")
@@ -193,8 +193,8 @@ pub record IsIndex (dictionary : List Value) (index : ℤ) : Type 0 where
 abbrev pub HasIndex : Layout → List Value → (ℕ → Type 0) → List ℕ → List ℕ → ℕ → Type 0
 HasIndex (l.Indices bits signed id) dictionary below offsets values i =
     IsIndex dictionary (number_in bits signed values i)
-HasIndex l.Lists dictionary below offsets values i = (j : ℕ) → place offsets i ≤ j
-    → j < place offsets (i + 1) → below j
+HasIndex l.Lists dictionary below offsets values i = (j : ℕ) → offset_position offsets i ≤ j
+    → j < offset_position offsets (i + 1) → below j
 HasIndex (l.FixedLists size) dictionary below offsets values i = (j : ℕ) → size * i ≤ j
     → j < size * (i + 1) → below j
 HasIndex l.Structs dictionary below offsets values i = below i
@@ -215,32 +215,32 @@ HoldsIndices (column c children rest) i = (is_valid c.validity i ≡ true
 -- the indices of each row are those of values in force
 abbrev pub HasIndices : Dictionaries → List Field → BatchHead → List ℕ → Type 0
 HasIndices m fields head body = (i : ℕ) → i < unsigned_abs head.length
-    → HoldsIndices (columns_of m fields head body) i
+    → HoldsIndices (field_columns m fields head body) i
 
 -- one of the columns, or a column below it, has texts or indices
-abbrev pub have_judged : Columns → Bool
-have_judged none = false
-have_judged (column c children rest) =
-    is_judged c.layout || (have_judged children || have_judged rest)
+abbrev pub have_slot_checks : Columns → Bool
+have_slot_checks none = false
+have_slot_checks (column c children rest) =
+    needs_slot_checks c.layout || (have_slot_checks children || have_slot_checks rest)
 
 -- validation may visit the slots of a column one by one: it has texts or indices, or it has a
 -- validity bitmap and there are texts or indices below it
-abbrev pub is_visited : Column → Columns → Bool
-is_visited c children =
-    is_judged c.layout || (not (length c.validity == 0) && have_judged children)
+abbrev pub has_slot_visits : Column → Columns → Bool
+has_slot_visits c children =
+    needs_slot_checks c.layout || (not (length c.validity == 0) && have_slot_checks children)
 
 -- how many slots validation may visit one by one
 abbrev pub visits_in : Columns → ℕ
 visits_in none = 0
-visits_in (column c children rest) = (if is_visited c children then c.slots else 0)
+visits_in (column c children rest) = (if has_slot_visits c children then c.slots else 0)
     + visits_in children + visits_in rest
 
 -- the number, or 0 if it is negative
-abbrev pub count_of : ℤ → ℕ
-count_of (pos n) = n
-count_of (negsuc n) = 0
+abbrev pub count_or_zero : ℤ → ℕ
+count_or_zero (pos n) = n
+count_or_zero (negsuc n) = 0
 
 -- how many slots all nodes have together
 abbrev pub slots_in : List (ℤ × ℤ) → ℕ
 slots_in [] = 0
-slots_in (node ∷ nodes) = count_of node.0 + slots_in nodes
+slots_in (node ∷ nodes) = count_or_zero node.0 + slots_in nodes

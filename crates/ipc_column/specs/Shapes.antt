@@ -7,7 +7,7 @@ use Rattle.ipc_meta.specs.declared.head.BatchHead.{BatchHead}
 use Rattle.ipc_model.specs.declared.layout.Layout.{Layout}
 use Rattle.ipc_model.specs.declared.layout.Layout.TheVariants as l
 use Rattle.ipc_model.specs.Layouts.{layout, own_buffers}
-use Rattle.ipc_column.specs.Columns.{Column, Columns, none, column, bytes_of}
+use Rattle.ipc_column.specs.Columns.{Column, Columns, none, column, body_range}
 use Rattle.ipc_column.specs.Dictionaries.{Dictionaries, values_for}
 use Rattle.ipc_model.specs.declared.value.Value.{Value}
 
@@ -34,14 +34,14 @@ abbrev pub shape_of : List Field → Shape
 shape_of fields = shapes (map field_shape fields)
 
 -- how many nodes the fields have: one for each field, children included
-unfoldable pub nodes_in : Shape → ℕ
-nodes_in bare = 0
-nodes_in (field l children rest) = 1 + nodes_in children + nodes_in rest
+unfoldable pub node_count : Shape → ℕ
+node_count bare = 0
+node_count (field l children rest) = 1 + node_count children + node_count rest
 
 -- how many buffers the fields have, children included
-unfoldable pub buffers_in : Shape → ℕ
-buffers_in bare = 0
-buffers_in (field l children rest) = own_buffers l + buffers_in children + buffers_in rest
+unfoldable pub buffer_count : Shape → ℕ
+buffer_count bare = 0
+buffer_count (field l children rest) = own_buffers l + buffer_count children + buffer_count rest
 
 -- node n: a length and a null count (Message.fbs, FieldNode)
 abbrev pub node_at : BatchHead → ℕ → ℤ × ℤ
@@ -50,7 +50,7 @@ node_at head n = slice_index_or head.nodes n (pos 0, pos 0)
 -- the bytes of buffer b, which has an offset and a length (Schema.fbs, Buffer)
 abbrev pub buffer_at : BatchHead → List ℕ → ℕ → List ℕ
 buffer_at head body b = let range =
-    slice_index_or head.buffers b (pos 0, pos 0) in bytes_of body (unsigned_abs range.0)
+    slice_index_or head.buffers b (pos 0, pos 0) in body_range body (unsigned_abs range.0)
     (unsigned_abs range.1)
 
 -- the validity bitmap of a field whose first buffer is b
@@ -116,15 +116,17 @@ column_at m l head body n b = record {
 
 -- the columns of adjacent fields, in this order: a field's own node and buffers, then those of its
 -- children, then those of the fields after it
-unfoldable pub cut : Dictionaries → Shape → BatchHead → List ℕ → ℕ → ℕ → Columns
-cut m bare head body n b = none
-cut m (field l children rest) head body n b =
-    column (column_at m l head body n b) (cut m children head body (n + 1) (b + own_buffers l))
-    (cut m rest head body (n + 1 + nodes_in children) (b + own_buffers l + buffers_in children))
+unfoldable pub assigned_columns : Dictionaries → Shape → BatchHead → List ℕ → ℕ → ℕ → Columns
+assigned_columns m bare head body n b = none
+assigned_columns m (field l children rest) head body n b =
+    column (column_at m l head body n b) (assigned_columns m children head body (n + 1)
+    (b + own_buffers l))
+    (assigned_columns m rest head body (n + 1 + node_count children)
+    (b + own_buffers l + buffer_count children))
 
 -- the columns of the fields
-abbrev pub columns_of : Dictionaries → List Field → BatchHead → List ℕ → Columns
-columns_of m fields head body = cut m (shape_of fields) head body 0 0
+abbrev pub field_columns : Dictionaries → List Field → BatchHead → List ℕ → Columns
+field_columns m fields head body = assigned_columns m (shape_of fields) head body 0 0
 
 -- a field's layout
 abbrev pub field_layout : Field → Layout

@@ -2,16 +2,16 @@
 use Rattle.std.specs.Prelude.{length, map}
 use Rattle.ipc_column.specs.declared.batch.Shared.{Shared}
 use Rattle.ipc_column.specs.Contents.{Contents}
-use Rattle.ipc_column.specs.Checks.{Holds}
+use Rattle.ipc_column.specs.Checks.{PassTests}
 use Rattle.ipc_column.specs.Slots.{nested}
 use Rattle.ipc_column.specs.Values.{rows_of}
-use Rattle.ipc_column.specs.Views.{columns}
+use Rattle.ipc_column.specs.Views.{part_columns}
 
 -- the contents of a shared batch: its rows, its columns over its body, the body with its length,
 -- and the number of visited slots
 abbrev pub contents_of : Shared → Contents
 contents_of s = record {
-  rows = rows_of (columns s.body.value.items s.parts.items) s.count;
+  rows = rows_of (part_columns s.body.value.items s.parts.items) s.count;
   columns = length s.parts.items;
   slots = map (nested s.body.value.items) s.parts.items;
   body = s.body.value.items;
@@ -21,4 +21,4 @@ contents_of s = record {
 
 -- the columns of a shared batch have its number of rows and pass all tests
 abbrev pub HasRows : Shared → Type 0
-HasRows s = Holds s.count (columns s.body.value.items s.parts.items)
+HasRows s = PassTests s.count (part_columns s.body.value.items s.parts.items)

@@ -9,27 +9,28 @@ use Rattle.ipc_column.specs.declared.ranges.ColumnRanges.TheViews.{out-ColumnRan
 use Rattle.ipc_column.specs.declared.slot_view.Slot.{Slot}
 use Rattle.ipc_column.specs.declared.slot_view.Slot.TheVariants as slot
 use Rattle.ipc_column.specs.Columns.{Columns, EachTop}
-use Rattle.ipc_column.specs.Lent.{refound}
+use Rattle.ipc_column.specs.Lent.{without_null_count}
 use Rattle.ipc_column.specs.Nested.{Nested}
 use Rattle.ipc_column.specs.Values.{items, first_of}
 use Rattle.ipc_column.specs.Views.{column_of}
 
 -- the value of slot i, given `below`, the values of the children's slots: a list has those of its
 -- slots in the first child, a struct that of slot i in each child
-abbrev pub shown : (ℕ → List Value) → ℕ → Slot → Value
-shown below i slot.Null = v.Null
-shown below i (slot.Bool truth) = v.Bool truth
-shown below i (slot.Int number) = v.Int number
-shown below i (slot.UInt number) = v.UInt number
-shown below i (slot.Bytes bytes) = v.Bytes bytes.now
-shown below i (slot.Text bytes) = v.Text bytes.now
-shown below i (slot.List from to) = v.List (items (λ j. first_of (below j)) from (to - from))
-shown below i slot.Struct = v.Struct (below i)
+abbrev pub value_in_slot : (ℕ → List Value) → ℕ → Slot → Value
+value_in_slot below i slot.Null = v.Null
+value_in_slot below i (slot.Bool truth) = v.Bool truth
+value_in_slot below i (slot.Int number) = v.Int number
+value_in_slot below i (slot.UInt number) = v.UInt number
+value_in_slot below i (slot.Bytes bytes) = v.Bytes bytes.now
+value_in_slot below i (slot.Text bytes) = v.Text bytes.now
+value_in_slot below i (slot.List from to) = v.List (items (λ j. first_of (below j)) from
+    (to - from))
+value_in_slot below i slot.Struct = v.Struct (below i)
 
 -- the text in the first `len` bytes of a buffer, or null if there is none
-abbrev pub text_shown : Option (Bor (List ℕ) × ℕ) → Value
-text_shown None = v.Null
-text_shown (Some (bytes, len)) = v.Text (take len bytes.now)
+abbrev pub text_prefix : Option (Bor (List ℕ) × ℕ) → Value
+text_prefix None = v.Null
+text_prefix (Some (bytes, len)) = v.Text (take len bytes.now)
 
 -- the value is null
 abbrev pub is_null : Value → Bool
@@ -37,20 +38,20 @@ is_null v.Null = true
 is_null _ = false
 
 -- each of the children has the slots that slot i refers to
-abbrev pub LeadsInside : Columns → ℕ → Slot → Type 0
-LeadsInside children i (slot.List from to) = (from ≤ to) × EachTop (λ c. to ≤ c.slots) children
-LeadsInside children i slot.Struct = EachTop (λ c. i < c.slots) children
-LeadsInside children i slot.Null = ⊤
-LeadsInside children i (slot.Bool truth) = ⊤
-LeadsInside children i (slot.Int number) = ⊤
-LeadsInside children i (slot.UInt number) = ⊤
-LeadsInside children i (slot.Bytes bytes) = ⊤
-LeadsInside children i (slot.Text bytes) = ⊤
+abbrev pub HasChildSlots : Columns → ℕ → Slot → Type 0
+HasChildSlots children i (slot.List from to) = (from ≤ to) × EachTop (λ c. to ≤ c.slots) children
+HasChildSlots children i slot.Struct = EachTop (λ c. i < c.slots) children
+HasChildSlots children i slot.Null = ⊤
+HasChildSlots children i (slot.Bool truth) = ⊤
+HasChildSlots children i (slot.Int number) = ⊤
+HasChildSlots children i (slot.UInt number) = ⊤
+HasChildSlots children i (slot.Bytes bytes) = ⊤
+HasChildSlots children i (slot.Text bytes) = ⊤
 
 -- the column of a part, over the body, with its children
 abbrev pub nested : List ℕ → ColumnRanges → Nested
 nested body p = record {
-  column = refound (column_of body p);
+  column = without_null_count (column_of body p);
   body = body;
   children = (out-ColumnRanges p).children.items;
 }

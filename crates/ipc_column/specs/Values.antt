@@ -45,18 +45,19 @@ abbrev pub offset : List ℕ → ℕ → ℤ
 offset offsets i = int32 offsets (4 * i)
 
 -- the place to which offset i points, if it is not negative
-abbrev pub place : List ℕ → ℕ → ℕ
-place offsets i = unsigned_abs (offset offsets i)
+abbrev pub offset_position : List ℕ → ℕ → ℕ
+offset_position offsets i = unsigned_abs (offset offsets i)
 
 -- the bytes from offset i to offset i + 1 (Arrow Columnar Format, "Variable-size Binary Layout")
 abbrev pub between : List ℕ → List ℕ → ℕ → List ℕ
-between offsets values i = slice_range values (place offsets i) (place offsets (i + 1))
+between offsets values i = slice_range values (offset_position offsets i)
+    (offset_position offsets (i + 1))
 
 -- Arrow Columnar Format, "Variable-size List Layout", "Fixed-Size List Layout", "Struct Layout":
 -- the first slot of the children that belongs to slot i. For a list it is offset i, for a list of a
 -- fixed size i times the size, for a struct i
 abbrev pub child_slot : Layout → List ℕ → ℕ → ℕ
-child_slot l.Lists offsets i = place offsets i
+child_slot l.Lists offsets i = offset_position offsets i
 child_slot (l.FixedLists size) offsets i = size * i
 child_slot _ offsets i = i
 
@@ -99,8 +100,8 @@ own_value (l.VariableBytes true) dictionary below offsets values i =
 own_value (l.VariableBytes false) dictionary below offsets values i =
     v.Bytes (between offsets values i)
 own_value l.Lists dictionary below offsets values i =
-    v.List (items (λ j. first_of (below j)) (place offsets i)
-    (place offsets (i + 1) - place offsets i))
+    v.List (items (λ j. first_of (below j)) (offset_position offsets i)
+    (offset_position offsets (i + 1) - offset_position offsets i))
 own_value (l.FixedLists size) dictionary below offsets values i =
     v.List (items (λ j. first_of (below j)) (size * i) size)
 own_value l.Structs dictionary below offsets values i = v.Struct (below i)

@@ -29,8 +29,8 @@ abbrev pub view : List ℕ → ColumnRanges → Column × Columns
 view body = fold-ColumnRanges (Column × Columns) (part_step body)
 
 -- the columns of parts
-abbrev pub columns : List ℕ → List ColumnRanges → Columns
-columns body ps = forest (map (view body) ps)
+abbrev pub part_columns : List ℕ → List ColumnRanges → Columns
+part_columns body ps = forest (map (view body) ps)
 
 -- the column of a part, without its children
 abbrev pub column_of : List ℕ → ColumnRanges → Column

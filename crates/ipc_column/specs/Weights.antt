@@ -3,7 +3,7 @@ use Rattle.std.specs.Prelude.{ℕ, ◌+◌, ◌-◌, ◌*◌, List, if◌then◌
 use Rattle.ipc_model.specs.declared.layout.Layout.{Layout}
 use Rattle.ipc_model.specs.declared.layout.Layout.TheVariants as l
 use Rattle.ipc_column.specs.Columns.{Columns, none, column}
-use Rattle.ipc_column.specs.Rules.{is_visited}
+use Rattle.ipc_column.specs.Rules.{has_slot_visits}
 use Rattle.ipc_column.specs.Values.{child_slot}
 
 -- how many slots validation may visit below the slots from i up to j; `below` counts a range of the
@@ -18,5 +18,5 @@ weight_below _ below offsets i j = 0
 -- how many slots validation may visit in the slots from i up to j of each column, and below them
 unfoldable pub weight : Columns → ℕ → ℕ → ℕ
 weight none i j = 0
-weight (column c children rest) i j = (if is_visited c children then j - i else 0)
+weight (column c children rest) i j = (if has_slot_visits c children then j - i else 0)
     + weight_below c.layout (weight children) c.offsets i j + weight rest i j

@@ -1,11 +1,12 @@
 ghost use Rattle.std.specs.Prelude.{◌≡◌, ◌≤◌, ◌<◌, ◌+◌, ◌^◌, ℕ, List, length, IfOk};
 ghost use Rattle.ipc_model.specs.Layouts.{own_buffers};
-ghost use Rattle.ipc_column.specs.Shapes.{cut, shape_of, field_layout, field_children, nodes_in};
-ghost use Rattle.ipc_column.specs.Shapes.{buffers_in, column_at, buffer_at, validity_at};
+ghost use Rattle.ipc_column.specs.Shapes.{assigned_columns, shape_of, field_layout, field_children};
+ghost use Rattle.ipc_column.specs.Shapes.{node_count};
+ghost use Rattle.ipc_column.specs.Shapes.{buffer_count, column_at, buffer_at, validity_at};
 ghost use Rattle.ipc_column.specs.Shapes.{dictionary_at, offsets_at, values_at};
 ghost use Rattle.ipc_column.specs.DictionaryBatches.{AreDictionaries, dictionaries_in};
 ghost use Rattle.ipc_column.specs.Dictionaries.{values_for};
-ghost use Rattle.ipc_column.specs.Views.{columns, column_of, children_of};
+ghost use Rattle.ipc_column.specs.Views.{part_columns, column_of, children_of};
 ghost use Rattle.ipc_column.specs.Spans.{span_bytes};
 
 use crate::batch::Batch;
@@ -29,12 +30,13 @@ pub struct Cursor {
 // What a field needs, children included, beside what others need before it.
 #[cycle(count)]
 fn count_field(field: &Field, before: Cursor) -> Cursor
-    requires nodes { before.node + (1 + nodes_in (field_children field.now)) < 2 ^ 60 }
+    requires nodes { before.node + (1 + node_count (field_children field.now)) < 2 ^ 60 }
     requires buffers { before.buffer
-        + (own_buffers (field_layout field.now) + buffers_in (field_children field.now)) < 2 ^ 60 }
-    ensures nodes { result.node ≡ before.node + 1 + nodes_in (field_children field.now) }
+        + (own_buffers (field_layout field.now) + buffer_count (field_children field.now))
+        < 2 ^ 60 }
+    ensures nodes { result.node ≡ before.node + 1 + node_count (field_children field.now) }
     ensures buffers { result.buffer ≡ before.buffer + own_buffers (field_layout field.now)
-        + buffers_in (field_children field.now) }
+        + buffer_count (field_children field.now) }
 {
     let below = Cursor {
         node: before.node + 1,
@@ -48,10 +50,10 @@ fn count_field(field: &Field, before: Cursor) -> Cursor
 /// dictionary has the buffers of its indices. It takes no memory.
 #[cycle(count)]
 pub fn count(fields: &[Field], before: Cursor) -> Cursor
-    requires nodes { before.node + nodes_in (shape_of fields.now) < 2 ^ 60 }
-    requires buffers { before.buffer + buffers_in (shape_of fields.now) < 2 ^ 60 }
-    ensures nodes { result.node ≡ before.node + nodes_in (shape_of fields.now) }
-    ensures buffers { result.buffer ≡ before.buffer + buffers_in (shape_of fields.now) }
+    requires nodes { before.node + node_count (shape_of fields.now) < 2 ^ 60 }
+    requires buffers { before.buffer + buffer_count (shape_of fields.now) < 2 ^ 60 }
+    ensures nodes { result.node ≡ before.node + node_count (shape_of fields.now) }
+    ensures buffers { result.buffer ≡ before.buffer + buffer_count (shape_of fields.now) }
 {
     let mut place = before;
     for field in fields {
@@ -152,22 +154,24 @@ fn assign_field(
     at: Cursor,
 ) -> Result<(ColumnRanges, Cursor), AllocError>
     requires dictionaries { AreDictionaries dictionaries.now }
-    requires nodes { at.node + (1 + nodes_in (field_children field.now)) ≤ length head.now.nodes }
+    requires nodes { at.node + (1 + node_count (field_children field.now)) ≤ length head.now.nodes }
     requires buffers { at.buffer + (own_buffers (field_layout field.now)
-        + buffers_in (field_children field.now)) ≤ length head.now.buffers }
+        + buffer_count (field_children field.now)) ≤ length head.now.buffers }
     requires few_nodes { length head.now.nodes < 2 ^ 60 }
     requires few_buffers { length head.now.buffers < 2 ^ 60 }
     ensures column { IfOk result (λ r. (body : List ℕ)
         → column_of body r.0 ≡ column_at (dictionaries_in dictionaries.now) (field_layout field.now)
         head.now body at.node at.buffer) }
     ensures children { IfOk result (λ r. (body : List ℕ)
-        → children_of body r.0 ≡ cut (dictionaries_in dictionaries.now) (field_children field.now)
+        → children_of body r.0 ≡ assigned_columns (dictionaries_in dictionaries.now)
+        (field_children field.now)
         head.now body (at.node + 1)
         (at.buffer + own_buffers (field_layout field.now))) }
-    ensures node { IfOk result (λ r. r.1.node ≡ at.node + 1 + nodes_in (field_children field.now)) }
+    ensures node { IfOk result (λ r. r.1.node ≡ at.node + 1
+        + node_count (field_children field.now)) }
     ensures buffer { IfOk result (λ r. r.1.buffer
         ≡ at.buffer + own_buffers (field_layout field.now)
-        + buffers_in (field_children field.now)) }
+        + buffer_count (field_children field.now)) }
 {
     let layout = layout_of(&field.kind, field.dictionary);
     let (slots, nulls) = head.nodes.as_slice()[at.node];
@@ -201,16 +205,18 @@ pub(crate) fn assign_buffers(
     at: Cursor,
 ) -> Result<(Vec<ColumnRanges>, Cursor), AllocError>
     requires dictionaries { AreDictionaries dictionaries.now }
-    requires nodes { at.node + nodes_in (shape_of fields.now) ≤ length head.now.nodes }
-    requires buffers { at.buffer + buffers_in (shape_of fields.now) ≤ length head.now.buffers }
+    requires nodes { at.node + node_count (shape_of fields.now) ≤ length head.now.nodes }
+    requires buffers { at.buffer + buffer_count (shape_of fields.now) ≤ length head.now.buffers }
     requires few_nodes { length head.now.nodes < 2 ^ 60 }
     requires few_buffers { length head.now.buffers < 2 ^ 60 }
     ensures parts { IfOk result (λ r. (body : List ℕ)
-        → columns body r.0.items ≡ cut (dictionaries_in dictionaries.now) (shape_of fields.now)
+        → part_columns body r.0.items ≡ assigned_columns (dictionaries_in dictionaries.now)
+        (shape_of fields.now)
         head.now body at.node at.buffer) }
     ensures number { IfOk result (λ r. length r.0.items ≡ length fields.now) }
-    ensures node { IfOk result (λ r. r.1.node ≡ at.node + nodes_in (shape_of fields.now)) }
-    ensures buffer { IfOk result (λ r. r.1.buffer ≡ at.buffer + buffers_in (shape_of fields.now)) }
+    ensures node { IfOk result (λ r. r.1.node ≡ at.node + node_count (shape_of fields.now)) }
+    ensures buffer { IfOk result (λ r. r.1.buffer ≡ at.buffer
+        + buffer_count (shape_of fields.now)) }
 {
     let mut parts = Vec::with_capacity(alloc, fields.len())?;
     let mut place = at;

@@ -5,9 +5,10 @@ ghost use Rattle.std.specs.List.{AllByRecursion};
 ghost use Rattle.ipc_model.specs.declared.value.Value.{Value};
 ghost use Rattle.ipc_model.specs.Entries.{entries};
 ghost use Rattle.ipc_column.specs.Contents.{layouts};
-ghost use Rattle.ipc_column.specs.Nested.{alone, found_columns, slot_values, with_children};
+ghost use Rattle.ipc_column.specs.Nested.{only_column, found_columns, slot_values, with_children};
 ghost use Rattle.ipc_column.specs.Rules.{SpellsTexts, visits_in, slots_in};
-ghost use Rattle.ipc_column.specs.Shapes.{shape_of, nodes_in, columns_of, cut, field_layout};
+ghost use Rattle.ipc_column.specs.Shapes.{shape_of, node_count, field_columns, assigned_columns};
+ghost use Rattle.ipc_column.specs.Shapes.{field_layout};
 ghost use Rattle.ipc_column.specs.Rows.{Rows, RefusesParts, IsOneList};
 ghost use Rattle.ipc_column.specs.DictionaryBatches.{AreDictionaries, IsDictionary};
 ghost use Rattle.ipc_column.specs.DictionaryBatches.{dictionaries_in, dictionary_values};
@@ -18,7 +19,7 @@ ghost use Rattle.ipc_column.specs.Cells.{cell_value};
 
 use crate::assign::{Cursor, assign_buffers};
 use crate::cell::{Cell, cell_in};
-use crate::dictionary::{DictionaryValues, are_alone, share_values};
+use crate::dictionary::{DictionaryValues, is_one_leaf, share_values};
 use crate::head::check_head;
 use crate::ranges::ColumnRanges;
 use crate::rows::{read_row, read_value, rows_in};
@@ -86,19 +87,21 @@ fn read(
     body: Vec<u8>,
     dictionaries: &BTreeMap<i64, Rc<Batch>>,
 ) -> Result<Batch, Fault>
-    requires few { nodes_in (shape_of fields.now) ≤ limits.now.fields }
+    requires few { node_count (shape_of fields.now) ≤ limits.now.fields }
     requires dictionaries { AreDictionaries dictionaries.now }
     ensures passing { IfOk result (λ batch. Passing limits.now (dictionaries_in dictionaries.now)
         (shape_of fields.now) head.now body.items batch.rows) }
     ensures columns { IfOk result (λ batch. batch.columns ≡ length fields.now) }
     ensures layouts { IfOk result (λ batch. layouts batch ≡ map field_layout fields.now) }
     ensures buffers { IfOk result (λ batch. map with_children batch.slots
-        ≡ found_columns (cut (dictionaries_in dictionaries.now) (shape_of fields.now) head.now
+        ≡ found_columns (assigned_columns (dictionaries_in dictionaries.now) (shape_of fields.now)
+        head.now
         body.items 0 0)) }
     ensures body { IfOk result (λ batch. batch.body_len ≡ length body.items) }
     ensures bytes { IfOk result (λ batch. batch.body ≡ body.items) }
     ensures visits { IfOk result (λ batch. batch.tests
-        ≤ visits_in (cut (dictionaries_in dictionaries.now) (shape_of fields.now) head.now
+        ≤ visits_in (assigned_columns (dictionaries_in dictionaries.now) (shape_of fields.now)
+        head.now
         body.items 0 0)) }
     ensures slots { IfOk result (λ batch. batch.tests ≤ slots_in head.now.nodes) }
     ensures failing { IfErr result
@@ -182,7 +185,8 @@ impl Batch {
             (λ batch. layouts batch ≡ map field_layout fields.value.items) }
         // Each column has, as its descendants have, the buffers that the head locates in the body.
         ensures buffers { IfOk result (λ batch. map with_children batch.slots
-            ≡ found_columns (columns_of (dictionaries_in dictionaries.now) fields.value.items head
+            ≡ found_columns (field_columns (dictionaries_in dictionaries.now) fields.value.items
+            head
             body.items)) }
         ensures body { IfOk result (λ batch. batch.body_len ≡ length body.items) }
         // The batch keeps the body as it is.
@@ -190,7 +194,7 @@ impl Batch {
         // Only slots of texts and indices are visited, and slots of lists and structs that have a
         // validity bitmap and such descendants. Each is visited at most once.
         ensures visits { IfOk result
-            (λ batch. batch.tests ≤ visits_in (columns_of (dictionaries_in dictionaries.now)
+            (λ batch. batch.tests ≤ visits_in (field_columns (dictionaries_in dictionaries.now)
             fields.value.items head body.items)) }
         ensures tests { IfOk result (λ batch. batch.tests ≤ slots_in head.nodes) }
     {
@@ -227,7 +231,7 @@ impl Batch {
         ensures layouts { IfOk result (λ batch. layouts batch ≡ map field_layout fields.now) }
         // Each column has, as its descendants have, the buffers that the head locates in the body.
         ensures buffers { IfOk result (λ batch. map with_children batch.slots
-            ≡ found_columns (columns_of (dictionaries_in dictionaries.now) fields.now head
+            ≡ found_columns (field_columns (dictionaries_in dictionaries.now) fields.now head
             body.items)) }
         ensures body { IfOk result (λ batch. batch.body_len ≡ length body.items) }
         // The batch keeps the body as it is.
@@ -235,7 +239,7 @@ impl Batch {
         // Only slots of texts and indices are visited, and slots of lists and structs that have a
         // validity bitmap and such descendants. Each is visited at most once.
         ensures visits { IfOk result
-            (λ batch. batch.tests ≤ visits_in (columns_of (dictionaries_in dictionaries.now)
+            (λ batch. batch.tests ≤ visits_in (field_columns (dictionaries_in dictionaries.now)
             fields.now head body.items)) }
         ensures tests { IfOk result (λ batch. batch.tests ≤ slots_in head.nodes) }
     {
@@ -333,7 +337,8 @@ impl Batch {
         ensures layout { slice_get (layouts self.now) column ≡ Some result.column.layout }
         ensures values { AreOfColumn self.now.rows column (slot_values result) }
         // Each text that they lead to is UTF-8.
-        ensures texts { (i : ℕ) → i < length (slot_values result) → SpellsTexts (alone result) i }
+        ensures texts { (i : ℕ) → i < length (slot_values result)
+            → SpellsTexts (only_column result) i }
     {
         let shared = self.shared.as_ref();
         slots_in(shared.body.as_slice(), &shared.parts, shared.count, column)
@@ -346,7 +351,7 @@ impl Batch {
         ensures no { IsDictionary self.now → IsTrue result }
     {
         let shared = self.shared.as_ref();
-        are_alone(&shared.parts)
+        is_one_leaf(&shared.parts)
     }
 
     /// Returns the bytes of the body for other use. Returns `None` if the batch still has clones,

@@ -2,14 +2,15 @@ ghost use Rattle.std.specs.Prelude.{◌≡◌, ◌≤◌, ◌<◌, ◌+◌, ◌-
 ghost use Rattle.std.specs.Prelude.{slice_get};
 ghost use Rattle.ipc_column.specs.declared.cause.Cause.{Cause};
 ghost use Rattle.ipc_column.specs.Cells.{cell_value, is_leaf};
-ghost use Rattle.ipc_column.specs.Checks.{Holds, has_bitmap, holds_values, holds_offsets, in_order};
-ghost use Rattle.ipc_column.specs.Checks.{are_long, good, good_below, passes};
+ghost use Rattle.ipc_column.specs.Checks.{PassTests, has_bitmap, holds_values, holds_offsets};
+ghost use Rattle.ipc_column.specs.Checks.{in_order};
+ghost use Rattle.ipc_column.specs.Checks.{children_have_slots, good, good_below, passes};
 ghost use Rattle.ipc_column.specs.Columns.{every, none};
-ghost use Rattle.ipc_column.specs.Dictionaries.{stands_alone};
+ghost use Rattle.ipc_column.specs.Dictionaries.{has_no_children};
 ghost use Rattle.ipc_column.specs.Lent.{HaveValues, HasValue};
 ghost use Rattle.ipc_column.specs.Values.{is_valid, own_value, value_of, row, items, first_at};
-ghost use Rattle.ipc_column.specs.Values.{is_nested, place};
-ghost use Rattle.ipc_column.specs.Views.{columns, column_of, children_of};
+ghost use Rattle.ipc_column.specs.Values.{is_nested, offset_position};
+ghost use Rattle.ipc_column.specs.Views.{part_columns, column_of, children_of};
 ghost use Rattle.ipc_column.specs.Spans.{span_bytes};
 
 use crate::cell_iter::{ListIter, StructIter, list_values, struct_values};
@@ -65,11 +66,12 @@ impl<'a> Model for ListCell<'a> {
 
     ghost use Rattle.ipc_column.specs.Lent.{HaveValues};
     ghost use Rattle.ipc_column.specs.Values.{items, first_at};
-    ghost use Rattle.ipc_column.specs.Views.{columns};
+    ghost use Rattle.ipc_column.specs.Views.{part_columns};
 
-    ghost view = { λ s. items (first_at (columns s.body.now s.parts.now)) s.from (s.to - s.from) };
+    ghost view = { λ s. items (first_at (part_columns s.body.now s.parts.now)) s.from
+        (s.to - s.from) };
 
-    ghost invariant = { λ s. HaveValues (columns s.body.now s.parts.now) s.from s.to };
+    ghost invariant = { λ s. HaveValues (part_columns s.body.now s.parts.now) s.from s.to };
 }
 
 impl<'a> ListCell<'a> {
@@ -117,11 +119,11 @@ impl<'a> Model for StructCell<'a> {
 
     ghost use Rattle.ipc_column.specs.Lent.{HaveValues};
     ghost use Rattle.ipc_column.specs.Values.{row};
-    ghost use Rattle.ipc_column.specs.Views.{columns};
+    ghost use Rattle.ipc_column.specs.Views.{part_columns};
 
-    ghost view = { λ s. row (columns s.body.now s.parts.now) s.slot };
+    ghost view = { λ s. row (part_columns s.body.now s.parts.now) s.slot };
 
-    ghost invariant = { λ s. HaveValues (columns s.body.now s.parts.now) s.slot (s.slot + 1) };
+    ghost invariant = { λ s. HaveValues (part_columns s.body.now s.parts.now) s.slot (s.slot + 1) };
 }
 
 impl<'a> StructCell<'a> {
@@ -150,8 +152,8 @@ impl<'a> StructCell<'a> {
 
 // The values of a range of slots of the first of the parts.
 fn list_of<'a>(body: &'a [u8], parts: &'a [ColumnRanges], from: usize, to: usize) -> ListCell<'a>
-    requires { HaveValues (columns body.now parts.now) from to }
-    ensures { result ≡ items (first_at (columns body.now parts.now)) from (to - from) }
+    requires { HaveValues (part_columns body.now parts.now) from to }
+    ensures { result ≡ items (first_at (part_columns body.now parts.now)) from (to - from) }
 {
     ListCell {
         body,
@@ -163,8 +165,8 @@ fn list_of<'a>(body: &'a [u8], parts: &'a [ColumnRanges], from: usize, to: usize
 
 // The values of a slot of each part.
 fn struct_of<'a>(body: &'a [u8], parts: &'a [ColumnRanges], slot: usize) -> StructCell<'a>
-    requires { HaveValues (columns body.now parts.now) slot (slot + 1) }
-    ensures { result ≡ row (columns body.now parts.now) slot }
+    requires { HaveValues (part_columns body.now parts.now) slot (slot + 1) }
+    ensures { result ≡ row (part_columns body.now parts.now) slot }
 {
     StructCell { body, parts, slot }
 }
@@ -179,10 +181,12 @@ fn list_between<'a>(
 ) -> ListCell<'a>
     requires slot { slot < slots }
     requires bytes { 4 * (slots + 1) ≤ length offsets.now }
-    requires values { HaveValues (columns body.now parts.now) (place offsets.now slot)
-        (place offsets.now (slot + 1)) }
-    ensures { result ≡ items (first_at (columns body.now parts.now)) (place offsets.now slot)
-        (place offsets.now (slot + 1) - place offsets.now slot) }
+    requires values { HaveValues (part_columns body.now parts.now)
+        (offset_position offsets.now slot)
+        (offset_position offsets.now (slot + 1)) }
+    ensures { result ≡ items (first_at (part_columns body.now parts.now))
+        (offset_position offsets.now slot)
+        (offset_position offsets.now (slot + 1) - offset_position offsets.now slot) }
 {
     list_of(
         body,
@@ -194,8 +198,8 @@ fn list_between<'a>(
 
 // The values of a list of a fixed size.
 fn fixed_list<'a>(body: &'a [u8], parts: &'a [ColumnRanges], size: u32, slot: usize) -> ListCell<'a>
-    requires { HaveValues (columns body.now parts.now) (size * slot) (size * (slot + 1)) }
-    ensures { result ≡ items (first_at (columns body.now parts.now)) (size * slot) size }
+    requires { HaveValues (part_columns body.now parts.now) (size * slot) (size * (slot + 1)) }
+    ensures { result ≡ items (first_at (part_columns body.now parts.now)) (size * slot) size }
 {
     let first = fixed_place(size, parts, slot);
     list_of(body, parts, first, first + size as usize)
@@ -227,7 +231,7 @@ pub(crate) fn leaf_cell<'a>(
     requires rise { in_order layout slots offsets.now (length values.now) none ≡ true }
     requires good { good_below Cause.ValueNotUtf8 layout [] (good Cause.ValueNotUtf8 none)
         offsets.now values.now slot ≡ true }
-    ensures value { stands_alone layout ≡ true → cell_value result
+    ensures value { has_no_children layout ≡ true → cell_value result
         ≡ own_value layout [] (row none) offsets.now values.now slot }
     ensures leaf { is_leaf result ≡ true }
 {
@@ -270,14 +274,15 @@ pub(crate) fn own_cell<'a>(
     requires values { holds_values layout slots (length values.now) ≡ true }
     requires offsets { holds_offsets layout slots (length offsets.now) ≡ true }
     requires rise { in_order layout slots offsets.now (length values.now)
-        (columns body.now children.now) ≡ true }
-    requires long { are_long layout slots (columns body.now children.now) ≡ true }
-    requires sound { (why : Cause) → every (passes why) (columns body.now children.now) ≡ true }
+        (part_columns body.now children.now) ≡ true }
+    requires long { children_have_slots layout slots (part_columns body.now children.now) ≡ true }
+    requires sound { (why : Cause) → every (passes why) (part_columns body.now children.now)
+        ≡ true }
     requires good { good_below Cause.ValueNotUtf8 layout dictionary.now
-        (good Cause.ValueNotUtf8 (columns body.now children.now)) offsets.now values.now slot
+        (good Cause.ValueNotUtf8 (part_columns body.now children.now)) offsets.now values.now slot
         ≡ true }
     ensures value { cell_value result ≡ own_value layout dictionary.now
-        (row (columns body.now children.now)) offsets.now values.now slot }
+        (row (part_columns body.now children.now)) offsets.now values.now slot }
     ensures leaf { is_nested layout ≡ false → is_leaf result ≡ true }
 {
     // The widest numbers come first, without a table of jumps.
@@ -301,7 +306,7 @@ pub(crate) fn own_cell<'a>(
 
 /// Returns whether a slot is not null, with this range as its bitmap. A range of no bytes is not
 /// read.
-#[tactic(auto, unfolding(crate::specs::Columns::bytes_of))]
+#[tactic(auto, unfolding(crate::specs::Columns::body_range))]
 #[inline(always)]
 pub(crate) fn is_valid_in(body: &[u8], validity: BufferRange, slot: usize) -> bool
     requires { has_bitmap (slot + 1) (length (span_bytes body.now validity)) ≡ true }
@@ -341,9 +346,9 @@ pub(crate) fn item_at<'a>(
     to: usize,
     i: usize,
 ) -> Cell<'a>
-    requires range { HaveValues (columns body.now parts.now) from to }
+    requires range { HaveValues (part_columns body.now parts.now) from to }
     requires inside { i < to - from }
-    ensures { slice_get (items (first_at (columns body.now parts.now)) from (to - from)) i
+    ensures { slice_get (items (first_at (part_columns body.now parts.now)) from (to - from)) i
         ≡ Some (cell_value result) }
 {
     if parts.is_empty() {
@@ -356,9 +361,9 @@ pub(crate) fn item_at<'a>(
 // What a slot of part `i` holds.
 #[inline(always)]
 fn value_at<'a>(body: &'a [u8], parts: &'a [ColumnRanges], slot: usize, i: usize) -> Cell<'a>
-    requires values { HaveValues (columns body.now parts.now) slot (slot + 1) }
+    requires values { HaveValues (part_columns body.now parts.now) slot (slot + 1) }
     requires inside { i < length parts.now }
-    ensures { slice_get (row (columns body.now parts.now) slot) i ≡ Some (cell_value result) }
+    ensures { slice_get (row (part_columns body.now parts.now) slot) i ≡ Some (cell_value result) }
 {
     cell_at(body, &parts[i], slot)
 }
@@ -372,10 +377,11 @@ pub(crate) fn cell_in<'a>(
     at: usize,
     column: usize,
 ) -> Cell<'a>
-    requires holds { Holds rows (columns body.now parts.now) }
+    requires holds { PassTests rows (part_columns body.now parts.now) }
     requires row { at < rows }
     requires column { column < length parts.now }
-    ensures { slice_get (row (columns body.now parts.now) at) column ≡ Some (cell_value result) }
+    ensures { slice_get (row (part_columns body.now parts.now) at) column
+        ≡ Some (cell_value result) }
 {
     value_at(body, parts, at, column)
 }

@@ -4,7 +4,7 @@ ghost use Rattle.std.specs.Iterator.{YieldsFirstBy, item_count};
 ghost use Rattle.ipc_column.specs.Cells.{cell_value};
 ghost use Rattle.ipc_column.specs.Lent.{HaveValues};
 ghost use Rattle.ipc_column.specs.Values.{first_at, items, row};
-ghost use Rattle.ipc_column.specs.Views.{columns};
+ghost use Rattle.ipc_column.specs.Views.{part_columns};
 
 use crate::cell::{Cell, cell_at, item_at};
 use crate::ranges::ColumnRanges;
@@ -32,11 +32,12 @@ impl<'a> Model for ListIter<'a> {
 
     ghost use Rattle.ipc_column.specs.Lent.{HaveValues};
     ghost use Rattle.ipc_column.specs.Values.{items, first_at};
-    ghost use Rattle.ipc_column.specs.Views.{columns};
+    ghost use Rattle.ipc_column.specs.Views.{part_columns};
 
-    ghost view = { λ s. items (first_at (columns s.body.now s.parts.now)) s.from (s.to - s.from) };
+    ghost view = { λ s. items (first_at (part_columns s.body.now s.parts.now)) s.from
+        (s.to - s.from) };
 
-    ghost invariant = { λ s. HaveValues (columns s.body.now s.parts.now) s.from s.to };
+    ghost invariant = { λ s. HaveValues (part_columns s.body.now s.parts.now) s.from s.to };
 }
 
 impl<'a> Iterator for ListIter<'a> {
@@ -77,11 +78,11 @@ impl<'a> Model for StructIter<'a> {
 
     ghost use Rattle.ipc_column.specs.Lent.{HaveValues};
     ghost use Rattle.ipc_column.specs.Values.{row};
-    ghost use Rattle.ipc_column.specs.Views.{columns};
+    ghost use Rattle.ipc_column.specs.Views.{part_columns};
 
-    ghost view = { λ s. row (columns s.body.now s.parts.now) s.slot };
+    ghost view = { λ s. row (part_columns s.body.now s.parts.now) s.slot };
 
-    ghost invariant = { λ s. HaveValues (columns s.body.now s.parts.now) s.slot (s.slot + 1) };
+    ghost invariant = { λ s. HaveValues (part_columns s.body.now s.parts.now) s.slot (s.slot + 1) };
 }
 
 impl<'a> Iterator for StructIter<'a> {
@@ -106,8 +107,8 @@ pub(crate) fn list_values<'a>(
     from: usize,
     to: usize,
 ) -> ListIter<'a>
-    requires { HaveValues (columns body.now parts.now) from to }
-    ensures { result ≡ items (first_at (columns body.now parts.now)) from (to - from) }
+    requires { HaveValues (part_columns body.now parts.now) from to }
+    ensures { result ≡ items (first_at (part_columns body.now parts.now)) from (to - from) }
 {
     ListIter {
         body,
@@ -123,8 +124,8 @@ pub(crate) fn struct_values<'a>(
     parts: &'a [ColumnRanges],
     slot: usize,
 ) -> StructIter<'a>
-    requires { HaveValues (columns body.now parts.now) slot (slot + 1) }
-    ensures { result ≡ row (columns body.now parts.now) slot }
+    requires { HaveValues (part_columns body.now parts.now) slot (slot + 1) }
+    ensures { result ≡ row (part_columns body.now parts.now) slot }
 {
     StructIter { body, parts, slot }
 }

@@ -3,21 +3,21 @@ ghost use Rattle.std.specs.Prelude.{◌≡◌, ◌<◌, ◌≤◌, ◌+◌, ◌*
 ghost use Rattle.std.specs.Prelude.{IsTrue, Some, slice_get, IfSome, IfNone};
 ghost use Rattle.ipc_model.specs.Layouts.{number_bytes};
 ghost use Rattle.ipc_column.specs.Cells.{cell_value, is_leaf};
-ghost use Rattle.ipc_column.specs.Checks.{Holds};
+ghost use Rattle.ipc_column.specs.Checks.{PassTests};
 ghost use Rattle.ipc_column.specs.Columns.{none};
-ghost use Rattle.ipc_column.specs.Dictionaries.{stands_alone};
-ghost use Rattle.ipc_column.specs.Leaves.{IsLeaf, leaf_column};
+ghost use Rattle.ipc_column.specs.Dictionaries.{has_no_children};
+ghost use Rattle.ipc_column.specs.Leaves.{IsLeafColumn, leaf_column};
 ghost use Rattle.ipc_column.specs.Lending.{AreAlone};
 ghost use Rattle.ipc_column.specs.Lent.{values_in};
 ghost use Rattle.ipc_column.specs.Nested.{slot_values};
 ghost use Rattle.ipc_column.specs.Values.{first_of, number_in, row, rows_of, value_at, value_of};
-ghost use Rattle.ipc_column.specs.Views.{columns};
+ghost use Rattle.ipc_column.specs.Views.{part_columns};
 
 use crate::cell::{Cell, is_valid_in, leaf_cell};
 use crate::fixed::index_in;
 use crate::range_bytes::bytes_at;
 use crate::ranges::{BufferRange, ColumnRanges};
-use crate::slot_view::{SlotView, slots_found};
+use crate::slot_view::{SlotView, slots_of_buffers};
 use ipc_model::{IntBits, Layout};
 use std::alloc::AllocError;
 use std::marker::Model;
@@ -101,11 +101,11 @@ impl DictionaryValues {
 
 // The slots of a column without children or dictionary. The `dictionary` is not read.
 fn leaf_slots<'a>(leaf: &'a Leaf, dictionary: &'a DictionaryValues) -> SlotView<'a>
-    requires { IsLeaf leaf.now }
+    requires { IsLeafColumn leaf.now }
     ensures { slot_values result ≡ values_in (leaf_column leaf.now) none }
 {
     let body = leaf.body.as_slice();
-    slots_found(
+    slots_of_buffers(
         leaf.layout,
         leaf.slots,
         bytes_at(body, leaf.validity),
@@ -119,7 +119,7 @@ fn leaf_slots<'a>(leaf: &'a Leaf, dictionary: &'a DictionaryValues) -> SlotView<
 
 // What a slot of a column holds.
 fn value_in(leaf: &Leaf, slot: usize) -> Cell<'_>
-    requires holds { IsLeaf leaf.now }
+    requires holds { IsLeafColumn leaf.now }
     requires slot { slot < leaf.now.slots }
     ensures value { cell_value result ≡ value_of (row none) (leaf_column leaf.now) slot }
     ensures leaf { is_leaf result ≡ true }
@@ -158,8 +158,8 @@ pub(crate) fn indexed_cell<'a>(
 }
 
 // Whether values of this layout are stored in one column.
-fn stands_alone(layout: Layout) -> bool
-    ensures { result ≡ stands_alone layout }
+fn has_no_children(layout: Layout) -> bool
+    ensures { result ≡ has_no_children layout }
 {
     match layout {
         Layout::Null
@@ -172,14 +172,14 @@ fn stands_alone(layout: Layout) -> bool
 }
 
 /// Returns whether there is one part, whose values are stored in its column alone.
-pub(crate) fn are_alone(parts: &[ColumnRanges]) -> bool
-    ensures yes { IsTrue result → (body : List ℕ) → AreAlone (columns body parts.now) }
-    ensures no { (body : List ℕ) → AreAlone (columns body parts.now) → IsTrue result }
+pub(crate) fn is_one_leaf(parts: &[ColumnRanges]) -> bool
+    ensures yes { IsTrue result → (body : List ℕ) → AreAlone (part_columns body parts.now) }
+    ensures no { (body : List ℕ) → AreAlone (part_columns body parts.now) → IsTrue result }
 {
     if parts.len() != 1 {
         return false;
     }
-    stands_alone(parts[0].layout)
+    has_no_children(parts[0].layout)
 }
 
 /// Returns the values of the one column of parts with `rows` rows. The body is not copied. Returns
@@ -189,10 +189,10 @@ pub(crate) fn share_values(
     parts: &[ColumnRanges],
     rows: usize,
 ) -> Result<DictionaryValues, AllocError>
-    requires holds { Holds rows (columns body.now.value.items parts.now) }
-    requires alone { AreAlone (columns body.now.value.items parts.now) }
+    requires holds { PassTests rows (part_columns body.now.value.items parts.now) }
+    requires alone { AreAlone (part_columns body.now.value.items parts.now) }
     ensures { IfOk result (λ values. values
-        ≡ map first_of (rows_of (columns body.now.value.items parts.now) rows)) }
+        ≡ map first_of (rows_of (part_columns body.now.value.items parts.now) rows)) }
 {
     let part = &parts[0];
     let leaf = Leaf {

@@ -1,7 +1,8 @@
 ghost use Rattle.std.specs.Prelude.{◌≡◌, ◌≤◌, true, IfErr};
-ghost use Rattle.ipc_column.specs.Checks.{Judges, IsCounted, all, is_slot_count, is_node, lies_in};
+ghost use Rattle.ipc_column.specs.Checks.{Judges, AreCountsRight, all, is_slot_count, is_node};
+ghost use Rattle.ipc_column.specs.Checks.{is_within_body};
 ghost use Rattle.ipc_column.specs.Checks.{head_passes};
-ghost use Rattle.ipc_column.specs.Shapes.{shape_of, nodes_in};
+ghost use Rattle.ipc_column.specs.Shapes.{shape_of, node_count};
 
 use crate::assign::{Cursor, count};
 use crate::cause::Cause;
@@ -20,8 +21,8 @@ fn is_node(limits: &Limits, node: (i64, i64)) -> bool
     is_slot_count(limits, node.0) && 0 <= node.1 && node.1 <= node.0
 }
 
-fn lies_in(size: usize, range: (i64, i64)) -> bool
-    ensures { result ≡ lies_in size range }
+fn is_within_body(size: usize, range: (i64, i64)) -> bool
+    ensures { result ≡ is_within_body size range }
 {
     0 <= range.0
         && 0 <= range.1
@@ -39,12 +40,12 @@ fn are_nodes(limits: &Limits, nodes: &[(i64, i64)]) -> bool
     good
 }
 
-fn lie_in(size: usize, buffers: &[(i64, i64)]) -> bool
-    ensures { result ≡ all (lies_in size) buffers.now }
+fn are_within_body(size: usize, buffers: &[(i64, i64)]) -> bool
+    ensures { result ≡ all (is_within_body size) buffers.now }
 {
     let mut good = true;
     for buffer in buffers {
-        good = good && lies_in(size, *buffer);
+        good = good && is_within_body(size, *buffer);
     }
     good
 }
@@ -58,10 +59,11 @@ pub(crate) fn check_head(
     head: &BatchHead,
     size: usize,
 ) -> Result<(), Cause>
-    requires { nodes_in (shape_of fields.now) ≤ limits.now.fields }
+    requires { node_count (shape_of fields.now) ≤ limits.now.fields }
     ensures judged { Judges result (λ why. head_passes limits.now why (shape_of fields.now)
         head.now size) }
-    ensures counted { IfErr result (λ why. IsCounted limits.now why (shape_of fields.now) head.now
+    ensures counted { IfErr result (λ why. AreCountsRight limits.now why (shape_of fields.now)
+        head.now
         size) }
 {
     let wanted = count(fields, Cursor { node: 0, buffer: 0 });
@@ -74,7 +76,7 @@ pub(crate) fn check_head(
     if !is_slot_count(limits, head.length) || !are_nodes(limits, head.nodes.as_slice()) {
         return Err(Cause::BadNode);
     }
-    if !lie_in(size, head.buffers.as_slice()) {
+    if !are_within_body(size, head.buffers.as_slice()) {
         return Err(Cause::BufferOutOfBody);
     }
     Ok(())

@@ -1,8 +1,8 @@
 ghost use Rattle.std.specs.Prelude.{◌≡◌, ◌≤◌, ◌<◌, ◌+◌, ◌*◌, ◌^◌, ℕ, List, length, true, pos};
 ghost use Rattle.std.specs.Prelude.{int_le};
 ghost use Rattle.ipc_column.specs.Checks.{are_ascending, have_slots};
-ghost use Rattle.ipc_column.specs.Values.{offset, place, between};
-ghost use Rattle.ipc_column.specs.Views.{columns};
+ghost use Rattle.ipc_column.specs.Values.{offset, offset_position, between};
+ghost use Rattle.ipc_column.specs.Views.{part_columns};
 
 use crate::fixed::u32_at;
 use crate::ranges::ColumnRanges;
@@ -20,7 +20,7 @@ fn offset_at(offsets: &[u8], i: usize) -> i32
 #[inline(always)]
 pub(crate) fn place_at(offsets: &[u8], i: usize) -> usize
     requires { 4 * (i + 1) ≤ length offsets.now }
-    ensures { result ≡ place offsets.now i }
+    ensures { result ≡ offset_position offsets.now i }
 {
     offset_at(offsets, i).unsigned_abs() as usize
 }
@@ -30,7 +30,7 @@ pub(crate) fn place_at(offsets: &[u8], i: usize) -> usize
 pub(crate) fn start_at(offsets: &[u8], i: usize) -> usize
     requires bytes { 4 * (i + 1) ≤ length offsets.now }
     requires positive { int_le (pos 0) (offset offsets.now i) ≡ true }
-    ensures { result ≡ place offsets.now i }
+    ensures { result ≡ offset_position offsets.now i }
 {
     u32_at(offsets, i) as usize
 }
@@ -40,7 +40,7 @@ pub(crate) fn start_at(offsets: &[u8], i: usize) -> usize
 #[inline(always)]
 pub(crate) fn fixed_place(size: u32, children: &[ColumnRanges], slot: usize) -> usize
     requires { (body : List ℕ)
-        → have_slots (size * (slot + 1)) (columns body children.now) ≡ true }
+        → have_slots (size * (slot + 1)) (part_columns body children.now) ≡ true }
     ensures some { 0 < length children.now → result ≡ size * slot }
     ensures none { length children.now ≡ 0 → result ≡ 0 }
     ensures room { result + size < 2 ^ 64 }

@@ -4,7 +4,7 @@ ghost use Rattle.ipc_column.specs.Spans.{span_bytes};
 use crate::ranges::BufferRange;
 
 /// Returns the bytes of a range, or no bytes if it ends after the body.
-#[tactic(auto, unfolding(crate::specs::Columns::bytes_of))]
+#[tactic(auto, unfolding(crate::specs::Columns::body_range))]
 #[inline(always)]
 pub(crate) fn bytes_at(body: &[u8], span: BufferRange) -> &[u8]
     ensures { result.now ≡ span_bytes body.now span }

@@ -1,9 +1,9 @@
 ghost use Rattle.std.specs.Prelude.{◌≡◌, ◌<◌, ◌+◌, ◌-◌, true, length, IfOk, OnOk, Some, slice_get};
 ghost use Rattle.ipc_column.specs.Cells.{cell_value, is_leaf};
-ghost use Rattle.ipc_column.specs.Checks.{Holds};
+ghost use Rattle.ipc_column.specs.Checks.{PassTests};
 ghost use Rattle.ipc_column.specs.Lent.{HaveValues, HasValue};
 ghost use Rattle.ipc_column.specs.Values.{row, rows_of, value_of, items, first_at, is_nested};
-ghost use Rattle.ipc_column.specs.Views.{columns, column_of, children_of};
+ghost use Rattle.ipc_column.specs.Views.{part_columns, column_of, children_of};
 
 use crate::cell::{Cell, cell_at, is_valid_in};
 use crate::offsets::{fixed_place, place_at};
@@ -82,9 +82,10 @@ fn read_first(
     to: usize,
     at: usize,
 ) -> Result<Value, AllocError>
-    requires range { HaveValues (columns body.now parts.now) from to }
+    requires range { HaveValues (part_columns body.now parts.now) from to }
     requires inside { at < to - from }
-    ensures { IfOk result (λ value. value ≡ first_at (columns body.now parts.now) (from + at)) }
+    ensures { IfOk result (λ value. value ≡ first_at (part_columns body.now parts.now)
+        (from + at)) }
 {
     if parts.is_empty() {
         Ok(Value::Null)
@@ -102,9 +103,9 @@ fn read_items(
     from: usize,
     to: usize,
 ) -> Result<Items<Value>, AllocError>
-    requires { HaveValues (columns body.now parts.now) from to }
+    requires { HaveValues (part_columns body.now parts.now) from to }
     ensures { IfOk result
-        (λ values. values ≡ items (first_at (columns body.now parts.now)) from (to - from)) }
+        (λ values. values ≡ items (first_at (part_columns body.now parts.now)) from (to - from)) }
 {
     let mut values = Vec::with_capacity(alloc, to - from)?;
     for at in 0..to - from {
@@ -121,8 +122,8 @@ fn read_values(
     parts: &[ColumnRanges],
     slot: usize,
 ) -> Result<Items<Value>, AllocError>
-    requires { HaveValues (columns body.now parts.now) slot (slot + 1) }
-    ensures { IfOk result (λ values. values ≡ row (columns body.now parts.now) slot) }
+    requires { HaveValues (part_columns body.now parts.now) slot (slot + 1) }
+    ensures { IfOk result (λ values. values ≡ row (part_columns body.now parts.now) slot) }
 {
     let mut values = Vec::with_capacity(alloc, parts.len())?;
     for part in parts {
@@ -140,9 +141,9 @@ pub(crate) fn read_row(
     at: usize,
     values: &mut Vec<Value>,
 ) -> Result<(), AllocError>
-    requires holds { Holds rows (columns body.now parts.now) }
+    requires holds { PassTests rows (part_columns body.now parts.now) }
     requires row { at < rows }
-    ensures { OnOk result (values.new.items ≡ row (columns body.now parts.now) at) }
+    ensures { OnOk result (values.new.items ≡ row (part_columns body.now parts.now) at) }
 {
     values.clear();
     for part in parts {
@@ -159,9 +160,9 @@ fn row_at(
     rows: usize,
     at: usize,
 ) -> Result<Row, AllocError>
-    requires holds { Holds rows (columns body.now parts.now) }
+    requires holds { PassTests rows (part_columns body.now parts.now) }
     requires row { at < rows }
-    ensures { IfOk result (λ values. values ≡ row (columns body.now parts.now) at) }
+    ensures { IfOk result (λ values. values ≡ row (part_columns body.now parts.now) at) }
 {
     let mut values = Vec::with_capacity(alloc, parts.len())?;
     read_row(alloc, body, parts, rows, at, &mut values)?;
@@ -177,11 +178,11 @@ pub(crate) fn read_value(
     at: usize,
     i: usize,
 ) -> Result<Value, AllocError>
-    requires holds { Holds rows (columns body.now parts.now) }
+    requires holds { PassTests rows (part_columns body.now parts.now) }
     requires row { at < rows }
     requires inside { i < length parts.now }
     ensures { IfOk result
-        (λ value. slice_get (row (columns body.now parts.now) at) i ≡ Some value) }
+        (λ value. slice_get (row (part_columns body.now parts.now) at) i ≡ Some value) }
 {
     read_slot(alloc, body, &parts[i], at)
 }
@@ -194,8 +195,8 @@ pub(crate) fn rows_in(
     parts: &[ColumnRanges],
     rows: usize,
 ) -> Result<Items<Row>, AllocError>
-    requires { Holds rows (columns body.now parts.now) }
-    ensures { IfOk result (λ all. all ≡ rows_of (columns body.now parts.now) rows) }
+    requires { PassTests rows (part_columns body.now parts.now) }
+    ensures { IfOk result (λ all. all ≡ rows_of (part_columns body.now parts.now) rows) }
 {
     let mut all = Vec::with_capacity(alloc, rows)?;
     for at in 0..rows {

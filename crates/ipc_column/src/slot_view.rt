@@ -10,18 +10,19 @@ ghost use Rattle.ipc_model.specs.declared.value.Value.{Value};
 ghost use Rattle.ipc_model.specs.declared.value.Value.TheVariants.{Null};
 ghost use Rattle.ipc_column.specs.Cells.{cell_value, is_leaf};
 ghost use Rattle.ipc_column.specs.Columns.{Columns};
-ghost use Rattle.ipc_column.specs.Checks.{Holds, are_long, holds_offsets, holds_values, in_order};
+ghost use Rattle.ipc_column.specs.Checks.{PassTests, children_have_slots, holds_offsets};
+ghost use Rattle.ipc_column.specs.Checks.{holds_values, in_order};
 ghost use Rattle.ipc_column.specs.Checks.{are_ascending};
-ghost use Rattle.ipc_column.specs.Dictionaries.{stands_alone};
+ghost use Rattle.ipc_column.specs.Dictionaries.{has_no_children};
 ghost use Rattle.ipc_column.specs.Lending.{AreBuffers, AreNumbers, HoldsEntry, are_numbers};
-ghost use Rattle.ipc_column.specs.Lent.{AreFound, AreOfColumn, found};
-ghost use Rattle.ipc_column.specs.Slots.{LeadsInside, is_null, nested, nested_in, shown};
-ghost use Rattle.ipc_column.specs.Slots.{text_shown};
-ghost use Rattle.ipc_column.specs.Nested.{Nested, alone, below, slot_values};
-ghost use Rattle.ipc_column.specs.Plain.{IsShownBy, spelled_len};
+ghost use Rattle.ipc_column.specs.Lent.{AreFound, AreOfColumn, column_of_buffers};
+ghost use Rattle.ipc_column.specs.Slots.{HasChildSlots, is_null, nested, nested_in, value_in_slot};
+ghost use Rattle.ipc_column.specs.Slots.{text_prefix};
+ghost use Rattle.ipc_column.specs.Nested.{Nested, only_column, child_columns, slot_values};
+ghost use Rattle.ipc_column.specs.Plain.{IsShownBy, text_bytes_len};
 ghost use Rattle.ipc_column.specs.Rules.{HoldValues, SpellsTexts};
 ghost use Rattle.ipc_column.specs.Values.{between, own_value, row, rows_of};
-ghost use Rattle.ipc_column.specs.Views.{columns, column_of, children_of};
+ghost use Rattle.ipc_column.specs.Views.{part_columns, column_of, children_of};
 
 use crate::buffers::Buffers;
 use crate::cell::{Cell, is_valid};
@@ -81,23 +82,25 @@ impl<'a> Model for SlotView<'a> {
     ghost use Rattle.std.specs.Coded.{codes};
     ghost use Rattle.ipc_column.specs.contracts.ranges.ColumnRanges as ranges;
     ghost use Rattle.ipc_model.specs.contracts.value.Value as value;
-    ghost use Rattle.ipc_column.specs.Lent.{AreFound, found};
+    ghost use Rattle.ipc_column.specs.Lent.{AreFound, column_of_buffers};
     ghost use Rattle.ipc_column.specs.Nested.{Nested};
-    ghost use Rattle.ipc_column.specs.Views.{columns};
+    ghost use Rattle.ipc_column.specs.Views.{part_columns};
 
     ghost Value = { Nested };
 
     ghost coded = { Prim.hlevel (codes, ranges.the_row.coded, value.the_row.coded) };
 
     ghost view = { λ s. record {
-      column = found s.layout s.slots s.validity.now s.offsets.now s.values.now s.dictionary.now;
+      column = column_of_buffers s.layout s.slots s.validity.now s.offsets.now s.values.now
+          s.dictionary.now;
       body = s.body.now;
       children = s.children.now;
     } };
 
     ghost invariant = { λ s. AreFound
-        (found s.layout s.slots s.validity.now s.offsets.now s.values.now s.dictionary.now)
-        (columns s.body.now s.children.now) };
+        (column_of_buffers s.layout s.slots s.validity.now s.offsets.now s.values.now
+        s.dictionary.now)
+        (part_columns s.body.now s.children.now) };
 }
 
 impl<'a> SlotView<'a> {
@@ -117,9 +120,9 @@ impl<'a> SlotView<'a> {
     pub fn at(&self, slot: usize) -> Slot<'a>
         requires { slot < length (slot_values self.now) }
         ensures value { slice_get (slot_values self.now) slot
-            ≡ Some (shown (row (below self.now)) slot result) }
+            ≡ Some (value_in_slot (row (child_columns self.now)) slot result) }
         // The children have the slots that the result states.
-        ensures inside { LeadsInside (below self.now) slot result }
+        ensures inside { HasChildSlots (child_columns self.now) slot result }
     {
         self.at_layout(self.layout, slot)
     }
@@ -132,9 +135,9 @@ impl<'a> SlotView<'a> {
         requires layout { self.now.column.layout ≡ layout }
         requires slot { slot < length (slot_values self.now) }
         ensures value { slice_get (slot_values self.now) slot
-            ≡ Some (shown (row (below self.now)) slot result) }
+            ≡ Some (value_in_slot (row (child_columns self.now)) slot result) }
         // The children have the slots that the result states.
-        ensures inside { LeadsInside (below self.now) slot result }
+        ensures inside { HasChildSlots (child_columns self.now) slot result }
     {
         if !is_valid(self.validity, slot) {
             return Slot::Null;
@@ -158,7 +161,7 @@ impl<'a> SlotView<'a> {
     pub fn text_at(&self, slot: usize) -> Option<(&'a [u8], usize)>
         requires layout { self.now.column.layout ≡ Layout.VariableBytes true }
         requires slot { slot < length (slot_values self.now) }
-        ensures value { slice_get (slot_values self.now) slot ≡ Some (text_shown result) }
+        ensures value { slice_get (slot_values self.now) slot ≡ Some (text_prefix result) }
         ensures inside { IfSome result (λ text. text.1 ≤ length text.0.now) }
     {
         if is_valid(self.validity, slot) {
@@ -242,8 +245,8 @@ impl<'a> SlotView<'a> {
         ensures lent { result ≡ length self.now.column.values }
         ensures room { HoldValues self.now.column.layout (length (slot_values self.now)) result }
         // The bytes of texts and binary values do not overlap.
-        ensures spelled { stands_alone self.now.column.layout ≡ true
-            → spelled_len (slot_values self.now) ≤ result }
+        ensures spelled { has_no_children self.now.column.layout ≡ true
+            → text_bytes_len (slot_values self.now) ≤ result }
     {
         self.values.len()
     }
@@ -344,12 +347,15 @@ fn own_slot<'a>(
     requires values { holds_values layout slots (length values.now) ≡ true }
     requires offsets { holds_offsets layout slots (length offsets.now) ≡ true }
     requires rise { (body : List ℕ) → in_order layout slots offsets.now (length values.now)
-        (columns body children.now) ≡ true }
-    requires long { (body : List ℕ) → are_long layout slots (columns body children.now) ≡ true }
-    ensures value { (body : List ℕ) → shown (row (columns body children.now)) slot result
-        ≡ own_value layout dictionary.now (row (columns body children.now)) offsets.now values.now
+        (part_columns body children.now) ≡ true }
+    requires long { (body : List ℕ) → children_have_slots layout slots
+        (part_columns body children.now) ≡ true }
+    ensures value { (body : List ℕ) → value_in_slot (row (part_columns body children.now)) slot
+        result
+        ≡ own_value layout dictionary.now (row (part_columns body children.now)) offsets.now
+        values.now
         slot }
-    ensures inside { (body : List ℕ) → LeadsInside (columns body children.now) slot result }
+    ensures inside { (body : List ℕ) → HasChildSlots (part_columns body children.now) slot result }
 {
     match layout {
         Layout::Null => Slot::Null,
@@ -386,8 +392,8 @@ fn own_slot<'a>(
 fn leaf_slot(cell: Cell<'_>) -> Slot<'_>
     requires { is_leaf cell ≡ true }
     ensures value { (below : ℕ → List Value) (i : ℕ)
-        → shown below i result ≡ cell_value cell.entry }
-    ensures inside { (children : Columns) (i : ℕ) → LeadsInside children i result }
+        → value_in_slot below i result ≡ cell_value cell.entry }
+    ensures inside { (children : Columns) (i : ℕ) → HasChildSlots children i result }
 {
     match cell {
         Cell::Null | Cell::List(_) | Cell::Struct(_) => Slot::Null,
@@ -400,7 +406,7 @@ fn leaf_slot(cell: Cell<'_>) -> Slot<'_>
 }
 
 /// Returns the slots of a column with these buffers.
-pub(crate) fn slots_found<'a>(
+pub(crate) fn slots_of_buffers<'a>(
     layout: Layout,
     slots: usize,
     validity: &'a [u8],
@@ -410,10 +416,11 @@ pub(crate) fn slots_found<'a>(
     body: &'a [u8],
     children: &'a [ColumnRanges],
 ) -> SlotView<'a>
-    requires { AreFound (found layout slots validity.now offsets.now values.now dictionary.now)
-        (columns body.now children.now) }
+    requires { AreFound (column_of_buffers layout slots validity.now offsets.now values.now
+        dictionary.now)
+        (part_columns body.now children.now) }
     ensures column { result.column
-        ≡ found layout slots validity.now offsets.now values.now dictionary.now }
+        ≡ column_of_buffers layout slots validity.now offsets.now values.now dictionary.now }
     ensures body { result.body ≡ body.now }
     ensures children { result.children ≡ children.now }
 {
@@ -453,14 +460,14 @@ pub(crate) fn slots_in<'a>(
     rows: usize,
     column: usize,
 ) -> SlotView<'a>
-    requires holds { Holds rows (columns body.now parts.now) }
+    requires holds { PassTests rows (part_columns body.now parts.now) }
     requires column { column < length parts.now }
     ensures column { slice_get (map (nested body.now) parts.now) column ≡ Some result }
     ensures layout { slice_get (map (λ n. n.column.layout) (map (nested body.now) parts.now)) column
         ≡ Some result.column.layout }
-    ensures values { AreOfColumn (rows_of (columns body.now parts.now) rows) column
+    ensures values { AreOfColumn (rows_of (part_columns body.now parts.now) rows) column
         (slot_values result) }
-    ensures texts { (i : ℕ) → i < length (slot_values result) → SpellsTexts (alone result) i }
+    ensures texts { (i : ℕ) → i < length (slot_values result) → SpellsTexts (only_column result) i }
 {
     slots_of(body, &parts[column])
 }

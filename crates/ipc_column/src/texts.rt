@@ -1,8 +1,9 @@
 ghost use Rattle.std.specs.Prelude.{◌≡◌, ◌≤◌, ◌<◌, ◌+◌, ◌-◌, ◌*◌, ◌^◌, [], length, true};
 ghost use Rattle.std.specs.Prelude.{IsTrue, IsUtf8};
 ghost use Rattle.std.specs.Str.{is_utf8};
-ghost use Rattle.ipc_column.specs.Checks.{AreCuts, all_slots, has_bitmap, are_ascending, text_good};
-ghost use Rattle.ipc_column.specs.Values.{place};
+ghost use Rattle.ipc_column.specs.Checks.{AreCharBoundaries, all_slots, has_bitmap, are_ascending};
+ghost use Rattle.ipc_column.specs.Checks.{text_good};
+ghost use Rattle.ipc_column.specs.Values.{offset_position};
 
 use crate::offsets::{bytes_between, start_at};
 use crate::slot_visit::visit;
@@ -25,10 +26,10 @@ fn is_text(bytes: &[u8]) -> bool
 
 // Whether each of `slots` slots begins at a character boundary of the text, which begins where the
 // first slot does.
-fn are_cuts(text: &str, offsets: &[u8], slots: usize) -> bool
+fn are_char_boundaries(text: &str, offsets: &[u8], slots: usize) -> bool
     requires bytes { 4 * (slots + 1) ≤ length offsets.now }
-    requires order { are_ascending offsets.now slots (place offsets.now slots) ≡ true }
-    ensures { IsTrue result → AreCuts offsets.now text.now 0 slots }
+    requires order { are_ascending offsets.now slots (offset_position offsets.now slots) ≡ true }
+    ensures { IsTrue result → AreCharBoundaries offsets.now text.now 0 slots }
 {
     let first = start_at(offsets, 0);
     for slot in 0..slots {
@@ -47,7 +48,7 @@ pub(crate) fn are_texts(offsets: &[u8], values: &[u8], slots: usize) -> bool
     ensures { IsTrue result → all_slots (text_good [] offsets.now values.now) 0 slots ≡ true }
 {
     match from_utf8(&values[start_at(offsets, 0)..start_at(offsets, slots)]) {
-        Ok(text) => are_cuts(text, offsets, slots),
+        Ok(text) => are_char_boundaries(text, offsets, slots),
         Err(_) => false,
     }
 }

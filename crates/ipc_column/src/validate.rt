@@ -3,17 +3,17 @@ ghost use Rattle.std.specs.Prelude.{true, IfOk, IfErr};
 ghost use Rattle.ipc_column.specs.Checks.{Judges, has_bitmap, holds_values, holds_offsets};
 ghost use Rattle.ipc_column.specs.Checks.{in_order, is_shown, nulls_in, passes, top_passes};
 ghost use Rattle.ipc_column.specs.Checks.{all_pass};
-ghost use Rattle.ipc_column.specs.Checks.{have_slots, are_long, are_ascending};
+ghost use Rattle.ipc_column.specs.Checks.{have_slots, children_have_slots, are_ascending};
 ghost use Rattle.ipc_column.specs.Columns.{every, every_top};
 ghost use Rattle.ipc_column.specs.Rules.{visits_in};
-ghost use Rattle.ipc_column.specs.Values.{place};
-ghost use Rattle.ipc_column.specs.Views.{columns, column_of, children_of};
+ghost use Rattle.ipc_column.specs.Values.{offset_position};
+ghost use Rattle.ipc_column.specs.Views.{part_columns, column_of, children_of};
 
 use crate::cause::Cause;
-use crate::known::mark_parts;
 use crate::offsets::{are_in_order, place_at};
 use crate::range_bytes::bytes_at;
 use crate::ranges::ColumnRanges;
+use crate::slot_facts::store_all_facts;
 use crate::visit::visit_all;
 use ipc_model::Layout;
 use ipc_scalar::count_clear;
@@ -61,7 +61,7 @@ fn holds_offsets(layout: Layout, slots: usize, bytes: usize) -> bool
 
 // Whether each of the parts has at least `slots` slots.
 fn have_slots(parts: &[ColumnRanges], slots: usize) -> bool
-    ensures { (body : List ℕ) → result ≡ have_slots slots (columns body parts.now) }
+    ensures { (body : List ℕ) → result ≡ have_slots slots (part_columns body parts.now) }
 {
     let mut long = true;
     for part in parts {
@@ -72,7 +72,7 @@ fn have_slots(parts: &[ColumnRanges], slots: usize) -> bool
 
 // Whether each of the parts has at least the slots of `lists` lists of `size` values.
 fn have_lists(parts: &[ColumnRanges], size: usize, lists: usize) -> bool
-    ensures { (body : List ℕ) → result ≡ have_slots (size * lists) (columns body parts.now) }
+    ensures { (body : List ℕ) → result ≡ have_slots (size * lists) (part_columns body parts.now) }
 {
     let mut long = true;
     for part in parts {
@@ -85,8 +85,8 @@ fn have_lists(parts: &[ColumnRanges], size: usize, lists: usize) -> bool
 fn are_lists(offsets: &[u8], slots: usize, children: &[ColumnRanges]) -> bool
     requires { 4 * (slots + 1) ≤ length offsets.now }
     ensures { (body : List ℕ)
-        → result ≡ (are_ascending offsets.now slots (place offsets.now slots)
-        && have_slots (place offsets.now slots) (columns body children.now)) }
+        → result ≡ (are_ascending offsets.now slots (offset_position offsets.now slots)
+        && have_slots (offset_position offsets.now slots) (part_columns body children.now)) }
 {
     let end = place_at(offsets, slots);
     are_in_order(offsets, slots, end) && have_slots(children, end)
@@ -103,7 +103,7 @@ fn in_order(
 ) -> bool
     requires { holds_offsets layout slots (length offsets.now) ≡ true }
     ensures { (body : List ℕ)
-        → result ≡ in_order layout slots offsets.now size (columns body children.now) }
+        → result ≡ in_order layout slots offsets.now size (part_columns body children.now) }
 {
     match layout {
         Layout::VariableBytes { .. } => slots == 0 || are_in_order(offsets, slots, size),
@@ -114,8 +114,9 @@ fn in_order(
 
 // Whether the children have enough slots: `slots` for structs, and those of `slots` lists for
 // fixed-size lists.
-fn are_long(layout: Layout, slots: usize, children: &[ColumnRanges]) -> bool
-    ensures { (body : List ℕ) → result ≡ are_long layout slots (columns body children.now) }
+fn children_have_slots(layout: Layout, slots: usize, children: &[ColumnRanges]) -> bool
+    ensures { (body : List ℕ) → result ≡ children_have_slots layout slots
+        (part_columns body children.now) }
 {
     match layout {
         Layout::Structs => have_slots(children, slots),
@@ -163,7 +164,7 @@ fn check_part(body: &[u8], part: &ColumnRanges) -> Result<(), Cause>
     ) {
         return Err(Cause::BadOffsets);
     }
-    if !are_long(part.layout, part.slots, &part.children) {
+    if !children_have_slots(part.layout, part.slots, &part.children) {
         return Err(Cause::BadNode);
     }
     Ok(())
@@ -172,7 +173,7 @@ fn check_part(body: &[u8], part: &ColumnRanges) -> Result<(), Cause>
 // Checks each part with its children.
 #[cycle(check_all)]
 fn check_all(body: &[u8], parts: &[ColumnRanges]) -> Result<(), Cause>
-    ensures { Judges result (λ why. every (passes why) (columns body.now parts.now)) }
+    ensures { Judges result (λ why. every (passes why) (part_columns body.now parts.now)) }
 {
     for part in parts {
         check_tree(body, part)?;
@@ -191,8 +192,9 @@ fn check_tree(body: &[u8], part: &ColumnRanges) -> Result<(), Cause>
 }
 
 // Whether each part has a slot for each row.
-fn check_tops(body: &[u8], parts: &[ColumnRanges], rows: usize) -> Result<(), Cause>
-    ensures { Judges result (λ why. every_top (top_passes why rows) (columns body.now parts.now)) }
+fn check_top_nodes(body: &[u8], parts: &[ColumnRanges], rows: usize) -> Result<(), Cause>
+    ensures { Judges result (λ why. every_top (top_passes why rows)
+        (part_columns body.now parts.now)) }
 {
     let mut same = true;
     for part in parts {
@@ -208,17 +210,17 @@ pub(crate) fn check_columns(
     parts: &mut [ColumnRanges],
     rows: usize,
 ) -> Result<u64, Cause>
-    requires few { visits_in (columns body.now parts.old) < 2 ^ 64 }
-    ensures judged { Judges result (λ why. all_pass why rows (columns body.now parts.old)) }
+    requires few { visits_in (part_columns body.now parts.old) < 2 ^ 64 }
+    ensures judged { Judges result (λ why. all_pass why rows (part_columns body.now parts.old)) }
     // What rows show comes last.
     ensures shown_last { IfErr result (λ why. is_shown why ≡ true → (other : Cause)
-        → every (passes other) (columns body.now parts.old) ≡ true) }
-    ensures visited { IfOk result (λ tests. tests ≤ visits_in (columns body.now parts.old)) }
-    ensures columns { columns body.now parts.new ≡ columns body.now parts.old }
+        → every (passes other) (part_columns body.now parts.old) ≡ true) }
+    ensures visited { IfOk result (λ tests. tests ≤ visits_in (part_columns body.now parts.old)) }
+    ensures columns { part_columns body.now parts.new ≡ part_columns body.now parts.old }
 {
     check_all(body, parts)?;
-    check_tops(body, parts, rows)?;
-    mark_parts(body, parts);
+    check_top_nodes(body, parts, rows)?;
+    store_all_facts(body, parts);
     let mut tests = 0;
     visit_all(body, parts, 0, rows, &mut tests)?;
     Ok(tests)

@@ -1,18 +1,18 @@
 //! A column, found in its body once for all its slots.
 ghost use Rattle.std.specs.Prelude.{◌≡◌, ◌<◌, ℕ, length, slice_get, Some};
 ghost use Rattle.ipc_column.specs.Cells.{cell_value};
-ghost use Rattle.ipc_column.specs.Checks.{Holds};
-ghost use Rattle.ipc_column.specs.Lent.{AreOfColumn, HoldSlots, found, values_in};
-ghost use Rattle.ipc_column.specs.Nested.{alone, slot_values};
+ghost use Rattle.ipc_column.specs.Checks.{PassTests};
+ghost use Rattle.ipc_column.specs.Lent.{AreOfColumn, HoldSlots, column_of_buffers, values_in};
+ghost use Rattle.ipc_column.specs.Nested.{only_column, slot_values};
 ghost use Rattle.ipc_column.specs.Rules.{SpellsTexts};
 ghost use Rattle.ipc_column.specs.Values.{row, rows_of, value_of};
-ghost use Rattle.ipc_column.specs.Views.{columns, column_of, children_of};
+ghost use Rattle.ipc_column.specs.Views.{part_columns, column_of, children_of};
 
 use crate::cell::{Cell, is_valid, own_cell};
 use crate::dictionary::DictionaryValues;
 use crate::range_bytes::bytes_at;
 use crate::ranges::ColumnRanges;
-use crate::slot_view::{SlotView, slots_found};
+use crate::slot_view::{SlotView, slots_of_buffers};
 use ipc_model::Layout;
 use std::marker::Model;
 
@@ -33,21 +33,23 @@ pub struct ColumnView<'a> {
 impl<'a> Model for ColumnView<'a> {
     ghost use Rattle.std.specs.Coded.{codes};
     ghost use Rattle.ipc_model.specs.contracts.value.Value as value;
-    ghost use Rattle.ipc_column.specs.Lent.{HoldSlots, found, values_in};
+    ghost use Rattle.ipc_column.specs.Lent.{HoldSlots, column_of_buffers, values_in};
     ghost use Rattle.ipc_column.specs.Values.{Cells};
-    ghost use Rattle.ipc_column.specs.Views.{columns};
+    ghost use Rattle.ipc_column.specs.Views.{part_columns};
 
     ghost Value = { Cells };
 
     ghost coded = { Prim.hlevel (codes, value.the_row.coded) };
 
     ghost view = { λ s. values_in
-        (found s.layout s.slots s.validity.now s.offsets.now s.values.now s.dictionary.now)
-        (columns s.body.now s.children.now) };
+        (column_of_buffers s.layout s.slots s.validity.now s.offsets.now s.values.now
+        s.dictionary.now)
+        (part_columns s.body.now s.children.now) };
 
     ghost invariant = { λ s. HoldSlots
-        (found s.layout s.slots s.validity.now s.offsets.now s.values.now s.dictionary.now)
-        (columns s.body.now s.children.now) };
+        (column_of_buffers s.layout s.slots s.validity.now s.offsets.now s.values.now
+        s.dictionary.now)
+        (part_columns s.body.now s.children.now) };
 }
 
 impl<'a> ColumnView<'a> {
@@ -67,7 +69,7 @@ impl<'a> ColumnView<'a> {
         requires { slot < length self.now }
         ensures { slice_get self.now slot ≡ Some (cell_value result) }
     {
-        cell_found(
+        cell_of_slot(
             self.layout,
             self.slots,
             self.validity,
@@ -86,9 +88,9 @@ impl<'a> ColumnView<'a> {
     pub fn slots(&self) -> SlotView<'a>
         ensures values { slot_values result ≡ self.now }
         // Each text that they lead to is UTF-8.
-        ensures texts { (i : ℕ) → i < length self.now → SpellsTexts (alone result) i }
+        ensures texts { (i : ℕ) → i < length self.now → SpellsTexts (only_column result) i }
     {
-        slots_found(
+        slots_of_buffers(
             self.layout,
             self.slots,
             self.validity,
@@ -103,7 +105,7 @@ impl<'a> ColumnView<'a> {
 
 // What a slot holds, by the buffers of its column.
 #[inline(always)]
-fn cell_found<'a>(
+fn cell_of_slot<'a>(
     layout: Layout,
     slots: usize,
     validity: &'a [u8],
@@ -116,10 +118,10 @@ fn cell_found<'a>(
 ) -> Cell<'a>
     requires slot { slot < slots }
     requires holds { HoldSlots
-        (found layout slots validity.now offsets.now values.now dictionary.now)
-        (columns body.now children.now) }
-    ensures { cell_value result ≡ value_of (row (columns body.now children.now))
-        (found layout slots validity.now offsets.now values.now dictionary.now) slot }
+        (column_of_buffers layout slots validity.now offsets.now values.now dictionary.now)
+        (part_columns body.now children.now) }
+    ensures { cell_value result ≡ value_of (row (part_columns body.now children.now))
+        (column_of_buffers layout slots validity.now offsets.now values.now dictionary.now) slot }
 {
     if !is_valid(validity, slot) {
         return Cell::Null;
@@ -153,9 +155,9 @@ pub(crate) fn view_in<'a>(
     rows: usize,
     column: usize,
 ) -> ColumnView<'a>
-    requires holds { Holds rows (columns body.now parts.now) }
+    requires holds { PassTests rows (part_columns body.now parts.now) }
     requires column { column < length parts.now }
-    ensures { AreOfColumn (rows_of (columns body.now parts.now) rows) column result }
+    ensures { AreOfColumn (rows_of (part_columns body.now parts.now) rows) column result }
 {
     view_of(body, &parts[column])
 }

@@ -2,9 +2,9 @@ ghost use Rattle.std.specs.Prelude.{◌≡◌, ◌≤◌, ◌<◌, ◌+◌, ◌^
 ghost use Rattle.ipc_column.specs.Checks.{IsIndexed, Judges, good, good_slot, range_good};
 ghost use Rattle.ipc_column.specs.Lent.{AreSlots};
 ghost use Rattle.ipc_column.specs.Marks.{AreMarked, IsMarked};
-ghost use Rattle.ipc_column.specs.Rules.{is_visited};
-ghost use Rattle.ipc_model.specs.Layouts.{is_judged, is_texts};
-ghost use Rattle.ipc_column.specs.Views.{columns, column_of, children_of, one};
+ghost use Rattle.ipc_column.specs.Rules.{has_slot_visits};
+ghost use Rattle.ipc_model.specs.Layouts.{needs_slot_checks, is_texts};
+ghost use Rattle.ipc_column.specs.Views.{part_columns, column_of, children_of, one};
 ghost use Rattle.ipc_column.specs.Weights.{weight, weight_below};
 
 use crate::cause::Cause;
@@ -60,8 +60,8 @@ fn visit_below(
 #[cycle(visit)]
 fn visit_slot(body: &[u8], part: &ColumnRanges, slot: usize, tests: &mut u64) -> Result<(), Cause>
     requires slots { AreSlots (one body.now part.now) slot (slot + 1) }
-    requires below { is_judged (column_of body.now part.now).layout ≡ false }
-    requires visited { is_visited (column_of body.now part.now) (children_of body.now part.now)
+    requires below { needs_slot_checks (column_of body.now part.now).layout ≡ false }
+    requires visited { has_slot_visits (column_of body.now part.now) (children_of body.now part.now)
         ≡ true }
     requires room { tests.old + weight (one body.now part.now) slot (slot + 1) < 2 ^ 64 }
     requires small { slot + 1 < 2 ^ 64 }
@@ -86,8 +86,8 @@ fn visit_slots(
     tests: &mut u64,
 ) -> Result<(), Cause>
     requires slots { AreSlots (one body.now part.now) from to }
-    requires below { is_judged (column_of body.now part.now).layout ≡ false }
-    requires visited { is_visited (column_of body.now part.now) (children_of body.now part.now)
+    requires below { needs_slot_checks (column_of body.now part.now).layout ≡ false }
+    requires visited { has_slot_visits (column_of body.now part.now) (children_of body.now part.now)
         ≡ true }
     requires room { tests.old + weight (one body.now part.now) from to < 2 ^ 64 }
     requires marks { IsMarked body.now part.now }
@@ -198,11 +198,11 @@ pub(crate) fn visit_all(
     to: usize,
     tests: &mut u64,
 ) -> Result<(), Cause>
-    requires slots { AreSlots (columns body.now parts.now) from to }
-    requires room { tests.old + weight (columns body.now parts.now) from to < 2 ^ 64 }
+    requires slots { AreSlots (part_columns body.now parts.now) from to }
+    requires room { tests.old + weight (part_columns body.now parts.now) from to < 2 ^ 64 }
     requires marks { AreMarked body.now parts.now }
-    ensures judged { Judges result (λ why. good why (columns body.now parts.now) from to) }
-    ensures cost { tests.new ≤ tests.old + weight (columns body.now parts.now) from to }
+    ensures judged { Judges result (λ why. good why (part_columns body.now parts.now) from to) }
+    ensures cost { tests.new ≤ tests.old + weight (part_columns body.now parts.now) from to }
 {
     for part in parts {
         visit_part(body, part, from, to, tests)?;

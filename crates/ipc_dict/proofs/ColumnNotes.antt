@@ -13,8 +13,8 @@ use Rattle.ipc_model.specs.declared.value.Value.{Value}
 use Rattle.ipc_model.specs.declared.value.Value.TheVariants.{Null}
 use Rattle.ipc_encode.specs.Cells.{cell, cells}
 use Rattle.ipc_dict.specs.declared.entry.TallyEntry.{TallyEntry}
-use Rattle.ipc_dict.specs.ColumnNotes.{AllKnown, AreNoted, AreOthers, IsApart, is_known}
-use Rattle.ipc_dict.specs.Distinct.{is_seen, same, seen}
+use Rattle.ipc_dict.specs.ColumnNotes.{AllKnown, AreNoted, AreOthers, HasOtherDictionaries, is_known}
+use Rattle.ipc_dict.specs.Distinct.{is_among, same, with_distinct}
 use Rattle.ipc_dict.specs.Noting.{note_all, note_entry, note_one}
 use Rattle.ipc_dict.specs.Pairs.{Pairs, Walk, each_pairs, items_pairs, pairs, rows_pairs}
 use Rattle.ipc_dict.proofs.Notes.{note_all-append}
@@ -41,17 +41,17 @@ seen_last v (x ∷ xs) = by (seen_last v xs) (same v x)
     by last true = refl
     by last false = last
 
-seen_kept : (v w : Value) (xs : List Value) → is_seen xs v ≡ true → is_seen (seen xs w) v ≡ true
-seen_kept v w xs h = by (is_seen xs w)
+seen_kept : (v w : Value) (xs : List Value) → is_among xs v ≡ true → is_among (with_distinct xs w) v ≡ true
+seen_kept v w xs h = by (is_among xs w)
   where
-    by : (b : Bool) → is_seen (cond b xs (xs ++ w ∷ [])) v ≡ true
+    by : (b : Bool) → is_among (cond b xs (xs ++ w ∷ [])) v ≡ true
     by true = h
     by false = seen_more v xs (w ∷ []) h
 
-seen_now : (v : Value) (xs : List Value) → is_seen (seen xs v) v ≡ true
-seen_now v xs = by (is_seen xs v) refl
+seen_now : (v : Value) (xs : List Value) → is_among (with_distinct xs v) v ≡ true
+seen_now v xs = by (is_among xs v) refl
   where
-    by : (b : Bool) → is_seen xs v ≡ b → is_seen (cond b xs (xs ++ v ∷ [])) v ≡ true
+    by : (b : Bool) → is_among xs v ≡ b → is_among (cond b xs (xs ++ v ∷ [])) v ≡ true
     by true h = h
     by false h = seen_last v xs
 
@@ -60,7 +60,7 @@ known_same : (t : List TallyEntry) (id : ℤ) (v : Value) → is_known t id v �
 known_same [] id v h = refl
 known_same (e ∷ es) id v h = by (known_same es id v) (int_eq e.id id) h
   where
-    by : (is_known es id v ≡ true → note_one es id v ≡ es) → (b : Bool) → cond b (is_seen e.values v) (is_known es id v) ≡ true
+    by : (is_known es id v ≡ true → note_one es id v ≡ es) → (b : Bool) → cond b (is_among e.values v) (is_known es id v) ≡ true
         → cond b (note_entry v e ∷ es) (e ∷ note_one es id v) ≡ e ∷ es
     by rest true h = ap (λ (b : Bool). record e { values = cond b e.values (e.values ++ v ∷ []) } ∷ es) h
     by rest false h = ap (λ (l : List TallyEntry). e ∷ l) (rest h)
@@ -72,14 +72,15 @@ known_kept (e ∷ es) id j v w h = out (int_eq e.id j) ∙ by (known_kept es id 
   where
     -- the test of an entry, whichever of the two it is
     out : (b : Bool) → is_known (cond b (note_entry w e ∷ es) (e ∷ note_one es j w)) id v
-        ≡ cond b (cond (int_eq e.id id) (is_seen (seen e.values w) v) (is_known es id v))
-        (cond (int_eq e.id id) (is_seen e.values v) (is_known (note_one es j w) id v))
+        ≡ cond b (cond (int_eq e.id id) (is_among (with_distinct e.values w) v) (is_known es id v))
+        (cond (int_eq e.id id) (is_among e.values v) (is_known (note_one es j w) id v))
     out true = refl
     out false = refl
 
     by : (is_known es id v ≡ true → is_known (note_one es j w) id v ≡ true) → (b c : Bool)
-        → cond c (is_seen e.values v) (is_known es id v) ≡ true
-        → cond b (cond c (is_seen (seen e.values w) v) (is_known es id v)) (cond c (is_seen e.values v) (is_known (note_one es j w) id v))
+        → cond c (is_among e.values v) (is_known es id v) ≡ true
+        → cond b (cond c (is_among (with_distinct e.values w) v) (is_known es id v))
+        (cond c (is_among e.values v) (is_known (note_one es j w) id v))
         ≡ true
     by rest true true h = seen_kept v w e.values h
     by rest true false h = h
@@ -93,8 +94,8 @@ known_now (e ∷ es) id v = by (known_now es id v) (int_eq e.id id) refl
   where
     by : is_known (note_one es id v) id v ≡ true → (b : Bool) → int_eq e.id id ≡ b
         → is_known (cond b (note_entry v e ∷ es) (e ∷ note_one es id v)) id v ≡ true
-    by rest true is = ap (λ (c : Bool). cond c (is_seen (seen e.values v) v) (is_known es id v)) is ∙ seen_now v e.values
-    by rest false is = ap (λ (c : Bool). cond c (is_seen e.values v) (is_known (note_one es id v) id v)) is ∙ rest
+    by rest true is = ap (λ (c : Bool). cond c (is_among (with_distinct e.values v) v) (is_known es id v)) is ∙ seen_now v e.values
+    by rest false is = ap (λ (c : Bool). cond c (is_among e.values v) (is_known (note_one es id v) id v)) is ∙ rest
 
 -- ---- several values
 
@@ -178,7 +179,7 @@ others_none (p ∷ ps) = (tt, others_none ps)
 
 -- a field is apart from others where it is from each
 pub apart_from : (f : Field) (fs : List Field)
-    → ((k : ℕ) → k < length fs → (g : Field) (v w : Value) → AreOthers (pairs f v) (pairs (get_or fs k g) w)) → IsApart f fs
+    → ((k : ℕ) → k < length fs → (g : Field) (v w : Value) → AreOthers (pairs f v) (pairs (get_or fs k g) w)) → HasOtherDictionaries f fs
 apart_from f [] h v row = others_none (pairs f v)
 apart_from f (g ∷ fs) h v [] = others_none (pairs f v)
 apart_from f (g ∷ fs) h v (w ∷ row) =
@@ -201,7 +202,7 @@ from_last fs i [] h = refl
 from_last fs i (row ∷ rows) h = rw (drop_of_length-le fs h) (from_last fs i rows h)
 
 -- the cells of a column that are apart from all that is behind them in their rows
-column_apart : (f : Field) (fs : List Field) (vs : List Value) (row : List Value) → IsApart f fs
+column_apart : (f : Field) (fs : List Field) (vs : List Value) (row : List Value) → HasOtherDictionaries f fs
     → AreOthers (items_pairs (pairs f) vs) (each_pairs (map pairs fs) row)
 column_apart f fs [] row h = tt
 column_apart f fs (v ∷ vs) row h =
@@ -215,7 +216,7 @@ own_value (x ∷ vs) (suc k) l = own_value vs k (omega (arith, l))
 
 -- one column is noted first
 pub column_first : (t : List TallyEntry) (fs : List Field) (i n : ℕ) (f : Field) (rows : List (List Value)) → i < length fs → i < n
-    → f ≡ get_or fs i f → AllByRecursion (λ row. length row ≡ n) rows → IsApart f (drop (i + 1) fs)
+    → f ≡ get_or fs i f → AllByRecursion (λ row. length row ≡ n) rows → HasOtherDictionaries f (drop (i + 1) fs)
     → note_all (note_all t (items_pairs (pairs f) (cells i rows))) (pairs_from fs (i + 1) rows) ≡ note_all t (pairs_from fs i rows)
 column_first t fs i n f [] l m at wide apart = refl
 column_first t fs i n f (row ∷ rows) l m at wide apart =

@@ -12,10 +12,10 @@ use Rattle.ipc_model.specs.declared.schema.Field.TheOpen.{Field-F}
 use Rattle.ipc_model.specs.declared.value.Value.{Value, out-Value}
 use Rattle.ipc_model.specs.declared.value.Value.TheOpen.{Value-F}
 use Rattle.ipc_model.specs.declared.value.Value.TheVariants as v
-use Rattle.ipc_encode.specs.Cells.{cell, cells, items, items_in, all_items, part, part_in, all_parts}
+use Rattle.ipc_encode.specs.Cells.{cell, cells, items, items_in, all_items, struct_member, part_in, all_parts}
 use Rattle.ipc_encode.specs.Cells.{fixed_items, fixed_items_in, all_fixed_items}
 use Rattle.ipc_encode.proofs.Indexed.{null_out}
-use Rattle.ipc_dict.specs.Pairs.{Pairs, Walk, items_pairs, inner_pairs, own_pair, pairs_in, pairs_step, pairs, row_pairs, rows_pairs}
+use Rattle.ipc_dict.specs.Pairs.{Pairs, Walk, items_pairs, inner_pairs, own_pair, value_pairs, pairs_step, pairs, row_pairs, rows_pairs}
 
 -- ---- null gives nothing
 
@@ -36,7 +36,7 @@ null_inner (t.FixedSizeList n) [] = refl
 null_inner (t.FixedSizeList n) (walk ∷ more) = refl
 null_inner t.Struct walks = refl
 
-null_in : (d : Option Dictionary) (kind : DataType) (walks : List Walk) → pairs_in d kind walks v.Null ≡ []
+null_in : (d : Option Dictionary) (kind : DataType) (walks : List Walk) → value_pairs d kind walks v.Null ≡ []
 null_in (Some d) kind walks = ap (λ (w : Value-F Value). own_pair d.id v.Null w) null_out
 null_in None kind walks = ap (λ (w : Value-F Value). inner_pairs kind walks w) null_out ∙ null_inner kind walks
 
@@ -170,9 +170,9 @@ spread source walk at inside (x ∷ xs) p there =
     Contains-append_right (source x) (flat source xs) p (spread source walk at inside xs p later))
     (Contains-append_cases (walk (at x)) (items_pairs walk (map at xs)) p there)
 
-pub parts_are : (j : ℕ) (vs : List Value) → map (part j) vs ≡ all_parts j vs
+pub parts_are : (j : ℕ) (vs : List Value) → map (struct_member j) vs ≡ all_parts j vs
 parts_are j [] = refl
-parts_are j (value ∷ vs) = ap (λ (ws : List Value). part j value ∷ ws) (parts_are j vs)
+parts_are j (value ∷ vs) = ap (λ (ws : List Value). struct_member j value ∷ ws) (parts_are j vs)
 
 pub cells_are : (j : ℕ) (rows : List (List Value)) → map (cell j) rows ≡ cells j rows
 cells_are j [] = refl

@@ -14,9 +14,9 @@ use Rattle.ipc_model.specs.declared.schema.IntBits.TheVariants as b
 use Rattle.ipc_model.specs.declared.value.Value.{Value}
 use Rattle.ipc_encode.specs.Indices.{IsIndexWithin}
 use Rattle.ipc_dict.specs.declared.entry.TallyEntry.{TallyEntry}
-use Rattle.ipc_dict.specs.Distinct.{same, place}
-use Rattle.ipc_dict.specs.Noting.{note_entry, note_one, note_all, noted_for, noted_place, AllFit}
-use Rattle.ipc_dict.specs.SchemaIds.{counted, count_of, of_fields, tally_bounds, tally_ids, unused}
+use Rattle.ipc_dict.specs.Distinct.{same, first_index}
+use Rattle.ipc_dict.specs.Noting.{note_entry, note_one, note_all, values_noted_for, place_of_value, AllFit}
+use Rattle.ipc_dict.specs.SchemaIds.{index_type_capacity, index_capacity, of_fields, tally_bounds, tally_ids, empty_entries}
 use Rattle.ipc_dict.specs.SchemaEntries.{counts_for, least, AreInOrder}
 use Rattle.ipc_dict.specs.Sending.{AreAddressed}
 use Rattle.ipc_dict.proofs.Places.{places_all}
@@ -24,7 +24,7 @@ use Rattle.ipc_dict.proofs.SchemaEntries.{are_of_schema}
 
 -- ---- an index of its type
 
-within : (bits : IntBits) (signed : Bool) (i : ℕ) → i < min (counted bits signed) (2 ^ 64 - 1) → IsIndexWithin bits signed i
+within : (bits : IntBits) (signed : Bool) (i : ℕ) → i < min (index_type_capacity bits signed) (2 ^ 64 - 1) → IsIndexWithin bits signed i
 within b.B8 true i h = (omega (arith, ints), omega (arith, ints))
 within b.B8 false i h = omega arith
 within b.B16 true i h = (omega (arith, ints), omega (arith, ints))
@@ -35,21 +35,22 @@ within b.B64 true i h = (omega (arith, ints), omega (arith, ints))
 within b.B64 false i h = omega arith
 
 -- an index below the count of its type is one of the type
-pub index_within : (d : Dictionary) (i : ℕ) → i < count_of d → IsIndexWithin d.index.bits d.index.signed i
+pub index_within : (d : Dictionary) (i : ℕ) → i < index_capacity d → IsIndexWithin d.index.bits d.index.signed i
 index_within d i h = within d.index.bits d.index.signed i h
 
 -- ---- an index below the count
 
 -- the least count of an id is at most that of each field with it
-least_counts : (ds : List Dictionary) (d : Dictionary) → Contains ds d → least (counts_for ds d.id) ≤ count_of d
+least_counts : (ds : List Dictionary) (d : Dictionary) → Contains ds d → least (counts_for ds d.id) ≤ index_capacity d
 least_counts [] d named = absurd (omega (arith, named.1))
 least_counts (x ∷ ds) d (zero, low, at) =
     let here : int_eq x.id d.id ≡ true = (Decides-int_eq x.id d.id).1 (ap (λ (y : Dictionary). y.id) at) in
-    let counts : count_of x ≡ count_of d = ap count_of at in
-    subst (λ c. least (cond c (count_of x ∷ counts_for ds d.id) (counts_for ds d.id)) ≤ count_of d) (sym here) (omega (arith, counts))
+    let counts : index_capacity x ≡ index_capacity d = ap index_capacity at in
+    subst (λ c. least (cond c (index_capacity x ∷ counts_for ds d.id) (counts_for ds d.id)) ≤ index_capacity d) (sym here)
+    (omega (arith, counts))
 least_counts (x ∷ ds) d (suc k, low, at) =
-    let rest : least (counts_for ds d.id) ≤ count_of d = least_counts ds d (k, omega (arith, low), at) in
-    elim (int_eq x.id d.id) as (λ c. least (cond c (count_of x ∷ counts_for ds d.id) (counts_for ds d.id)) ≤ count_of d)
+    let rest : least (counts_for ds d.id) ≤ index_capacity d = least_counts ds d (k, omega (arith, low), at) in
+    elim (int_eq x.id d.id) as (λ c. least (cond c (index_capacity x ∷ counts_for ds d.id) (counts_for ds d.id)) ≤ index_capacity d)
     [ true ↦ omega (arith, rest) | false ↦ rest ]
 
 module _ (id : ℤ) (n : ℕ) where
@@ -82,18 +83,18 @@ module _ (id : ℤ) (n : ℕ) where
   limited-order : (ds : List Dictionary) → least (counts_for ds id) ≤ n → (from : ℕ) (es : List TallyEntry) → AreInOrder ds from es
       → Limited es
   limited-order ds low from [] h = tt
-  limited-order ds low from (e ∷ es) (k, (after, (place, (limit, (none, rest))))) = (
+  limited-order ds low from (e ∷ es) (k, (after, (first_index, (limit, (none, rest))))) = (
     λ is. subst (λ m. m ≤ n) (sym (limit ∙ ap (λ x. least (counts_for ds x)) ((Decides-int_eq e.id id).0 is))) low,
     limited-order ds low (k + 1) es rest,
   )
 
   -- so are the values together
-  noted_below : (t : List TallyEntry) (xs : List Value) → Limited t → AllFit t → noted_for t id ≡ Some xs → length xs ≤ n
+  noted_below : (t : List TallyEntry) (xs : List Value) → Limited t → AllFit t → values_noted_for t id ≡ Some xs → length xs ≤ n
   noted_below [] xs h fit found = absurd cc
   noted_below (e ∷ es) xs h fit found = by (noted_below es xs h.1 fit.1) (int_eq e.id id) refl found
     where
-      by : (noted_for es id ≡ Some xs → length xs ≤ n) → (c : Bool) → int_eq e.id id ≡ c
-          → cond c (Some e.values) (noted_for es id) ≡ Some xs → length xs ≤ n
+      by : (values_noted_for es id ≡ Some xs → length xs ≤ n) → (c : Bool) → int_eq e.id id ≡ c
+          → cond c (Some e.values) (values_noted_for es id) ≡ Some xs → length xs ≤ n
       by rest true q at =
           let same : e.values ≡ xs = cc in
           subst (λ (ys : List Value). length ys ≤ n) same (omega (arith, fit.0, h.0 q))
@@ -101,24 +102,26 @@ module _ (id : ℤ) (n : ℕ) where
 
 -- the values of a dictionary are no more than each of its index types counts
 pub noted_counts : (fields : List Field) (ps : List (ℤ × Value)) (d : Dictionary) (xs : List Value) → Contains (of_fields fields) d
-    → AllFit (note_all (unused fields) ps) → noted_for (note_all (unused fields) ps) d.id ≡ Some xs → length xs ≤ count_of d
+    → AllFit (note_all (empty_entries fields) ps) → values_noted_for (note_all (empty_entries fields) ps) d.id ≡ Some xs → length xs
+    ≤ index_capacity d
 noted_counts fields ps d xs named fit found =
     let low = least_counts (of_fields fields) d named in
-    let limited = limited-order d.id (count_of d) (of_fields fields) low 0 (unused fields) (are_of_schema fields).ordered in
-    let kept = limited-note_all d.id (count_of d) (unused fields) ps limited in
-    noted_below d.id (count_of d) (note_all (unused fields) ps) xs kept fit found
+    let limited = limited-order d.id (index_capacity d) (of_fields fields) low 0 (empty_entries fields) (are_of_schema fields).ordered in
+    let kept = limited-note_all d.id (index_capacity d) (empty_entries fields) ps limited in
+    noted_below d.id (index_capacity d) (note_all (empty_entries fields) ps) xs kept fit found
 
 -- entries with the ids and limits of the fields that fit their limits
-pub addressed : (fields : List Field) (es : List TallyEntry) → tally_bounds es ≡ tally_bounds (unused fields) → AllFit es
+pub addressed : (fields : List Field) (es : List TallyEntry) → tally_bounds es ≡ tally_bounds (empty_entries fields) → AllFit es
     → AreAddressed fields es
-addressed fields es bounds fit d named = by (noted_for es d.id) refl
+addressed fields es bounds fit d named = by (values_noted_for es d.id) refl
   where
-    by : (o : Option (List Value)) → noted_for es d.id ≡ o → IfSome o (λ values. length values ≤ count_of d)
+    by : (o : Option (List Value)) → values_noted_for es d.id ≡ o → IfSome o (λ values. length values ≤ index_capacity d)
     by None e = tt
     by (Some xs) e =
         let low = least_counts (of_fields fields) d named in
-        let limited = limited-order d.id (count_of d) (of_fields fields) low 0 (unused fields) (are_of_schema fields).ordered in
-        noted_below d.id (count_of d) es xs (limited_same d.id (count_of d) es (unused fields) bounds limited) fit e
+        let limited = limited-order d.id (index_capacity d) (of_fields fields) low 0 (empty_entries fields)
+        (are_of_schema fields).ordered in
+        noted_below d.id (index_capacity d) es xs (limited_same d.id (index_capacity d) es (empty_entries fields) bounds limited) fit e
 
 ids_in : (es : List TallyEntry) → map (λ (p : ℤ × ℕ). p.0) (tally_bounds es) ≡ tally_ids es
 ids_in [] = refl
@@ -129,15 +132,16 @@ pub bounds_ids : (es fs : List TallyEntry) → tally_bounds es ≡ tally_bounds 
 bounds_ids es fs same = sym (ids_in es) ∙ ap (map (λ (p : ℤ × ℕ). p.0)) same ∙ ids_in fs
 
 -- a dictionary that the fields name has its entry
-pub has_entry : (fields : List Field) (d : Dictionary) → Contains (of_fields fields) d → IsSome (noted_for (unused fields) d.id)
+pub has_entry : (fields : List Field) (d : Dictionary) → Contains (of_fields fields) d
+    → IsSome (values_noted_for (empty_entries fields) d.id)
 has_entry fields d named =
-    let Has : Dictionary → Type 0 = λ x. IsSome (noted_for (unused fields) x.id) in
+    let Has : Dictionary → Type 0 = λ x. IsSome (values_noted_for (empty_entries fields) x.id) in
     All-contains Has (of_fields fields) d (All-from_recursion Has (of_fields fields) (are_of_schema fields).all) named
 
 -- each value that was noted of a dictionary that the fields name has a place
 pub pair_placed : (fields : List Field) (ps : List (ℤ × Value)) (d : Dictionary) (v : Value) → Contains (of_fields fields) d
-    → Contains ps (d.id, v) → IsSome (noted_place (note_all (unused fields) ps) d.id v)
+    → Contains ps (d.id, v) → IsSome (place_of_value (note_all (empty_entries fields) ps) d.id v)
 pair_placed fields ps d v named there =
-    let Has : Dictionary → Type 0 = λ x. IsSome (noted_for (unused fields) x.id) in
-    places_all (unused fields) ps d.id v there
+    let Has : Dictionary → Type 0 = λ x. IsSome (values_noted_for (empty_entries fields) x.id) in
+    places_all (empty_entries fields) ps d.id v there
     (All-contains Has (of_fields fields) d (All-from_recursion Has (of_fields fields) (are_of_schema fields).all) named)

@@ -6,12 +6,13 @@ use Rattle.std.proofs.lemmas.List.Quantifiers.{position-Some}
 use Rattle.ipc_model.specs.declared.schema.Dictionary.{Dictionary}
 use Rattle.ipc_model.specs.declared.schema.Field.{Field, roll-Field, ind-Field, fold-roll-Field, map-Field}
 use Rattle.ipc_model.specs.declared.schema.Field.TheOpen.{Field-F}
-use Rattle.ipc_dictionaries.specs.Joined.{joined}
-use Rattle.ipc_dictionaries.specs.ValuesColumns.{Listed, own_columns, columns_step, columns_of, columns_in, columns_for, IsOneColumn}
-use Rattle.ipc_dictionaries.proofs.ValuesColumns as law
+use Rattle.ipc_dict_read.specs.ConcatLists.{concat_lists}
+use Rattle.ipc_dict_read.specs.ValuesColumns.{Listed, own_columns, columns_step, field_dictionary_columns, dictionary_columns, columns_for}
+use Rattle.ipc_dict_read.specs.ValuesColumns.{IsOneColumn}
+use Rattle.ipc_dict_read.proofs.ValuesColumns as law
 use Rattle.ipc_dict.specs.declared.entry.TallyEntry.{TallyEntry}
 use Rattle.ipc_dict.specs.SchemaEntries.{AreInOrder, first_place}
-use Rattle.ipc_dict.specs.SchemaIds.{own, field_step, of_field, of_fields, unused}
+use Rattle.ipc_dict.specs.SchemaIds.{own, field_step, of_field, of_fields, empty_entries}
 use Rattle.ipc_dict.proofs.SchemaEntries.{are_of_schema}
 
 -- ---- columns beside the dictionaries that they are of
@@ -32,31 +33,32 @@ alone f None = tt
 alone f (Some d) = (refl, tt)
 
 abbrev Shown : Type 0
-Shown = (f : Field) × Beside (columns_of f) (of_field f)
+Shown = (f : Field) × Beside (field_dictionary_columns f) (of_field f)
 
-below : (cs : List Shown) → Beside (joined (map columns_of (map (λ c. c.0) cs))) (joined (map of_field (map (λ c. c.0) cs)))
+below : (cs : List Shown) → Beside (concat_lists (map field_dictionary_columns (map (λ c. c.0) cs)))
+    (concat_lists (map of_field (map (λ c. c.0) cs)))
 below [] = tt
-below (c ∷ cs) = both (columns_of c.0) (joined (map columns_of (map (λ x. x.0) cs))) (of_field c.0)
-    (joined (map of_field (map (λ x. x.0) cs))) c.1 (below cs)
+below (c ∷ cs) = both (field_dictionary_columns c.0) (concat_lists (map field_dictionary_columns (map (λ x. x.0) cs))) (of_field c.0)
+    (concat_lists (map of_field (map (λ x. x.0) cs))) c.1 (below cs)
 
-layer : (y : Field-F Shown) → Beside (columns_of (roll-Field (map-Field Shown Field (λ c. c.0) y)))
+layer : (y : Field-F Shown) → Beside (field_dictionary_columns (roll-Field (map-Field Shown Field (λ c. c.0) y)))
     (of_field (roll-Field (map-Field Shown Field (λ c. c.0) y)))
 layer y =
     let z : Field-F Field = map-Field Shown Field (λ c. c.0) y in
-    let w : Field-F Listed = map-Field Field Listed columns_of z in
+    let w : Field-F Listed = map-Field Field Listed field_dictionary_columns z in
     let v : Field-F (List Dictionary) = map-Field Field (List Dictionary) of_field z in
     let mine = alone w w.dictionary in
     subst (λ (l : Listed). Beside l (of_field (roll-Field z))) (sym (fold-roll-Field Listed columns_step z))
     (subst (λ (l : List Dictionary). Beside (columns_step w) l) (sym (fold-roll-Field (List Dictionary) field_step z))
-    (both (own_columns w w.dictionary) (joined w.children) (own v.dictionary) (joined v.children) mine (below y.children)))
+    (both (own_columns w w.dictionary) (concat_lists w.children) (own v.dictionary) (concat_lists v.children) mine (below y.children)))
 
-of_one : (f : Field) → Beside (columns_of f) (of_field f)
-of_one = ind-Field (λ f. Beside (columns_of f) (of_field f))
-    (λ x y is. subst (λ z. Beside (columns_of (roll-Field z)) (of_field (roll-Field z))) is (layer y))
+of_one : (f : Field) → Beside (field_dictionary_columns f) (of_field f)
+of_one = ind-Field (λ f. Beside (field_dictionary_columns f) (of_field f))
+    (λ x y is. subst (λ z. Beside (field_dictionary_columns (roll-Field z)) (of_field (roll-Field z))) is (layer y))
 
-all_beside : (fields : List Field) → Beside (columns_in fields) (of_fields fields)
+all_beside : (fields : List Field) → Beside (dictionary_columns fields) (of_fields fields)
 all_beside [] = tt
-all_beside (f ∷ fs) = both (columns_of f) (columns_in fs) (of_field f) (of_fields fs) (of_one f) (all_beside fs)
+all_beside (f ∷ fs) = both (field_dictionary_columns f) (dictionary_columns fs) (of_field f) (of_fields fs) (of_one f) (all_beside fs)
 
 -- ---- the column of an id
 
@@ -83,13 +85,13 @@ placed cs (d ∷ ds) id k h at =
     found cs (d ∷ ds) id k d h p.0 p.1
 
 -- the column of an id that a field names is one
-one : (fields : List Field) (id : ℤ) → Found (columns_in fields) id
-    → (columns : List Field) × ((columns_for (columns_in fields) id ≡ Some columns) × IsOneColumn columns)
+one : (fields : List Field) (id : ℤ) → Found (dictionary_columns fields) id
+    → (columns : List Field) × ((columns_for (dictionary_columns fields) id ≡ Some columns) × IsOneColumn columns)
 one fields id h = (h.0, (h.1, subst (λ o. IfSome o IsOneColumn) h.1 (law.one_column fields id)))
 
 -- an entry without values, whose dictionary has its column
 abbrev pub IsFresh : List Field → TallyEntry → Type 0
-IsFresh fields e = ((columns : List Field) × ((columns_for (columns_in fields) e.id ≡ Some columns) × IsOneColumn columns))
+IsFresh fields e = ((columns : List Field) × ((columns_for (dictionary_columns fields) e.id ≡ Some columns) × IsOneColumn columns))
     × (e.values ≡ [])
 
 each : (fields : List Field) (from : ℕ) (es : List TallyEntry) (i : ℕ) (e : TallyEntry) → AreInOrder (of_fields fields) from es
@@ -97,12 +99,12 @@ each : (fields : List Field) (from : ℕ) (es : List TallyEntry) (i : ℕ) (e : 
 each fields from [] i e h l at = absurd (omega arith)
 each fields from (x ∷ es) zero e (k, (low, (place, (limit, (none, rest))))) l at =
     subst (λ (y : TallyEntry). IsFresh fields y) (sym at)
-    (one fields x.id (placed (columns_in fields) (of_fields fields) x.id k (all_beside fields) place), none)
+    (one fields x.id (placed (dictionary_columns fields) (of_fields fields) x.id k (all_beside fields) place), none)
 each fields from (x ∷ es) (suc i) e (k, (low, (place, (limit, (none, rest))))) l at =
     each fields (k + 1) es i e rest (omega arith) at
 
 -- each entry of a schema is
-pub fresh_at : (fields : List Field) (es : List TallyEntry) (i : ℕ) (e : TallyEntry) → es ≡ unused fields → i < length es
+pub fresh_at : (fields : List Field) (es : List TallyEntry) (i : ℕ) (e : TallyEntry) → es ≡ empty_entries fields → i < length es
     → e ≡ get_or es i e → IsFresh fields e
 fresh_at fields es i e same l at =
     let ordered = subst (λ (us : List TallyEntry). AreInOrder (of_fields fields) 0 us) (sym same) (are_of_schema fields).ordered in

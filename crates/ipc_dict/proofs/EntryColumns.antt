@@ -10,15 +10,15 @@ use Rattle.ipc_model.specs.declared.fault.WriteFault.TheVariants as w
 use Rattle.ipc_model.specs.declared.limits.Limits.{Limits}
 use Rattle.ipc_model.specs.declared.schema.Field.{Field}
 use Rattle.ipc_model.specs.declared.value.Value.{Value}
-use Rattle.ipc_encode.specs.declared.counted.CountedColumn.{CountedColumn}
-use Rattle.ipc_encode.specs.CountedColumns.{as_rows, CountsRows}
-use Rattle.ipc_encode.specs.Limits.{IsRefused}
+use Rattle.ipc_encode.specs.declared.column_sizes.ColumnSizes.{ColumnSizes}
+use Rattle.ipc_encode.specs.ColumnSizes.{as_rows, CountsRows}
+use Rattle.ipc_encode.specs.Limits.{AreRowsRefused}
 use Rattle.ipc_encode.proofs.Growing.{refused_more}
 use Rattle.ipc_dict.specs.declared.entry.TallyEntry.{TallyEntry}
-use Rattle.ipc_dict.specs.Distinct.{is_seen}
+use Rattle.ipc_dict.specs.Distinct.{is_among}
 use Rattle.ipc_dict.specs.declared.columns.EntryColumns.{EntryColumns}
 use Rattle.ipc_dict.specs.EntryColumns.{AllCounted, AreEntriesCounted, IsEntryCounted}
-use Rattle.ipc_dict.specs.Noting.{note_entry, note_one, note_all, AllGrow, cut, lens}
+use Rattle.ipc_dict.specs.Noting.{note_entry, note_one, note_all, AllGrow, truncated_tally, tally_lengths}
 use Rattle.ipc_dict.specs.Within.{AllWithin, IsEntryOver, IsOfLimits, IsOverLimit}
 use Rattle.ipc_dict.proofs.Notes.{cut_back, note_all-append}
 
@@ -29,35 +29,36 @@ rows_split m vs = sym (map-append (λ v. v ∷ []) (take m vs) (drop m vs)) ∙ 
 module _ (limits : Limits) (fields : List Field) where
   -- ---- side by side
 
-  pub counted_push : (es : List TallyEntry) (cs : List CountedColumn) (e : TallyEntry) (c : CountedColumn) → AllCounted limits fields es cs
+  pub counted_push : (es : List TallyEntry) (cs : List ColumnSizes) (e : TallyEntry) (c : ColumnSizes) → AllCounted limits fields es cs
       → IsEntryCounted limits fields e c → AllCounted limits fields (es ++ e ∷ []) (cs ++ c ∷ [])
   counted_push [] [] e c h k = (k, tt)
   counted_push [] (d ∷ cs) e c h k = absurd h
   counted_push (x ∷ es) [] e c h k = absurd h
   counted_push (x ∷ es) (d ∷ cs) e c h k = (h.0, counted_push es cs e c h.1 k)
 
-  pub counted_length : (es : List TallyEntry) (cs : List CountedColumn) → AllCounted limits fields es cs → length cs ≡ length es
+  pub counted_length : (es : List TallyEntry) (cs : List ColumnSizes) → AllCounted limits fields es cs → length cs ≡ length es
   counted_length [] [] h = refl
   counted_length [] (d ∷ cs) h = absurd h
   counted_length (x ∷ es) [] h = absurd h
   counted_length (x ∷ es) (d ∷ cs) h = ap (λ (n : ℕ). suc n) (counted_length es cs h.1)
 
   -- one of the columns that count the first so many values
-  pub counted_at : (ms : List ℕ) (es : List TallyEntry) (cs : List CountedColumn) (i m : ℕ) (e : TallyEntry) (c : CountedColumn)
+  pub counted_at : (ms : List ℕ) (es : List TallyEntry) (cs : List ColumnSizes) (i m : ℕ) (e : TallyEntry) (c : ColumnSizes)
       → i < length ms → i < length es → i < length cs → e ≡ get_or es i e → c ≡ get_or cs i c
-      → AllCounted limits fields (cut ms es) cs → IsEntryCounted limits fields (record e { values = take (get_or ms i m) e.values }) c
+      → AllCounted limits fields (truncated_tally ms es) cs → IsEntryCounted limits fields
+      (record e { values = take (get_or ms i m) e.values }) c
   counted_at [] es cs i m e c a b d q r h = absurd (omega arith)
   counted_at (n ∷ ms) [] cs i m e c a b d q r h = absurd (omega arith)
   counted_at (n ∷ ms) (x ∷ es) [] i m e c a b d q r h = absurd (omega arith)
   counted_at (n ∷ ms) (x ∷ es) (y ∷ cs) zero m e c a b d q r h =
       subst (λ (z : TallyEntry). IsEntryCounted limits fields (record z { values = take n z.values }) c) (sym q)
-      (subst (λ (z : CountedColumn). IsEntryCounted limits fields (record x { values = take n x.values }) z) (sym r) h.0)
+      (subst (λ (z : ColumnSizes). IsEntryCounted limits fields (record x { values = take n x.values }) z) (sym r) h.0)
   counted_at (n ∷ ms) (x ∷ es) (y ∷ cs) (suc i) m e c a b d q r h =
       counted_at ms es cs i m e c (omega arith) (omega arith) (omega arith) q r h.1
 
   -- ---- the values behind them
 
-  pub counted_more : (m : ℕ) (e : TallyEntry) (c d : CountedColumn)
+  pub counted_more : (m : ℕ) (e : TallyEntry) (c d : ColumnSizes)
       → ((columns : List Field) (rows : List (List Value)) → CountsRows limits columns rows c
       → CountsRows limits columns (rows ++ as_rows (drop m e.values)) d)
       → IsEntryCounted limits fields (record e { values = take m e.values }) c → IsEntryCounted limits fields e d
@@ -71,20 +72,20 @@ module _ (limits : Limits) (fields : List Field) where
   )
 
   -- a refusal that isn't one for memory is one for the limits
-  of_limits : (columns : List Field) (rows : List (List Value)) (fault : WriteFault) → IsRefused limits columns rows fault
+  of_limits : (columns : List Field) (rows : List (List Value)) (fault : WriteFault) → AreRowsRefused limits columns rows fault
       → (fault ≡ w.OutOfMemory → ⊥) → IsOfLimits fault
   of_limits columns rows w.TooLong h other = inl refl
   of_limits columns rows w.TooManyRows h other = inr refl
   of_limits columns rows w.OutOfMemory h other = absurd (other refl)
   of_limits columns rows _ h other = absurd h
 
-  pub entry_over : (m : ℕ) (e : TallyEntry) (c : CountedColumn) (fault : WriteFault)
+  pub entry_over : (m : ℕ) (e : TallyEntry) (c : ColumnSizes) (fault : WriteFault)
       → ((columns : List Field) (rows : List (List Value)) → CountsRows limits columns rows c
-      → IsRefused limits columns (rows ++ as_rows (drop m e.values)) fault × (fault ≡ w.OutOfMemory → ⊥))
+      → AreRowsRefused limits columns (rows ++ as_rows (drop m e.values)) fault × (fault ≡ w.OutOfMemory → ⊥))
       → IsEntryCounted limits fields (record e { values = take m e.values }) c → IsEntryOver limits fields e fault
   entry_over m e c fault refused h =
       let r = refused h.0 (as_rows (take m e.values)) h.1.1 in
-      let all = subst (λ (rows : List (List Value)). IsRefused limits h.0 rows fault) (rows_split m e.values) r.0 in
+      let all = subst (λ (rows : List (List Value)). AreRowsRefused limits h.0 rows fault) (rows_split m e.values) r.0 in
       (h.0, (h.1.0, (all, of_limits h.0 (as_rows e.values) fault all r.1)))
 
   pub over_at : (es : List TallyEntry) (i : ℕ) (e : TallyEntry) (fault : WriteFault) → i < length es → e ≡ get_or es i e
@@ -102,7 +103,7 @@ module _ (limits : Limits) (fields : List Field) where
   -- ---- all of them
 
   -- columns that are counted are within the limits
-  pub all_within : (es : List TallyEntry) (cs : List CountedColumn) → AllCounted limits fields es cs → AllWithin limits fields es
+  pub all_within : (es : List TallyEntry) (cs : List ColumnSizes) → AllCounted limits fields es cs → AllWithin limits fields es
   all_within [] cs h = tt
   all_within (x ∷ es) [] h = absurd h
   all_within (x ∷ es) (d ∷ cs) h = ((h.0.0, (h.0.1.0, h.0.1.1.within)), all_within es cs h.1)
@@ -110,14 +111,14 @@ module _ (limits : Limits) (fields : List Field) where
   over-entry : (e : TallyEntry) (v : Value) (fault : WriteFault) → IsEntryOver limits fields e fault
       → IsEntryOver limits fields (note_entry v e) fault
   over-entry e v fault h =
-      elim (is_seen e.values v) as (λ b. IsEntryOver limits fields (record e { values = cond b e.values (e.values ++ v ∷ []) }) fault) [
+      elim (is_among e.values v) as (λ b. IsEntryOver limits fields (record e { values = cond b e.values (e.values ++ v ∷ []) }) fault) [
         | true ↦ h
         | false ↦ (
           h.0,
           (
             h.1.0,
             (
-              subst (λ (rows : List (List Value)). IsRefused limits h.0 rows fault)
+              subst (λ (rows : List (List Value)). AreRowsRefused limits h.0 rows fault)
                   (sym (map-append (λ x. x ∷ []) e.values (v ∷ [])))
                   (refused_more limits h.0 (as_rows e.values) (as_rows (v ∷ [])) fault h.1.1.0),
               h.1.1.1,
@@ -172,10 +173,11 @@ grow_length (e ∷ es) (f ∷ fs) h = ap (λ (n : ℕ). suc n) (grow_length es f
 
 module _ (fields : List Field) where
   -- columns of entries are those of what these grew to, up to their marks
-  pub up_to_marks : (ms : List ℕ) (t u : List TallyEntry) (columns : EntryColumns) → ms ≡ lens t → AllGrow t u
-      → AreEntriesCounted fields t columns → AreEntriesCounted fields (cut ms u) columns
+  pub up_to_marks : (ms : List ℕ) (t u : List TallyEntry) (columns : EntryColumns) → ms ≡ tally_lengths t → AllGrow t u
+      → AreEntriesCounted fields t columns → AreEntriesCounted fields (truncated_tally ms u) columns
   up_to_marks ms t u columns is grows h =
-      subst (λ (es : List TallyEntry). AreEntriesCounted fields es columns) (sym (ap (λ (ks : List ℕ). cut ks u) is ∙ cut_back t u grows)) h
+      subst (λ (es : List TallyEntry). AreEntriesCounted fields es columns) (sym
+      (ap (λ (ks : List ℕ). truncated_tally ks u) is ∙ cut_back t u grows)) h
 
   -- there are as many as entries, also where these grew
   pub many_columns : (t u : List TallyEntry) (columns : EntryColumns) → AllGrow t u → AreEntriesCounted fields t columns

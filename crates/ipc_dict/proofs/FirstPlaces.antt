@@ -8,7 +8,7 @@ use Rattle.std.proofs.lemmas.Map.Keys.{apart_from_distinct}
 use Rattle.ipc_model.specs.contracts.value.ValueEq.TheImpl.Laws.{laws-law}
 use Rattle.ipc_model.specs.declared.value.Value.{Value}
 use Rattle.ipc_model.proofs.AlikeValues.{same_value}
-use Rattle.ipc_dict.specs.Distinct.{same, seen, place}
+use Rattle.ipc_dict.specs.Distinct.{same, with_distinct, first_index}
 
 -- the places before that of a value have others
 others_before : (v : Value) (xs : List Value) (i k : ℕ) → IsDistinct same xs → i < length xs → get_or xs i v ≡ v → k < i
@@ -24,7 +24,7 @@ others_before v xs i k apart within at before = by (same v (get_or xs k v)) refl
         absurd (true≢false (sym (laws-law.refl v) ∙ own))
 
 -- a value of distinct ones has the place at which it stands
-pub first_place : (v : Value) (xs : List Value) (i : ℕ) → IsDistinct same xs → i < length xs → get_or xs i v ≡ v → place v xs ≡ Some i
+pub first_place : (v : Value) (xs : List Value) (i : ℕ) → IsDistinct same xs → i < length xs → get_or xs i v ≡ v → first_index v xs ≡ Some i
 first_place v xs i apart within at =
     let first : position_or_len (same v) xs ≡ i =
     position_or_len_is (same v) xs i v (omega (arith, within)) (λ k before. others_before v xs i k apart within at before)
@@ -39,7 +39,7 @@ any_at p (x ∷ xs) (suc i) d h at =
     elim (p x) as (λ b. (b || list_any p xs) ≡ true) [ true ↦ refl | false ↦ rest ]
 
 -- a value that has a place changes nothing once it is seen
-pub known_seen : (v : Value) (xs : List Value) (i : ℕ) → place v xs ≡ Some i → seen xs v ≡ xs
+pub known_seen : (v : Value) (xs : List Value) (i : ℕ) → first_index v xs ≡ Some i → with_distinct xs v ≡ xs
 known_seen v xs i found =
     let p = position-Some (same v) xs i v found in
     ap (λ b. cond b xs (xs ++ v ∷ [])) (any_at (same v) xs i v p.0 p.1)

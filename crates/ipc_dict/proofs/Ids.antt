@@ -3,7 +3,7 @@ use Rattle.std.proofs.Common.{◌≡◌, ℕ, ℤ, Option, List, [], ◌∷◌, 
 use Rattle.ipc_dict.specs.declared.entry.TallyEntry.{TallyEntry}
 use Rattle.ipc_dict.specs.declared.kept.KeptEntry.{KeptEntry}
 use Rattle.ipc_dict.specs.Planning.{SameIds, after_all}
-use Rattle.ipc_dict.specs.SchemaIds.{kept_ids, tally_ids, unsent}
+use Rattle.ipc_dict.specs.SchemaIds.{kept_ids, tally_ids, nothing_sent}
 
 pub same_ids : (ks : List KeptEntry) (es : List TallyEntry) → kept_ids ks ≡ tally_ids es → SameIds ks es
 same_ids [] [] h = tt
@@ -12,7 +12,7 @@ same_ids (k ∷ ks) [] h = absurd cc
 same_ids (k ∷ ks) (e ∷ es) h = let head : k.id ≡ e.id = cc in let rest : kept_ids ks ≡ tally_ids es = cc in (head, same_ids ks es rest)
 
 -- where nothing was sent, the ids are those that were asked for
-pub ids_unsent : (ids : List ℤ) → kept_ids (unsent ids) ≡ ids
+pub ids_unsent : (ids : List ℤ) → kept_ids (nothing_sent ids) ≡ ids
 ids_unsent [] = refl
 ids_unsent (id ∷ ids) = ap (λ l. id ∷ l) (ids_unsent ids)
 

@@ -6,8 +6,9 @@ use Rattle.std.proofs.lemmas.List.{length-append, length-take, take-take}
 use Rattle.std.proofs.Math.Seq.{take-length}
 use Rattle.ipc_model.specs.declared.value.Value.{Value}
 use Rattle.ipc_dict.specs.declared.entry.TallyEntry.{TallyEntry}
-use Rattle.ipc_dict.specs.Distinct.{seen, is_seen}
-use Rattle.ipc_dict.specs.Noting.{note_entry, note_one, note_all, AllFit, IsFull, Grows, AllGrow, lens, cut}
+use Rattle.ipc_dict.specs.Distinct.{with_distinct, is_among}
+use Rattle.ipc_dict.specs.Noting.{note_entry, note_one, note_all, AllFit, IsIndexOverflow, GrowsEntry, AllGrow, tally_lengths}
+use Rattle.ipc_dict.specs.Noting.{truncated_tally}
 
 module _ (id : ℤ) (v : Value) where
   -- where the dictionary with the id stands first, its entry alone changes
@@ -30,16 +31,16 @@ module _ (id : ℤ) (v : Value) where
 
 -- ---- an entry that grows
 
-pub grow-same : (e : TallyEntry) → Grows e e
+pub grow-same : (e : TallyEntry) → GrowsEntry e e
 grow-same e = record { id = refl; limit = refl; front = take-length e.values }
 
 pub all_grow_same : (t : List TallyEntry) → AllGrow t t
 all_grow_same [] = tt
 all_grow_same (e ∷ es) = (grow-same e, all_grow_same es)
 
-pub all_grow-set : (t : List TallyEntry) (i : ℕ) (x y : TallyEntry) → x ≡ get_or t i x → Grows x y → AllGrow t (set t i y)
+pub all_grow-set : (t : List TallyEntry) (i : ℕ) (x y : TallyEntry) → x ≡ get_or t i x → GrowsEntry x y → AllGrow t (set t i y)
 all_grow-set [] i x y same h = tt
-all_grow-set (e ∷ es) zero x y same h = (subst (λ z. Grows z y) same h, all_grow_same es)
+all_grow-set (e ∷ es) zero x y same h = (subst (λ z. GrowsEntry z y) same h, all_grow_same es)
 all_grow-set (e ∷ es) (suc i) x y same h = (grow-same e, all_grow-set es i x y same h)
 
 pub all_fit-set : (t : List TallyEntry) (i : ℕ) (x y : TallyEntry) → x ≡ get_or t i x
@@ -48,7 +49,7 @@ all_fit-set [] i x y same h fit = tt
 all_fit-set (e ∷ es) zero x y same h fit = (subst (λ z. length z.values ≤ z.limit → length y.values ≤ y.limit) same h fit.0, fit.1)
 all_fit-set (e ∷ es) (suc i) x y same h fit = (fit.0, all_fit-set es i x y same h fit.1)
 
-pub full-set : (t : List TallyEntry) (i : ℕ) (y : TallyEntry) → i < length t → y.limit < length y.values → IsFull (set t i y)
+pub full-set : (t : List TallyEntry) (i : ℕ) (y : TallyEntry) → i < length t → y.limit < length y.values → IsIndexOverflow (set t i y)
 full-set [] i y h over = absurd (omega arith)
 full-set (e ∷ es) zero y h over = inl over
 full-set (e ∷ es) (suc i) y h over = inr (full-set es i y (omega arith) over)
@@ -69,7 +70,7 @@ pub note_all-append : (t : List TallyEntry) (ps qs : List (ℤ × Value)) → no
 note_all-append t [] qs = refl
 note_all-append t (p ∷ ps) qs = note_all-append (note_one t p.0 p.1) ps qs
 
-pub grow-trans : (a b c : TallyEntry) → Grows a b → Grows b c → Grows a c
+pub grow-trans : (a b c : TallyEntry) → GrowsEntry a b → GrowsEntry b c → GrowsEntry a c
 grow-trans a b c h k =
     let i = length a.values in
     let j = length b.values in
@@ -88,29 +89,30 @@ all_grow_trans [] (b ∷ u) w h k = absurd h
 all_grow_trans (a ∷ t) [] w h k = absurd h
 all_grow_trans (a ∷ t) (b ∷ u) [] h k = absurd k
 
-pub length-seen : (xs : List Value) (v : Value) → length xs ≤ length (seen xs v)
+pub length-seen : (xs : List Value) (v : Value) → length xs ≤ length (with_distinct xs v)
 length-seen xs v =
-    elim (is_seen xs v) as (λ b. length xs ≤ length (cond b xs (xs ++ v ∷ [])))
+    elim (is_among xs v) as (λ b. length xs ≤ length (cond b xs (xs ++ v ∷ [])))
     [ true ↦ omega arith | false ↦ omega (arith, length-append xs (v ∷ [])) ]
 
-pub full-note_one : (t : List TallyEntry) (id : ℤ) (v : Value) → IsFull t → IsFull (note_one t id v)
+pub full-note_one : (t : List TallyEntry) (id : ℤ) (v : Value) → IsIndexOverflow t → IsIndexOverflow (note_one t id v)
 full-note_one [] id v h = h
 full-note_one (e ∷ es) id v h =
-    elim (int_eq e.id id) as (λ b. IsFull (cond b (note_entry v e ∷ es) (e ∷ note_one es id v))) [
+    elim (int_eq e.id id) as (λ b. IsIndexOverflow (cond b (note_entry v e ∷ es) (e ∷ note_one es id v))) [
       | true ↦ elim h [ inl over ↦ inl (omega (arith, length-seen e.values v)) | inr rest ↦ inr rest ]
       | false ↦ elim h [ inl over ↦ inl over | inr rest ↦ inr (full-note_one es id v rest) ]
     ]
 
 -- what has too many values once keeps them
-pub full-note_all : (t : List TallyEntry) (ps : List (ℤ × Value)) → IsFull t → IsFull (note_all t ps)
+pub full-note_all : (t : List TallyEntry) (ps : List (ℤ × Value)) → IsIndexOverflow t → IsIndexOverflow (note_all t ps)
 full-note_all t [] h = h
 full-note_all t (p ∷ ps) h = full-note_all (note_one t p.0 p.1) ps (full-note_one t p.0 p.1 h)
 
-pub full-append : (t : List TallyEntry) (ps qs : List (ℤ × Value)) → IsFull (note_all t ps) → IsFull (note_all t (ps ++ qs))
-full-append t ps qs h = subst IsFull (sym (note_all-append t ps qs)) (full-note_all (note_all t ps) qs h)
+pub full-append : (t : List TallyEntry) (ps qs : List (ℤ × Value)) → IsIndexOverflow (note_all t ps)
+    → IsIndexOverflow (note_all t (ps ++ qs))
+full-append t ps qs h = subst IsIndexOverflow (sym (note_all-append t ps qs)) (full-note_all (note_all t ps) qs h)
 
 -- what grew is as before once it is cut
-pub cut_back : (t u : List TallyEntry) → AllGrow t u → cut (lens t) u ≡ t
+pub cut_back : (t u : List TallyEntry) → AllGrow t u → truncated_tally (tally_lengths t) u ≡ t
 cut_back [] [] h = refl
 cut_back [] (f ∷ fs) h = absurd h
 cut_back (e ∷ es) [] h = absurd h
@@ -118,7 +120,7 @@ cut_back (e ∷ es) (f ∷ fs) h =
     let rest = cut_back es fs h.1 in
     λ i. record { id = h.0.id i; limit = h.0.limit i; values = h.0.front i } ∷ rest i
 
-cut_all : (t : List TallyEntry) → cut (lens t) t ≡ t
+cut_all : (t : List TallyEntry) → truncated_tally (tally_lengths t) t ≡ t
 cut_all [] = refl
 cut_all (e ∷ es) =
     let rest = cut_all es in
@@ -126,8 +128,8 @@ cut_all (e ∷ es) =
     λ i. record { id = e.id; limit = e.limit; values = whole i } ∷ rest i
 
 -- what grew by nothing is as before
-pub grown_by_none : (t u : List TallyEntry) → AllGrow t u → lens u ≡ lens t → u ≡ t
-grown_by_none t u grows same = sym (cut_all u) ∙ ap (λ ns. cut ns u) same ∙ cut_back t u grows
+pub grown_by_none : (t u : List TallyEntry) → AllGrow t u → tally_lengths u ≡ tally_lengths t → u ≡ t
+grown_by_none t u grows same = sym (cut_all u) ∙ ap (λ ns. truncated_tally ns u) same ∙ cut_back t u grows
 
 -- ---- without entries
 

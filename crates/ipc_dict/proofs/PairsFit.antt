@@ -5,7 +5,7 @@ use Rattle.std.specs.List.{AllByRecursion, Contains}
 use Rattle.std.proofs.lemmas.Bool.Decides.{Decides-int_eq}
 use Rattle.std.proofs.lemmas.List.Elements.{All-contains, All-from_recursion}
 use Rattle.ipc_model.specs.Entries.{Entry, Listing, all_at, entries, entry_of, preorder, preorder_step}
-use Rattle.ipc_model.specs.Fits.{InnerFit, IsOwn, Fits, RowFits, fits_step}
+use Rattle.ipc_model.specs.Fits.{InnerFit, FitsOwnType, Fits, RowFits, fits_step}
 use Rattle.ipc_model.specs.WellFormed.{IsAmong, IsLeaf, IsFieldWellFormed, HasFittingChildren, HasGoodType, WellFormed}
 use Rattle.ipc_model.specs.Layouts.{type_layout}
 use Rattle.ipc_model.specs.declared.limits.Limits.{Limits}
@@ -22,8 +22,8 @@ use Rattle.ipc_model.proofs.FitsLemmas.{fits_roll}
 use Rattle.ipc_column.specs.Shapes as shape
 use Rattle.ipc_column.specs.Shapes.{Shape, bare, field, shape_of}
 use Rattle.ipc_encode.proofs.HeldValues.{all_left}
-use Rattle.ipc_dictionaries.specs.ValuesColumns.{Listed, columns_in, columns_for, values_column}
-use Rattle.ipc_dictionaries.proofs.Named.{all_given}
+use Rattle.ipc_dict_read.specs.ValuesColumns.{Listed, dictionary_columns, columns_for, values_column}
+use Rattle.ipc_dict_read.proofs.Named.{all_given}
 use Rattle.ipc_dict.specs.Pairs.{rows_pairs}
 use Rattle.ipc_dict.specs.SchemaIds.{field_step, of_fields}
 use Rattle.ipc_dict.proofs.PairsFitEntries.{all_among, all_two, rows_shown}
@@ -63,7 +63,7 @@ leaf_fits (t.Time unit) w leaf = tt
 leaf_fits (t.Duration unit) w leaf = tt
 
 -- null may stand where a column is nullable, and another value where it is of the type
-nullable_own : (kind : DataType) (nullable : Bool) (n : ℕ) (w : Value-F Value) → IsOwn kind nullable n w → IsOwn kind true n w
+nullable_own : (kind : DataType) (nullable : Bool) (n : ℕ) (w : Value-F Value) → FitsOwnType kind nullable n w → FitsOwnType kind true n w
 nullable_own kind nullable n Value-F.Null own = inl refl
 nullable_own kind nullable n (Value-F.Bool truth) own = own
 nullable_own kind nullable n (Value-F.Int z) own = own
@@ -79,7 +79,8 @@ abbrev pub column_parts : List ℕ → DataType → Field-F Field
 column_parts name kind = record { name = name; nullable = true; kind = kind; dictionary = None; children = []; metadata = [] }
 
 -- a value of the type fits the column
-column_fits : (name : List ℕ) (kind : DataType) (nullable : Bool) (value : Value) → IsLeaf kind → IsOwn kind nullable 0 (out-Value value)
+column_fits : (name : List ℕ) (kind : DataType) (nullable : Bool) (value : Value) → IsLeaf kind
+    → FitsOwnType kind nullable 0 (out-Value value)
     → Fits (values_column name kind) value
 column_fits name kind nullable value leaf own =
     let both : fits_step Field (λ g. g) Fits (column_parts name kind) value =
@@ -123,13 +124,13 @@ found_is P (c ∷ cs) id columns h found = by (found_is P cs id columns h.1) (in
     by rest false q at = rest at
 
 -- the column that is found is that of an entry
-read_by : (fields : List Field) (id : ℤ) (columns : List Field) → columns_for (columns_in fields) id ≡ Some columns
+read_by : (fields : List Field) (id : ℤ) (columns : List Field) → columns_for (dictionary_columns fields) id ≡ Some columns
     → ReadBy (entries fields) id columns
 read_by fields id columns found =
     let all = all_given (λ e. IsAmong e (entries fields)) (λ c. ReadBy (entries fields) c.0 c.1)
     (λ e d name is there. record { entry = e; dictionary = d; name = name; among = there; named = is; same = refl; column = refl })
     fields (all_among (entries fields)) in
-    found_is (λ c. ReadBy (entries fields) c.0 c.1) (columns_in fields) id columns all found
+    found_is (λ c. ReadBy (entries fields) c.0 c.1) (dictionary_columns fields) id columns all found
 
 among_is : (P : Entry → Type 0) (es : List Entry) (e : Entry) → AllByRecursion P es → IsAmong e es → P e
 among_is P [] e h there = absurd there
@@ -152,7 +153,7 @@ module _ (limits : Limits) (s : Schema) (fine : WellFormed limits s) where
       let leaf : IsLeaf e.kind = leaf_of limits e d q.0 is in
       let one : e.kind ≡ by.entry.kind = fine.one_type e by.entry q.1 by.among d by.dictionary is by.named (same ∙ sym by.same) in
       let alone : e.children ≡ 0 = no_parts e.kind e.children leaf q.0.fitting_children in
-      let own0 = subst (λ (n : ℕ). IsOwn e.kind nullable n (out-Value value)) alone own in
+      let own0 = subst (λ (n : ℕ). FitsOwnType e.kind nullable n (out-Value value)) alone own in
       let fit = subst (λ k. Fits (values_column by.name k) value) one (column_fits by.name e.kind nullable value leaf own0) in
       let row : RowFits (values_column by.name by.entry.kind ∷ []) (value ∷ []) = (refl, (fit, tt)) in
       subst (λ cs. RowFits cs (value ∷ [])) (sym by.column) row)
@@ -161,7 +162,7 @@ module _ (limits : Limits) (s : Schema) (fine : WellFormed limits s) where
 -- a value of a dictionary fits the column by which the dictionary is read
 pub pair_fits : (limits : Limits) (s : Schema) (rows : List (List Value)) (id : ℤ) (v : Value) (columns : List Field) → WellFormed limits s
     → AllByRecursion (RowFits s.fields) rows → Contains (rows_pairs s.fields rows) (id, v)
-    → columns_for (columns_in s.fields) id ≡ Some columns → RowFits columns (v ∷ [])
+    → columns_for (dictionary_columns s.fields) id ≡ Some columns → RowFits columns (v ∷ [])
 pair_fits limits s rows id v columns fine fits there found =
     let Good : ℤ × Value → Type 0 = λ p. p.0 ≡ id → RowFits columns (p.1 ∷ []) in
     let all = value_fits limits s fine id columns (read_by s.fields id columns found) rows fits in
@@ -177,7 +178,8 @@ first_depth limits f fine =
     ap (λ g. preorder g 1) (sym (roll-out-Field f)) ∙ ap (λ (l : Listing). l 1) (fold-roll-Field Listing preorder_step z) in
     (subst (AllByRecursion (IsFieldWellFormed limits)) is fine).0.shallow
 
-some_depth : (limits : Limits) (fields : List Field) (id : ℤ) (columns : List Field) → columns_for (columns_in fields) id ≡ Some columns
+some_depth : (limits : Limits) (fields : List Field) (id : ℤ) (columns : List Field) → columns_for (dictionary_columns fields) id
+    ≡ Some columns
     → AllByRecursion (IsFieldWellFormed limits) (entries fields) → 1 ≤ limits.depth
 some_depth limits [] id columns found fine = absurd cc
 some_depth limits (f ∷ fs) id columns found fine =
@@ -208,7 +210,7 @@ column_rules limits name kind good leaf deep =
 
 -- the column that a dictionary is read by is well formed
 pub column_fine : (limits : Limits) (s : Schema) (id : ℤ) (columns : List Field) → WellFormed limits s
-    → columns_for (columns_in s.fields) id ≡ Some columns → AllByRecursion (IsFieldWellFormed limits) (entries columns)
+    → columns_for (dictionary_columns s.fields) id ≡ Some columns → AllByRecursion (IsFieldWellFormed limits) (entries columns)
 column_fine limits s id columns fine found =
     let by = read_by s.fields id columns found in
     let rules = among_is (IsFieldWellFormed limits) (entries s.fields) by.entry fine.each by.among in
@@ -220,7 +222,7 @@ column_fine limits s id columns fine found =
 
 -- it is one column of a type without inner types
 pub column_leaf : (limits : Limits) (s : Schema) (id : ℤ) (columns : List Field) → WellFormed limits s
-    → columns_for (columns_in s.fields) id ≡ Some columns
+    → columns_for (dictionary_columns s.fields) id ≡ Some columns
     → (name : List ℕ) × ((kind : DataType) × ((columns ≡ values_column name kind ∷ []) × (IsLeaf kind
     × (shape_of columns ≡ field (type_layout kind) bare bare))))
 column_leaf limits s id columns fine found =

@@ -3,7 +3,7 @@ use Rattle.std.proofs.Common.{◌≡◌, refl, sym, subst, ℕ, ◌+◌, ℤ, Bo
 use Rattle.std.specs.List.{AllByRecursion}
 use Rattle.std.proofs.lemmas.List.{length-map}
 use Rattle.ipc_model.specs.Entries.{Entry, Listing, all_at, entries, entry_of, preorder, preorder_step}
-use Rattle.ipc_model.specs.Fits.{EachFits, InnerFit, IsOwn, Fits, RowFits, fits_step}
+use Rattle.ipc_model.specs.Fits.{EachFits, InnerFit, FitsOwnType, Fits, RowFits, fits_step}
 use Rattle.ipc_model.specs.WellFormed.{IsAmong}
 use Rattle.ipc_model.specs.declared.schema.DataType.{DataType}
 use Rattle.ipc_model.specs.declared.schema.DataType.TheVariants as t
@@ -14,7 +14,8 @@ use Rattle.ipc_model.specs.declared.value.Value.{Value, out-Value}
 use Rattle.ipc_model.specs.declared.value.Value.TheOpen.{Value-F}
 use Rattle.ipc_model.proofs.FitsLemmas.{fits_roll}
 use Rattle.ipc_encode.proofs.HeldValues.{all_one, all_both, all_left, all_right}
-use Rattle.ipc_dict.specs.Pairs.{Walk, items_pairs, each_pairs, inner_pairs, own_pair, pairs_in, pairs_step, pairs, row_pairs, rows_pairs}
+use Rattle.ipc_dict.specs.Pairs.{Walk, items_pairs, each_pairs, inner_pairs, own_pair, value_pairs, pairs_step, pairs, row_pairs}
+use Rattle.ipc_dict.specs.Pairs.{rows_pairs}
 use Rattle.ipc_dict.specs.SchemaIds.{own}
 
 -- each of several entries is among them
@@ -29,7 +30,7 @@ all_two P R (x ∷ xs) p r = ((p.0, r.0), all_two P R xs p.1 r.1)
 
 module _ (Q : Entry → Type 0) (P : ℤ × Value → Type 0)
     (gives : (e : Entry) (d : Dictionary) (nullable : Bool) (value : Value) → e.dictionary ≡ Some d → Q e
-    → IsOwn e.kind nullable e.children (out-Value value) → P (d.id, value)) where
+    → FitsOwnType e.kind nullable e.children (out-Value value) → P (d.id, value)) where
   -- what the entries of a field say of the pairs that a value gives which fits it
   abbrev Shows : Field → Type 0
   Shows f = (depth : ℕ) → AllByRecursion Q (preorder f depth) → (value : Value) → Fits f value → AllByRecursion P (pairs f value)
@@ -86,12 +87,12 @@ module _ (Q : Entry → Type 0) (P : ℤ × Value → Type 0)
 
   shown_in : (e : Entry) (d : Option Dictionary) (nullable : Bool) (fs : List Field) → e.dictionary ≡ d → Q e → e.children ≡ length fs
       → AllByRecursion Shows fs → (depth : ℕ) → AllByRecursion Q (all_at depth (map preorder fs)) → (value : Value)
-      → IsOwn e.kind nullable (length fs) (out-Value value) → InnerFit Fits e.kind fs (out-Value value)
-      → AllByRecursion P (pairs_in d e.kind (map pairs fs) value)
+      → FitsOwnType e.kind nullable (length fs) (out-Value value) → InnerFit Fits e.kind fs (out-Value value)
+      → AllByRecursion P (value_pairs d e.kind (map pairs fs) value)
   shown_in e None nullable fs is q many shows depth h value own inner = inner_shown e.kind fs shows depth h (out-Value value) inner
   shown_in e (Some d) nullable fs is q many shows depth h value own inner =
       own_shown d.id value (out-Value value)
-      (gives e d nullable value is q (subst (λ (n : ℕ). IsOwn e.kind nullable n (out-Value value)) (sym many) own))
+      (gives e d nullable value is q (subst (λ (n : ℕ). FitsOwnType e.kind nullable n (out-Value value)) (sym many) own))
 
   abbrev Showing : Type 0
   Showing = (f : Field) × Shows f

@@ -6,11 +6,11 @@ use Rattle.ipc_model.specs.declared.value.Value.{Value}
 use Rattle.ipc_dict.specs.declared.entry.TallyEntry.{TallyEntry}
 use Rattle.ipc_dict.specs.Noting.{note_entry, note_one, note_all}
 use Rattle.ipc_dict.specs.Pairs.{row_pairs, rows_pairs}
-use Rattle.ipc_dict.specs.SchemaIds.{tally_bounds, tally_ids, unused}
+use Rattle.ipc_dict.specs.SchemaIds.{tally_bounds, tally_ids, empty_entries}
 use Rattle.ipc_dict.specs.Counted.{HoldsRows}
 use Rattle.ipc_dict.proofs.OneId.{holds_distinct}
 use Rattle.ipc_dict.proofs.SchemaIds.{unused-noted_for}
-use Rattle.ipc_dict.specs.Distinct.{seen_all}
+use Rattle.ipc_dict.specs.Distinct.{with_all_distinct}
 use Rattle.ipc_dict.specs.Noting.{of_id}
 
 pub rows-step : (fs : List Field) (rs : List (List Value)) (i : ℕ) (r : List Value) → i < length rs → r ≡ get_or rs i r
@@ -47,7 +47,7 @@ bounds_note_all t (p ∷ ps) = bounds_note_all (note_one t p.0 p.1) ps ∙ bound
 
 -- what was counted of the rows are their distinct values
 pub holds_rows : (fields : List Field) (rows : List (List Value))
-    → HoldsRows fields rows (note_all (unused fields) (rows_pairs fields rows))
+    → HoldsRows fields rows (note_all (empty_entries fields) (rows_pairs fields rows))
 holds_rows fields rows id =
-    holds_distinct (unused fields) (rows_pairs fields rows) id
-    ∙ unused-noted_for fields id (λ xs. seen_all xs (of_id id (rows_pairs fields rows)))
+    holds_distinct (empty_entries fields) (rows_pairs fields rows) id
+    ∙ unused-noted_for fields id (λ xs. with_all_distinct xs (of_id id (rows_pairs fields rows)))

@@ -9,8 +9,8 @@ use Rattle.std.proofs.lemmas.Bool.Decides.{Decides-int_eq}
 use Rattle.ipc_model.specs.declared.value.Value.{Value}
 use Rattle.ipc_model.specs.declared.schema.Dictionary.{Dictionary}
 use Rattle.ipc_dict.specs.declared.entry.TallyEntry.{TallyEntry}
-use Rattle.ipc_dict.specs.Noting.{noted_for}
-use Rattle.ipc_dict.specs.SchemaIds.{count_of, fresh, with_field, with_fields, of_fields}
+use Rattle.ipc_dict.specs.Noting.{values_noted_for}
+use Rattle.ipc_dict.specs.SchemaIds.{index_capacity, fresh, with_field, with_fields, of_fields}
 use Rattle.ipc_dict.specs.SchemaEntries.{first_place, counts_for, least, AreInOrder, AreEntries, AreOfSchema}
 use Rattle.ipc_dict.proofs.Places.{position-append, position-end}
 use Rattle.ipc_dict.proofs.SchemaIds.{lowered}
@@ -26,24 +26,24 @@ least-end [] n = omega arith
 least-end (m ∷ ns) n = omega (arith, least-end ns n)
 
 module _ (d : Dictionary) (id : ℤ) where
-  counts-one : (ds : List Dictionary) → int_eq d.id id ≡ true → counts_for (ds ++ d ∷ []) id ≡ counts_for ds id ++ count_of d ∷ []
-  counts-one [] h = ap (λ b. cond b (count_of d ∷ []) []) h
+  counts-one : (ds : List Dictionary) → int_eq d.id id ≡ true → counts_for (ds ++ d ∷ []) id ≡ counts_for ds id ++ index_capacity d ∷ []
+  counts-one [] h = ap (λ b. cond b (index_capacity d ∷ []) []) h
   counts-one (x ∷ ds) h =
-      elim (int_eq x.id id) as (λ b. cond b (count_of x ∷ counts_for (ds ++ d ∷ []) id) (counts_for (ds ++ d ∷ []) id)
-      ≡ cond b (count_of x ∷ counts_for ds id) (counts_for ds id) ++ count_of d ∷ [])
-      [ true ↦ ap (λ l. count_of x ∷ l) (counts-one ds h) | false ↦ counts-one ds h ]
+      elim (int_eq x.id id) as (λ b. cond b (index_capacity x ∷ counts_for (ds ++ d ∷ []) id) (counts_for (ds ++ d ∷ []) id)
+      ≡ cond b (index_capacity x ∷ counts_for ds id) (counts_for ds id) ++ index_capacity d ∷ [])
+      [ true ↦ ap (λ l. index_capacity x ∷ l) (counts-one ds h) | false ↦ counts-one ds h ]
 
   counts-other : (ds : List Dictionary) → int_eq d.id id ≡ false → counts_for (ds ++ d ∷ []) id ≡ counts_for ds id
-  counts-other [] h = ap (λ b. cond b (count_of d ∷ []) []) h
+  counts-other [] h = ap (λ b. cond b (index_capacity d ∷ []) []) h
   counts-other (x ∷ ds) h =
-      ap (λ l. cond (int_eq x.id id) (count_of x ∷ l) l) (counts-other ds h)
+      ap (λ l. cond (int_eq x.id id) (index_capacity x ∷ l) l) (counts-other ds h)
 
 counts-none : (ds : List Dictionary) (id : ℤ) → list_any (λ d. int_eq d.id id) ds ≡ false → counts_for ds id ≡ []
 counts-none [] id h = refl
 counts-none (x ∷ ds) id h = by (counts-none ds id) (int_eq x.id id) h
   where
     by : (list_any (λ d. int_eq d.id id) ds ≡ false → counts_for ds id ≡ []) → (b : Bool) → (b || list_any (λ d. int_eq d.id id) ds) ≡ false
-        → cond b (count_of x ∷ counts_for ds id) (counts_for ds id) ≡ []
+        → cond b (index_capacity x ∷ counts_for ds id) (counts_for ds id) ≡ []
     by rest true h = absurd (true≢false h)
     by rest false h = rest h
 
@@ -91,7 +91,8 @@ module _ (ds : List Dictionary) (d : Dictionary) where
               let there : first_place ds e.id ≡ Some k = ap (first_place ds) (sym ((Decides-int_eq d.id e.id).0 q)) ∙ at in
               absurd (omega (arith, one-place k m (first_place ds e.id) there place))
 
-  ordered : (from : ℕ) (es : List TallyEntry) → from ≤ length ds → (list_any (λ x. int_eq x.id d.id) ds ≡ true → IsSome (noted_for es d.id))
+  ordered : (from : ℕ) (es : List TallyEntry) → from ≤ length ds → (list_any (λ x. int_eq x.id d.id) ds ≡ true
+      → IsSome (values_noted_for es d.id))
       → AreInOrder ds from es → AreInOrder (ds ++ d ∷ []) from (with_field es d)
   ordered from [] short known h = by (list_any (λ x. int_eq x.id d.id) ds) refl
     where
@@ -106,7 +107,10 @@ module _ (ds : List Dictionary) (d : Dictionary) where
           short,
           (
             position-end (λ x. int_eq x.id d.id) ds d e mine,
-            (omega (arith, ap least (counts-one d d.id ds mine ∙ ap (λ l. l ++ count_of d ∷ []) (counts-none ds d.id e))), (refl, tt)),
+            (
+              omega (arith, ap least (counts-one d d.id ds mine ∙ ap (λ l. l ++ index_capacity d ∷ []) (counts-none ds d.id e))),
+              (refl, tt),
+            ),
           ),
         ),
       )
@@ -114,9 +118,10 @@ module _ (ds : List Dictionary) (d : Dictionary) where
       let in_bounds : k < length ds = (position-Some (λ x. int_eq x.id e.id) ds k d place).0 in
       by (λ known. ordered (k + 1) es (omega (arith, in_bounds)) known rest) (int_eq e.id d.id) refl known
     where
-      by : ((list_any (λ x. int_eq x.id d.id) ds ≡ true → IsSome (noted_for es d.id)) → AreInOrder (ds ++ d ∷ []) (k + 1) (with_field es d))
+      by : ((list_any (λ x. int_eq x.id d.id) ds ≡ true → IsSome (values_noted_for es d.id))
+          → AreInOrder (ds ++ d ∷ []) (k + 1) (with_field es d))
           → (b : Bool) → int_eq e.id d.id ≡ b
-          → (list_any (λ x. int_eq x.id d.id) ds ≡ true → IsSome (cond b (Some e.values) (noted_for es d.id)))
+          → (list_any (λ x. int_eq x.id d.id) ds ≡ true → IsSome (cond b (Some e.values) (values_noted_for es d.id)))
           → AreInOrder (ds ++ d ∷ []) from (cond b (lowered d e ∷ es) (e ∷ with_field es d))
       by later true q known =
           let at : first_place ds d.id ≡ Some k = ap (first_place ds) (sym ((Decides-int_eq e.id d.id).0 q)) ∙ place in (
@@ -126,7 +131,12 @@ module _ (ds : List Dictionary) (d : Dictionary) where
               (
                 more-place e.id k place,
                 (
-                  omega (arith, limit, least-end (counts_for ds e.id) (count_of d), ap least (counts-one d e.id ds (same-id e.id d.id q))),
+                  omega (
+                    arith,
+                    limit,
+                    least-end (counts_for ds e.id) (index_capacity d),
+                    ap least (counts-one d e.id ds (same-id e.id d.id q)),
+                  ),
                   (none, more (k + 1) k es at (omega arith) rest),
                 ),
               ),
@@ -148,39 +158,40 @@ module _ (ds : List Dictionary) (d : Dictionary) where
 
 -- ---- each has its entry
 
-some-with_field : (es : List TallyEntry) (d : Dictionary) (id : ℤ) → IsSome (noted_for es id) → IsSome (noted_for (with_field es d) id)
+some-with_field : (es : List TallyEntry) (d : Dictionary) (id : ℤ) → IsSome (values_noted_for es id)
+    → IsSome (values_noted_for (with_field es d) id)
 some-with_field [] d id h = absurd (true≢false (sym h))
 some-with_field (e ∷ es) d id h = by (some-with_field es d id) (int_eq e.id d.id) (int_eq e.id id) refl h
   where
-    by : (IsSome (noted_for es id) → IsSome (noted_for (with_field es d) id)) → (b c : Bool) → int_eq e.id id ≡ c
-        → IsSome (cond c (Some e.values) (noted_for es id))
-        → IsSome (noted_for (cond b (lowered d e ∷ es) (e ∷ with_field es d)) id)
-    by rest true c q h = subst (λ x. IsSome (cond x (Some e.values) (noted_for es id))) (sym q) h
-    by rest false true q h = subst (λ x. IsSome (cond x (Some e.values) (noted_for (with_field es d) id))) (sym q) refl
-    by rest false false q h = subst (λ x. IsSome (cond x (Some e.values) (noted_for (with_field es d) id))) (sym q) (rest h)
+    by : (IsSome (values_noted_for es id) → IsSome (values_noted_for (with_field es d) id)) → (b c : Bool) → int_eq e.id id ≡ c
+        → IsSome (cond c (Some e.values) (values_noted_for es id))
+        → IsSome (values_noted_for (cond b (lowered d e ∷ es) (e ∷ with_field es d)) id)
+    by rest true c q h = subst (λ x. IsSome (cond x (Some e.values) (values_noted_for es id))) (sym q) h
+    by rest false true q h = subst (λ x. IsSome (cond x (Some e.values) (values_noted_for (with_field es d) id))) (sym q) refl
+    by rest false false q h = subst (λ x. IsSome (cond x (Some e.values) (values_noted_for (with_field es d) id))) (sym q) (rest h)
 
-own-with_field : (es : List TallyEntry) (d : Dictionary) → IsSome (noted_for (with_field es d) d.id)
+own-with_field : (es : List TallyEntry) (d : Dictionary) → IsSome (values_noted_for (with_field es d) d.id)
 own-with_field [] d = subst (λ b. IsSome {T = List Value} (cond b (Some []) None)) (sym ((Decides-int_eq d.id d.id).1 refl)) refl
 own-with_field (e ∷ es) d = by (own-with_field es d) (int_eq e.id d.id) refl
   where
-    by : IsSome (noted_for (with_field es d) d.id) → (b : Bool) → int_eq e.id d.id ≡ b
-        → IsSome (noted_for (cond b (lowered d e ∷ es) (e ∷ with_field es d)) d.id)
-    by rest true q = subst (λ x. IsSome (cond x (Some e.values) (noted_for es d.id))) (sym q) refl
-    by rest false q = subst (λ x. IsSome (cond x (Some e.values) (noted_for (with_field es d) d.id))) (sym q) rest
+    by : IsSome (values_noted_for (with_field es d) d.id) → (b : Bool) → int_eq e.id d.id ≡ b
+        → IsSome (values_noted_for (cond b (lowered d e ∷ es) (e ∷ with_field es d)) d.id)
+    by rest true q = subst (λ x. IsSome (cond x (Some e.values) (values_noted_for es d.id))) (sym q) refl
+    by rest false q = subst (λ x. IsSome (cond x (Some e.values) (values_noted_for (with_field es d) d.id))) (sym q) rest
 
-all-with_field : (es : List TallyEntry) (d : Dictionary) (ds : List Dictionary) → AllByRecursion (λ x. IsSome (noted_for es x.id)) ds
-    → AllByRecursion (λ x. IsSome (noted_for (with_field es d) x.id)) (ds ++ d ∷ [])
+all-with_field : (es : List TallyEntry) (d : Dictionary) (ds : List Dictionary) → AllByRecursion (λ x. IsSome (values_noted_for es x.id)) ds
+    → AllByRecursion (λ x. IsSome (values_noted_for (with_field es d) x.id)) (ds ++ d ∷ [])
 all-with_field es d [] h = (own-with_field es d, tt)
 all-with_field es d (x ∷ ds) h = (some-with_field es d x.id h.0, all-with_field es d ds h.1)
 
-known-id : (es : List TallyEntry) (id : ℤ) (ds : List Dictionary) → AllByRecursion (λ x. IsSome (noted_for es x.id)) ds
-    → list_any (λ x. int_eq x.id id) ds ≡ true → IsSome (noted_for es id)
+known-id : (es : List TallyEntry) (id : ℤ) (ds : List Dictionary) → AllByRecursion (λ x. IsSome (values_noted_for es x.id)) ds
+    → list_any (λ x. int_eq x.id id) ds ≡ true → IsSome (values_noted_for es id)
 known-id es id [] h there = absurd (true≢false (sym there))
 known-id es id (x ∷ ds) h there = by (known-id es id ds h.1) (int_eq x.id id) refl there
   where
-    by : (list_any (λ y. int_eq y.id id) ds ≡ true → IsSome (noted_for es id)) → (b : Bool) → int_eq x.id id ≡ b
-        → (b || list_any (λ y. int_eq y.id id) ds) ≡ true → IsSome (noted_for es id)
-    by rest true q t = subst (λ z. IsSome (noted_for es z)) ((Decides-int_eq x.id id).0 q) h.0
+    by : (list_any (λ y. int_eq y.id id) ds ≡ true → IsSome (values_noted_for es id)) → (b : Bool) → int_eq x.id id ≡ b
+        → (b || list_any (λ y. int_eq y.id id) ds) ≡ true → IsSome (values_noted_for es id)
+    by rest true q t = subst (λ z. IsSome (values_noted_for es z)) ((Decides-int_eq x.id id).0 q) h.0
     by rest false q t = rest t
 
 -- ---- all of them

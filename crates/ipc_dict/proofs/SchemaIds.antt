@@ -7,12 +7,12 @@ use Rattle.ipc_model.specs.declared.value.Value.{Value}
 use Rattle.ipc_model.specs.declared.schema.Dictionary.{Dictionary}
 use Rattle.ipc_model.specs.declared.schema.Field.{Field}
 use Rattle.ipc_dict.specs.declared.entry.TallyEntry.{TallyEntry}
-use Rattle.ipc_dict.specs.Noting.{AllFit, noted_for}
-use Rattle.ipc_dict.specs.SchemaIds.{count_of, fresh, with_field, with_fields, unused, of_fields}
+use Rattle.ipc_dict.specs.Noting.{AllFit, values_noted_for}
+use Rattle.ipc_dict.specs.SchemaIds.{index_capacity, fresh, with_field, with_fields, empty_entries, of_fields}
 
 module _ (d : Dictionary) where
   abbrev pub lowered : TallyEntry → TallyEntry
-  lowered e = record e { limit = min e.limit (count_of d) }
+  lowered e = record e { limit = min e.limit (index_capacity d) }
 
   -- where no entry has the id, a fresh one goes last
   pub absent-with_field : (t : List TallyEntry) → ((k : ℕ) (x : TallyEntry) → k < length t → int_eq (get_or t k x).id d.id ≡ false)
@@ -25,7 +25,7 @@ module _ (d : Dictionary) where
   -- where one has it, its limit alone changes
   pub set-with_field : (t : List TallyEntry) (i : ℕ) (x : TallyEntry) → i < length t → int_eq (get_or t i x).id d.id ≡ true
       → ((k : ℕ) → k < i → int_eq (get_or t k x).id d.id ≡ false) → x ≡ get_or t i x
-      → set t i (record x { limit = min x.limit (count_of d) }) ≡ with_field t d
+      → set t i (record x { limit = min x.limit (index_capacity d) }) ≡ with_field t d
   set-with_field [] i x h at before same = absurd (omega arith)
   set-with_field (e ∷ es) zero x h at before same =
       ap (λ y. lowered y ∷ es) same ∙ sym (ap (λ b. cond b (lowered e ∷ es) (e ∷ with_field es d)) at)
@@ -53,17 +53,17 @@ fit-empty : (t : List TallyEntry) → AllEmpty t → AllFit t
 fit-empty [] h = tt
 fit-empty (e ∷ es) h = (omega (arith, h.0), fit-empty es h.1)
 
-pub fit-unused : (fields : List Field) → AllFit (unused fields)
-fit-unused fields = fit-empty (unused fields) (empty-with_fields [] (of_fields fields) tt)
+pub fit-unused : (fields : List Field) → AllFit (empty_entries fields)
+fit-unused fields = fit-empty (empty_entries fields) (empty-with_fields [] (of_fields fields) tt)
 
 -- ---- what they hold of one id
 
 empty-noted_for : (t : List TallyEntry) (id : ℤ) (f : List Value → List Value) → AllEmpty t
-    → option_map f (noted_for t id) ≡ option_map (λ none. f []) (noted_for t id)
+    → option_map f (values_noted_for t id) ≡ option_map (λ none. f []) (values_noted_for t id)
 empty-noted_for [] id f h = refl
 empty-noted_for (e ∷ es) id f h =
-    elim (int_eq e.id id) as (λ b. option_map f (cond b (Some e.values) (noted_for es id))
-    ≡ option_map (λ none. f []) (cond b (Some e.values) (noted_for es id))) [
+    elim (int_eq e.id id) as (λ b. option_map f (cond b (Some e.values) (values_noted_for es id))
+    ≡ option_map (λ none. f []) (cond b (Some e.values) (values_noted_for es id))) [
       | true ↦ ap (λ xs. Some (f xs)) (no_items e.values h.0)
       | false ↦ empty-noted_for es id f h.1
     ]
@@ -73,5 +73,5 @@ empty-noted_for (e ∷ es) id f h =
     no_items (x ∷ xs) z = absurd (omega (arith, z))
 
 pub unused-noted_for : (fields : List Field) (id : ℤ) (f : List Value → List Value)
-    → option_map f (noted_for (unused fields) id) ≡ option_map (λ none. f []) (noted_for (unused fields) id)
-unused-noted_for fields id f = empty-noted_for (unused fields) id f (empty-with_fields [] (of_fields fields) tt)
+    → option_map f (values_noted_for (empty_entries fields) id) ≡ option_map (λ none. f []) (values_noted_for (empty_entries fields) id)
+unused-noted_for fields id f = empty-noted_for (empty_entries fields) id f (empty-with_fields [] (of_fields fields) tt)

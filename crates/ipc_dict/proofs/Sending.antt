@@ -14,13 +14,14 @@ use Rattle.ipc_model.specs.declared.schema.Field.{Field}
 use Rattle.ipc_model.specs.declared.value.Value.{Value}
 use Rattle.ipc_dict.specs.declared.entry.TallyEntry.{TallyEntry}
 use Rattle.ipc_dict.specs.declared.kept.KeptEntry.{KeptEntry}
-use Rattle.ipc_dict.specs.Distinct.{same, is_seen, place}
+use Rattle.ipc_dict.specs.Distinct.{same, is_among, first_index}
 use Rattle.ipc_dict.specs.Counted.{HoldsRows}
-use Rattle.ipc_dict.specs.Noting.{AllFit, noted_for}
-use Rattle.ipc_dict.specs.Planning.{AreNumbers, IsSettled, AllSettled, SameIds, after, after_all, own_send, sends_of, sent_for}
+use Rattle.ipc_dict.specs.Noting.{AllFit, values_noted_for}
+use Rattle.ipc_dict.specs.Planning.{AreFirstIndices, IsSettled, AllSettled, SameIds, values_after, after_all, own_send, sends_of, sent_for}
 use Rattle.ipc_dict.specs.Pairs.{rows_pairs}
-use Rattle.ipc_dict.specs.SchemaIds.{count_of, ids_of, kept_ids, of_fields, tally_ids, unsent, unused}
-use Rattle.ipc_dict.specs.Sending.{AreAddressed, AreCounted, batch_values, needed, needed_of, tallied, sent_next, sent_after}
+use Rattle.ipc_dict.specs.SchemaIds.{index_capacity, ids_of, kept_ids, of_fields, tally_ids, nothing_sent, empty_entries}
+use Rattle.ipc_dict.specs.Sending.{AreAddressed, AreCounted, batch_values, dictionaries_to_send, needed_of, tally_of_rows, sent_next}
+use Rattle.ipc_dict.specs.Sending.{sent_after}
 use Rattle.ipc_dict.proofs.CoveredIndices.{has_entry, noted_counts}
 use Rattle.ipc_dict.proofs.Ids.{same_ids}
 use Rattle.ipc_dict.proofs.Rows.{holds_rows, ids_note_all}
@@ -33,29 +34,29 @@ keys-alone [] = refl
 keys-alone (x ∷ xs) = ap (λ l. x ∷ l) (keys-alone xs)
 
 -- a value has a place exactly where it is among the values
-pub placed-seen : (v : Value) (xs : List Value) → is_some (place v xs) ≡ is_seen xs v
+pub placed-seen : (v : Value) (xs : List Value) → is_some (first_index v xs) ≡ is_among xs v
 placed-seen v xs =
     let es : List (Value × Bool) = map (λ (x : Value). (x, true)) xs in
-    ap (λ l. is_some (place v l)) (sym (keys-alone xs)) ∙ some_index (same v) es ∙ is_some-lookup (same v) es
+    ap (λ l. is_some (first_index v l)) (sym (keys-alone xs)) ∙ some_index (same v) es ∙ is_some-lookup (same v) es
     ∙ ap (list_any (same v)) (keys-alone xs)
 
-all_seen : (known values : List Value) (to : List ℕ) → AreNumbers known values to → list_all (is_seen known) values ≡ true
+all_seen : (known values : List Value) (to : List ℕ) → AreFirstIndices known values to → list_all (is_among known) values ≡ true
 all_seen known [] to h = refl
 all_seen known (v ∷ values) [] h = absurd cc
 all_seen known (v ∷ values) (i ∷ to) h =
-    let head : place v known ≡ Some i = cc in
-    let rest : AreNumbers known values to = cc in
-    ap (λ b. b && list_all (is_seen known) values) (sym (placed-seen v known) ∙ ap is_some head) ∙ all_seen known values to rest
+    let head : first_index v known ≡ Some i = cc in
+    let rest : AreFirstIndices known values to = cc in
+    ap (λ b. b && list_all (is_among known) values) (sym (placed-seen v known) ∙ ap is_some head) ∙ all_seen known values to rest
 
 settled_next : (sent : Option (List Value)) (values : List Value) (o : Option (List ℕ)) → IsSettled sent values o
-    → after sent values o ≡ sent_next sent values
+    → values_after sent values o ≡ sent_next sent values
 settled_next None values None h = refl
 settled_next None values (Some to) h = absurd h
 settled_next (Some known) values (Some to) h = sym (ap (λ b. cond b (Some known) (Some values)) (all_seen known values to h))
 settled_next (Some known) values None (v, (there, none)) =
-    let unseen : is_seen known v ≡ false = sym (placed-seen v known) ∙ ap is_some none in
-    let lacks : list_all (is_seen known) values ≡ false =
-    list_all_at (is_seen known) values there.0 v there.1 (ap (is_seen known) there.2 ∙ unseen) in
+    let unseen : is_among known v ≡ false = sym (placed-seen v known) ∙ ap is_some none in
+    let lacks : list_all (is_among known) values ≡ false =
+    list_all_at (is_among known) values there.0 v there.1 (ap (is_among known) there.2 ∙ unseen) in
     sym (ap (λ b. cond b (Some known) (Some values)) lacks)
 
 settled_needs : (sent : Option (List Value)) (n : TallyEntry) (o : Option (List ℕ)) → IsSettled sent n.values o
@@ -65,9 +66,9 @@ settled_needs None n (Some to) h = absurd h
 settled_needs (Some known) n (Some to) h =
     sym (ap (λ b. cond b [] ((n.id, map (λ v. v ∷ []) n.values) ∷ [])) (all_seen known n.values to h))
 settled_needs (Some known) n None (v, (there, none)) =
-    let unseen : is_seen known v ≡ false = sym (placed-seen v known) ∙ ap is_some none in
-    let lacks : list_all (is_seen known) n.values ≡ false =
-    list_all_at (is_seen known) n.values there.0 v there.1 (ap (is_seen known) there.2 ∙ unseen) in
+    let unseen : is_among known v ≡ false = sym (placed-seen v known) ∙ ap is_some none in
+    let lacks : list_all (is_among known) n.values ≡ false =
+    list_all_at (is_among known) n.values there.0 v there.1 (ap (is_among known) there.2 ∙ unseen) in
     sym (ap (λ b. cond b [] ((n.id, map (λ v. v ∷ []) n.values) ∷ [])) lacks)
 
 -- ---- all of them
@@ -88,7 +89,7 @@ module _ (fields : List Field) (rows : List (List Value)) where
       ∙ ap (λ l. record k { values = sent_next k.values (batch_values fields rows k.id) } ∷ l) (all_next ks es os ids.1 settled.1 each.1)
 
   all_needed : (ks : List KeptEntry) (es : List TallyEntry) (os : List (Option (List ℕ))) → SameIds ks es → AllSettled ks es os
-      → HoldEach es → sends_of es os ≡ needed fields rows ks
+      → HoldEach es → sends_of es os ≡ dictionaries_to_send fields rows ks
   all_needed [] [] [] ids settled each = refl
   all_needed [] [] (o ∷ os) ids settled each = absurd settled
   all_needed [] (e ∷ es) os ids settled each = absurd ids
@@ -104,19 +105,19 @@ module _ (fields : List Field) (rows : List (List Value)) where
   -- ---- each entry is found by its id
 
   abbrev AllFound : List TallyEntry → List TallyEntry → Type 0
-  AllFound all es = AllByRecursion (λ e. noted_for all e.id ≡ Some e.values) es
+  AllFound all es = AllByRecursion (λ e. values_noted_for all e.id ≡ Some e.values) es
 
   found-behind : (e : TallyEntry) (all es : List TallyEntry) → IsOther e.id (tally_ids es) → AllFound all es → AllFound (e ∷ all) es
   found-behind e all [] other found = tt
   found-behind e all (x ∷ es) other found = (
-    ap (λ b. cond b (Some e.values) (noted_for all x.id)) (flipped x.id e.id other.0) ∙ found.0,
+    ap (λ b. cond b (Some e.values) (values_noted_for all x.id)) (flipped x.id e.id other.0) ∙ found.0,
     found-behind e all es other.1 found.1,
   )
 
   found-each : (es : List TallyEntry) → AreUnique (tally_ids es) → AllFound es es
   found-each [] unique = tt
   found-each (e ∷ es) unique = (
-    ap (λ b. cond b (Some e.values) (noted_for es e.id)) ((Decides-int_eq e.id e.id).1 refl),
+    ap (λ b. cond b (Some e.values) (values_noted_for es e.id)) ((Decides-int_eq e.id e.id).1 refl),
     found-behind e es es unique.0 (found-each es unique.1),
   )
 
@@ -127,32 +128,32 @@ module _ (fields : List Field) (rows : List (List Value)) where
   hold_each : (all es : List TallyEntry) → HoldsRows fields rows all → AllFound all es → HoldEach es
   hold_each all [] holds found = tt
   hold_each all (e ∷ es) holds found = (
-    one_value e.values (batch_values fields rows e.id) (noted_for (unused fields) e.id) (sym found.0 ∙ holds e.id),
+    one_value e.values (batch_values fields rows e.id) (values_noted_for (empty_entries fields) e.id) (sym found.0 ∙ holds e.id),
     hold_each all es holds found.1,
   )
 
-  pub tallied_ids : tally_ids (tallied fields rows) ≡ ids_of fields
-  tallied_ids = ids_note_all (unused fields) (rows_pairs fields rows)
+  pub tallied_ids : tally_ids (tally_of_rows fields rows) ≡ ids_of fields
+  tallied_ids = ids_note_all (empty_entries fields) (rows_pairs fields rows)
 
-  pub tallied_unique : AreUnique (tally_ids (tallied fields rows))
+  pub tallied_unique : AreUnique (tally_ids (tally_of_rows fields rows))
   tallied_unique = subst AreUnique (sym tallied_ids) (unique_ids fields)
 
   -- the entries of a tally have the distinct values of the rows
-  pub tallied_values : HoldEach (tallied fields rows)
-  tallied_values = hold_each (tallied fields rows) (tallied fields rows) (holds_rows fields rows)
-      (found-each (tallied fields rows) tallied_unique)
+  pub tallied_values : HoldEach (tally_of_rows fields rows)
+  tallied_values = hold_each (tally_of_rows fields rows) (tally_of_rows fields rows) (holds_rows fields rows)
+      (found-each (tally_of_rows fields rows) tallied_unique)
 
   -- what a plan leaves of what was sent
   pub sent_is : (kept : List KeptEntry) (os : List (Option (List ℕ))) → kept_ids kept ≡ ids_of fields
-      → AllSettled kept (tallied fields rows) os → after_all kept (tallied fields rows) os ≡ sent_after fields rows kept
-  sent_is kept os ids settled = all_next kept (tallied fields rows) os
-      (same_ids kept (tallied fields rows) (ids ∙ sym tallied_ids)) settled tallied_values
+      → AllSettled kept (tally_of_rows fields rows) os → after_all kept (tally_of_rows fields rows) os ≡ sent_after fields rows kept
+  sent_is kept os ids settled = all_next kept (tally_of_rows fields rows) os
+      (same_ids kept (tally_of_rows fields rows) (ids ∙ sym tallied_ids)) settled tallied_values
 
   -- what a plan sends
   pub needed_is : (kept : List KeptEntry) (os : List (Option (List ℕ))) → kept_ids kept ≡ ids_of fields
-      → AllSettled kept (tallied fields rows) os → sends_of (tallied fields rows) os ≡ needed fields rows kept
-  needed_is kept os ids settled = all_needed kept (tallied fields rows) os
-      (same_ids kept (tallied fields rows) (ids ∙ sym tallied_ids)) settled tallied_values
+      → AllSettled kept (tally_of_rows fields rows) os → sends_of (tally_of_rows fields rows) os ≡ dictionaries_to_send fields rows kept
+  needed_is kept os ids settled = all_needed kept (tally_of_rows fields rows) os
+      (same_ids kept (tally_of_rows fields rows) (ids ∙ sym tallied_ids)) settled tallied_values
 
 -- ---- how many values are sent
 
@@ -174,49 +175,50 @@ sent_for_after fields rows (k ∷ kept) id = by (sent_for_after fields rows kept
 
 -- the values of a batch are no more than each index type counts
 batch_counts : (fields : List Field) (rows : List (List Value)) (d : Dictionary) → Contains (of_fields fields) d
-    → AllFit (tallied fields rows) → length (batch_values fields rows d.id) ≤ count_of d
-batch_counts fields rows d named fit = by (noted_for (unused fields) d.id) refl (has_entry fields d named)
+    → AllFit (tally_of_rows fields rows) → length (batch_values fields rows d.id) ≤ index_capacity d
+batch_counts fields rows d named fit = by (values_noted_for (empty_entries fields) d.id) refl (has_entry fields d named)
   where
-    by : (o : Option (List Value)) → noted_for (unused fields) d.id ≡ o → IsSome o → length (batch_values fields rows d.id) ≤ count_of d
+    by : (o : Option (List Value)) → values_noted_for (empty_entries fields) d.id ≡ o → IsSome o → length (batch_values fields rows d.id)
+        ≤ index_capacity d
     by None e some = absurd (true≢false (sym some))
     by (Some none) e some = noted_counts fields (rows_pairs fields rows) d (batch_values fields rows d.id) named fit
         (holds_rows fields rows d.id ∙ ap (option_map (λ none. batch_values fields rows d.id)) e)
 
 -- so are those that were sent, where those before were
-pub counted_after : (fields : List Field) (rows : List (List Value)) (kept : List KeptEntry) → AllFit (tallied fields rows)
+pub counted_after : (fields : List Field) (rows : List (List Value)) (kept : List KeptEntry) → AllFit (tally_of_rows fields rows)
     → AreCounted fields kept → AreCounted fields (sent_after fields rows kept)
 counted_after fields rows kept fit before d named =
-    subst (λ o. IfSome o (λ known. length known ≤ count_of d)) (sym (sent_for_after fields rows kept d.id))
+    subst (λ o. IfSome o (λ known. length known ≤ index_capacity d)) (sym (sent_for_after fields rows kept d.id))
     (by (list_any (λ e. int_eq e.id d.id) kept) (sent_for kept d.id) (before d named))
   where
-    few : length (batch_values fields rows d.id) ≤ count_of d
+    few : length (batch_values fields rows d.id) ≤ index_capacity d
     few = batch_counts fields rows d named fit
 
-    next : (known : List Value) → length known ≤ count_of d → (b : Bool)
-        → IfSome (cond b (Some known) (Some (batch_values fields rows d.id))) (λ known. length known ≤ count_of d)
+    next : (known : List Value) → length known ≤ index_capacity d → (b : Bool)
+        → IfSome (cond b (Some known) (Some (batch_values fields rows d.id))) (λ known. length known ≤ index_capacity d)
     next known h true = h
     next known h false = few
 
-    by : (b : Bool) (o : Option (List Value)) → IfSome o (λ known. length known ≤ count_of d)
-        → IfSome (cond b (sent_next o (batch_values fields rows d.id)) None) (λ known. length known ≤ count_of d)
+    by : (b : Bool) (o : Option (List Value)) → IfSome o (λ known. length known ≤ index_capacity d)
+        → IfSome (cond b (sent_next o (batch_values fields rows d.id)) None) (λ known. length known ≤ index_capacity d)
     by false o h = tt
     by true None h = few
-    by true (Some known) h = next known h (list_all (is_seen known) (batch_values fields rows d.id))
+    by true (Some known) h = next known h (list_all (is_among known) (batch_values fields rows d.id))
 
 -- ---- where nothing was sent
 
-pub sent_unsent : (ids : List ℤ) (id : ℤ) → sent_for (unsent ids) id ≡ None
+pub sent_unsent : (ids : List ℤ) (id : ℤ) → sent_for (nothing_sent ids) id ≡ None
 sent_unsent [] id = refl
 sent_unsent (i ∷ ids) id = by (sent_unsent ids id) (int_eq i id)
   where
-    by : sent_for (unsent ids) id ≡ None → (b : Bool) → cond b None (sent_for (unsent ids) id) ≡ None
+    by : sent_for (nothing_sent ids) id ≡ None → (b : Bool) → cond b None (sent_for (nothing_sent ids) id) ≡ None
     by rest true = refl
     by rest false = rest
 
 -- nothing that was sent is counted by each index type
-pub none_counted : (fields : List Field) → AreCounted fields (unsent (ids_of fields))
+pub none_counted : (fields : List Field) → AreCounted fields (nothing_sent (ids_of fields))
 none_counted fields d named =
-    subst (λ o. IfSome o (λ known. length known ≤ count_of d)) (sym (sent_unsent (ids_of fields) d.id)) tt
+    subst (λ o. IfSome o (λ known. length known ≤ index_capacity d)) (sym (sent_unsent (ids_of fields) d.id)) tt
 
 -- ---- what is sent by a plan
 
@@ -225,7 +227,7 @@ module _ (id : ℤ) (n : ℕ) where
   abbrev Few : Option (List Value) → Type 0
   Few o = IfSome o (λ values. length values ≤ n)
 
-  few_after : (ks : List KeptEntry) (es : List TallyEntry) (os : List (Option (List ℕ))) → SameIds ks es → Few (noted_for es id)
+  few_after : (ks : List KeptEntry) (es : List TallyEntry) (os : List (Option (List ℕ))) → SameIds ks es → Few (values_noted_for es id)
       → Few (sent_for ks id) → Few (sent_for (after_all ks es os) id)
   few_after [] es os ids noted sent = tt
   few_after (k ∷ ks) [] os ids noted sent = absurd ids
@@ -233,15 +235,15 @@ module _ (id : ℤ) (n : ℕ) where
   few_after (k ∷ ks) (e ∷ es) (o ∷ os) ids noted sent =
       by (few_after ks es os ids.1) (int_eq k.id id) (ap (λ z. int_eq z id) (sym ids.0)) o noted sent
     where
-      by : (Few (noted_for es id) → Few (sent_for ks id) → Few (sent_for (after_all ks es os) id)) → (b : Bool) → int_eq e.id id ≡ b
-          → (p : Option (List ℕ)) → Few (cond (int_eq e.id id) (Some e.values) (noted_for es id))
-          → Few (cond b k.values (sent_for ks id)) → Few (cond b (after k.values e.values p) (sent_for (after_all ks es os) id))
+      by : (Few (values_noted_for es id) → Few (sent_for ks id) → Few (sent_for (after_all ks es os) id)) → (b : Bool) → int_eq e.id id ≡ b
+          → (p : Option (List ℕ)) → Few (cond (int_eq e.id id) (Some e.values) (values_noted_for es id))
+          → Few (cond b k.values (sent_for ks id)) → Few (cond b (values_after k.values e.values p) (sent_for (after_all ks es os) id))
       by rest true q (Some to) noted sent = sent
-      by rest true q None noted sent = subst (λ c. Few (cond c (Some e.values) (noted_for es id))) q noted
-      by rest false q p noted sent = rest (subst (λ c. Few (cond c (Some e.values) (noted_for es id))) q noted) sent
+      by rest true q None noted sent = subst (λ c. Few (cond c (Some e.values) (values_noted_for es id))) q noted
+      by rest false q p noted sent = rest (subst (λ c. Few (cond c (Some e.values) (values_noted_for es id))) q noted) sent
 
 -- where each index type counts the values before and those of a plan, it counts those once the plan was sent
 pub counted_plan : (fields : List Field) (kept : List KeptEntry) (es : List TallyEntry) (os : List (Option (List ℕ)))
     → kept_ids kept ≡ tally_ids es → AreAddressed fields es → AreCounted fields kept → AreCounted fields (after_all kept es os)
 counted_plan fields kept es os ids values before d named =
-    few_after d.id (count_of d) kept es os (same_ids kept es ids) (values d named) (before d named)
+    few_after d.id (index_capacity d) kept es os (same_ids kept es ids) (values d named) (before d named)

@@ -7,35 +7,35 @@ use Rattle.ipc_model.specs.declared.schema.Field.TheOpen.{Field-F}
 use Rattle.ipc_model.specs.declared.layout.Layout.{Layout}
 use Rattle.ipc_model.specs.Layouts.{type_layout, layout, own_buffers}
 use Rattle.ipc_meta.specs.Rooms.{dictionary_room}
-use Rattle.ipc_column.specs.Shapes.{Shape, nodes_in, buffers_in}
-use Rattle.ipc_dictionaries.specs.ValuesColumns.{columns_for, columns_in, values_column, IsOneColumn}
+use Rattle.ipc_column.specs.Shapes.{Shape, node_count, buffer_count}
+use Rattle.ipc_dict_read.specs.ValuesColumns.{columns_for, dictionary_columns, values_column, IsOneColumn}
 use Rattle.ipc_dict.specs.declared.entry.TallyEntry.{TallyEntry}
 use Rattle.ipc_dict.specs.Within.{AllShort, IsSomeLong, dictionary_room_of}
 use Rattle.ipc_dict.proofs.PairsFit.{column_parts, column_shape}
 
 -- one entry more, whose message is short
 pub short_push : (limits : Limits) (fields : List Field) (es : List TallyEntry) (e : TallyEntry) (columns : List Field)
-    → AllShort limits fields es → columns_for (columns_in fields) e.id ≡ Some columns → dictionary_room_of columns ≤ limits.metadata
+    → AllShort limits fields es → columns_for (dictionary_columns fields) e.id ≡ Some columns → dictionary_room_of columns ≤ limits.metadata
     → AllShort limits fields (es ++ e ∷ [])
 short_push limits fields [] e columns h named short = ((columns, (named, short)), tt)
 short_push limits fields (x ∷ es) e columns h named short = (h.0, short_push limits fields es e columns h.1 named short)
 
 -- an entry whose message is long
 pub long_at : (limits : Limits) (fields : List Field) (es : List TallyEntry) (i : ℕ) (e : TallyEntry) (columns : List Field)
-    → i < length es → e ≡ get_or es i e → columns_for (columns_in fields) e.id ≡ Some columns
+    → i < length es → e ≡ get_or es i e → columns_for (dictionary_columns fields) e.id ≡ Some columns
     → limits.metadata < dictionary_room_of columns → IsSomeLong limits fields es
 long_at limits fields [] i e columns inside is named long = absurd (omega (arith, inside))
 long_at limits fields (x ∷ es) zero e columns inside is named long =
-    inl (columns, (ap (λ (y : TallyEntry). columns_for (columns_in fields) y.id) (sym is) ∙ named, long))
+    inl (columns, (ap (λ (y : TallyEntry). columns_for (dictionary_columns fields) y.id) (sym is) ∙ named, long))
 long_at limits fields (x ∷ es) (suc i) e columns inside is named long =
     inr (long_at limits fields es i e columns (omega (arith, inside)) is named long)
 
 -- the message of one column has one node and the buffers of the column's layout
 column_room : (name : List ℕ) (kind : DataType)
     → dictionary_room_of (values_column name kind ∷ []) ≡ dictionary_room 1 (own_buffers (type_layout kind))
-unfolding nodes_in buffers_in
+unfolding node_count buffer_count
 column_room name kind =
-    ap (λ (s : Shape). dictionary_room (nodes_in s) (buffers_in s)) (column_shape name kind)
+    ap (λ (s : Shape). dictionary_room (node_count s) (buffer_count s)) (column_shape name kind)
     ∙ ap (dictionary_room 1) (omega arith)
 
 column_layout : (name : List ℕ) (kind : DataType)

@@ -5,7 +5,7 @@ use Rattle.std.proofs.lemmas.Bool.Decides.{Decides-int_eq}
 use Rattle.ipc_model.specs.declared.schema.Dictionary.{Dictionary}
 use Rattle.ipc_model.specs.declared.schema.Field.{Field}
 use Rattle.ipc_dict.specs.declared.entry.TallyEntry.{TallyEntry}
-use Rattle.ipc_dict.specs.SchemaIds.{with_field, with_fields, unused, of_fields, tally_ids}
+use Rattle.ipc_dict.specs.SchemaIds.{with_field, with_fields, empty_entries, of_fields, tally_ids}
 use Rattle.ipc_dict.proofs.SchemaIds.{lowered}
 
 -- none of the ids is this one
@@ -51,5 +51,5 @@ unique-with_fields es [] u = u
 unique-with_fields es (d ∷ ds) u = unique-with_fields (with_field es d) ds (unique-with_field es d u)
 
 -- the ids of a schema are unique
-pub unique_ids : (fields : List Field) → AreUnique (tally_ids (unused fields))
+pub unique_ids : (fields : List Field) → AreUnique (tally_ids (empty_entries fields))
 unique_ids fields = unique-with_fields [] (of_fields fields) tt

@@ -11,8 +11,8 @@ use Rattle.ipc_model.specs.declared.value.Value.{out-Value, roll-Value, roll-out
 use Rattle.ipc_model.specs.declared.value.Value.TheOpen.{Value-F}
 use Rattle.ipc_model.specs.declared.value.Value.{Value}
 use Rattle.ipc_dict.specs.declared.entry.TallyEntry.{TallyEntry}
-use Rattle.ipc_dict.specs.Noting.{note_all, IsFull}
-use Rattle.ipc_dict.specs.Pairs.{Walk, pairs, pairs_step, inner_pairs, items_pairs, each_pairs, pairs_in}
+use Rattle.ipc_dict.specs.Noting.{note_all, IsIndexOverflow}
+use Rattle.ipc_dict.specs.Pairs.{Walk, pairs, pairs_step, inner_pairs, items_pairs, each_pairs, value_pairs}
 use Rattle.ipc_dict.proofs.Notes.{note_all-append, full-append}
 
 pub items-step : (w : Walk) (vs : List Value) (i : ℕ) (v : Value) → i < length vs → v ≡ get_or vs i v
@@ -29,8 +29,9 @@ module _ (t u w : List TallyEntry) (all left one rest : List (ℤ × Value)) whe
   pub noted-step : note_all u left ≡ note_all t all → left ≡ one ++ rest → w ≡ note_all u one → note_all w rest ≡ note_all t all
   noted-step inv split now = ap (λ x. note_all x rest) now ∙ sym (note_all-append u one rest) ∙ ap (note_all u) (sym split) ∙ inv
 
-  pub full-step : note_all u left ≡ note_all t all → left ≡ one ++ rest → IsFull (note_all u one) → IsFull (note_all t all)
-  full-step inv split h = subst IsFull inv (subst (λ ps. IsFull (note_all u ps)) (sym split) (full-append u one rest h))
+  pub full-step : note_all u left ≡ note_all t all → left ≡ one ++ rest → IsIndexOverflow (note_all u one)
+      → IsIndexOverflow (note_all t all)
+  full-step inv split h = subst IsIndexOverflow inv (subst (λ ps. IsIndexOverflow (note_all u ps)) (sym split) (full-append u one rest h))
 
 out-Struct : (ws : List Value) → out-Value (value.Struct ws) ≡ Value-F.Struct ws
 out-Struct ws = search (rules, the_lemmas)
@@ -41,9 +42,9 @@ pub struct_pairs : (f : Field) (v : Value) (ws : List Value) (cs : List Field) (
     → pairs f v ≡ each_pairs (map pairs cs) vs
 struct_pairs f v ws cs vs plain of_kind children is same =
     let inside : (d : Option Dictionary) (k : DataType) → d ≡ None → k ≡ kind.Struct
-    → pairs_in d k (map pairs cs) v ≡ each_pairs (map pairs cs) vs = λ d k p q. rw (p, q, is, out-Struct, same) refl in
+    → value_pairs d k (map pairs cs) v ≡ each_pairs (map pairs cs) vs = λ d k p q. rw (p, q, is, out-Struct, same) refl in
     ap (λ (w : Walk). w v) (fold_out-Field Walk pairs_step f)
-    ∙ ap (λ fs. pairs_in (out-Field f).dictionary (out-Field f).kind (map pairs fs) v) (sym children)
+    ∙ ap (λ fs. value_pairs (out-Field f).dictionary (out-Field f).kind (map pairs fs) v) (sym children)
     ∙ inside (out-Field f).dictionary (out-Field f).kind plain of_kind
 
 -- without children nothing stands below
@@ -55,10 +56,10 @@ nothing_below k v = refl
 -- a field without a dictionary and without children gives nothing
 pub plain_pairs : (f : Field) (v : Value) → (out-Field f).dictionary ≡ None → (out-Field f).children ≡ [] → pairs f v ≡ []
 plain_pairs f v plain alone =
-    let inside : (d : Option Dictionary) (k : DataType) → d ≡ None → pairs_in d k [] v ≡ [] =
+    let inside : (d : Option Dictionary) (k : DataType) → d ≡ None → value_pairs d k [] v ≡ [] =
     λ d k p. rw p (nothing_below k (out-Value v)) in
     ap (λ (w : Walk). w v) (fold_out-Field Walk pairs_step f)
-    ∙ ap (λ fs. pairs_in (out-Field f).dictionary (out-Field f).kind (map pairs fs) v) alone
+    ∙ ap (λ fs. value_pairs (out-Field f).dictionary (out-Field f).kind (map pairs fs) v) alone
     ∙ inside (out-Field f).dictionary (out-Field f).kind plain
 
 -- ---- a value that stands in a field of another type
@@ -81,7 +82,7 @@ unfolding roll-Value denote.Hole.Carrier.roll
 no_pairs f v plain list fixed struct =
     let rolled : (o : Value-F Value) → out-Value v ≡ o → v ≡ roll-Value o =
     λ o e. sym (roll-out-Value v) ∙ ap roll-Value e in
-    let inside : (d : Option Dictionary) → d ≡ None → pairs_in d (out-Field f).kind (map pairs (out-Field f).children) v ≡ [] =
+    let inside : (d : Option Dictionary) → d ≡ None → value_pairs d (out-Field f).kind (map pairs (out-Field f).children) v ≡ [] =
     λ d p. rw p (nothing_inside (out-Field f).kind (map pairs (out-Field f).children) (out-Value v)
     (λ vs k o. list vs k (rolled (Value-F.List vs) o)) (λ n vs k o. fixed n vs k (rolled (Value-F.List vs) o))
     (λ vs k o. struct vs k (rolled (Value-F.Struct vs) o))) in

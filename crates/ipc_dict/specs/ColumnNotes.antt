@@ -7,13 +7,13 @@ use Rattle.std.specs.Ordering.{int_eq}
 use Rattle.ipc_model.specs.declared.schema.Field.{Field}
 use Rattle.ipc_model.specs.declared.value.Value.{Value}
 use Rattle.ipc_dict.specs.declared.entry.TallyEntry.{TallyEntry}
-use Rattle.ipc_dict.specs.Distinct.{is_seen}
+use Rattle.ipc_dict.specs.Distinct.{is_among}
 use Rattle.ipc_dict.specs.Pairs.{Pairs, pairs, each_pairs}
 
 -- the value is among those of the dictionary with the id, if the tally has that dictionary
 abbrev pub is_known : List TallyEntry → ℤ → Value → Bool
 is_known [] id v = true
-is_known (e ∷ es) id v = if int_eq e.id id then is_seen e.values v else is_known es id v
+is_known (e ∷ es) id v = if int_eq e.id id then is_among e.values v else is_known es id v
 
 -- each pair's value is among those of its dictionary
 abbrev pub AllKnown : List TallyEntry → Pairs → Type 0
@@ -29,11 +29,11 @@ abbrev pub AreOthers : Pairs → Pairs → Type 0
 AreOthers ps qs = AllByRecursion (λ p. AllByRecursion (λ q. int_eq p.0 q.0 ≡ false) qs) ps
 
 -- the field and the other fields name no dictionary in common
-abbrev pub IsApart : Field → List Field → Type 0
-IsApart field others = (value : Value) (row : List Value)
+abbrev pub HasOtherDictionaries : Field → List Field → Type 0
+HasOtherDictionaries field others = (value : Value) (row : List Value)
     → AreOthers (pairs field value) (each_pairs (map pairs others) row)
 
 -- no two of the fields name the same dictionary
-abbrev pub AreApart : List Field → Type 0
-AreApart fields = (i : ℕ) (field : Field) → slice_get fields i ≡ Some field
-    → IsApart field (drop (i + 1) fields)
+abbrev pub HaveDistinctDictionaries : List Field → Type 0
+HaveDistinctDictionaries fields = (i : ℕ) (field : Field) → slice_get fields i ≡ Some field
+    → HasOtherDictionaries field (drop (i + 1) fields)

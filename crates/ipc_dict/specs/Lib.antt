@@ -1,9 +1,9 @@
 pub mod Distinct
 pub mod Noting
 pub mod Pairs
-pub mod Tallied
+pub mod TallyState
 pub mod Planning
-pub mod Planned
+pub mod PlanState
 pub mod SchemaIds
 pub mod Counted
 pub mod SchemaEntries

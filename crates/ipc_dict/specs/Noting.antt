@@ -4,12 +4,12 @@ use Rattle.std.specs.Prelude.{None, ◌⊎◌, if◌then◌else◌, Contains, Is
 use Rattle.std.specs.Ordering.{int_eq}
 use Rattle.ipc_model.specs.declared.value.Value.{Value}
 use Rattle.ipc_dict.specs.declared.entry.TallyEntry.{TallyEntry}
-use Rattle.ipc_dict.specs.Distinct.{seen, seen_all, place}
+use Rattle.ipc_dict.specs.Distinct.{with_distinct, with_all_distinct, first_index}
 use Rattle.std.specs.Option.{option_map}
 
 -- the entry of a dictionary after this value was noted
 abbrev pub note_entry : Value → TallyEntry → TallyEntry
-note_entry v e = record e { values = seen e.values v }
+note_entry v e = record e { values = with_distinct e.values v }
 
 -- the tally after this value of the dictionary with the id was noted
 abbrev pub note_one : List TallyEntry → ℤ → Value → List TallyEntry
@@ -27,31 +27,31 @@ AllFit [] = Unit {0}
 AllFit (e ∷ es) = (length e.values ≤ e.limit) × AllFit es
 
 -- some dictionary has more values than its index types can address
-abbrev pub IsFull : List TallyEntry → Type 0
-IsFull [] = ⊥
-IsFull (e ∷ es) = (e.limit < length e.values) ⊎ IsFull es
+abbrev pub IsIndexOverflow : List TallyEntry → Type 0
+IsIndexOverflow [] = ⊥
+IsIndexOverflow (e ∷ es) = (e.limit < length e.values) ⊎ IsIndexOverflow es
 
 -- the new entry has the old one's id, limit and values, and further values after these
-pub record Grows (old new : TallyEntry) : Type 0 where
+pub record GrowsEntry (old new : TallyEntry) : Type 0 where
   pub id : new.id ≡ old.id
   pub limit : new.limit ≡ old.limit
   pub front : take (length old.values) new.values ≡ old.values
 
--- each dictionary's entry grows (`Grows`), index by index
+-- each dictionary's entry grows (`GrowsEntry`), index by index
 abbrev pub AllGrow : List TallyEntry → List TallyEntry → Type 0
 AllGrow [] [] = Unit {0}
-AllGrow (e ∷ es) (f ∷ fs) = Grows e f × AllGrow es fs
+AllGrow (e ∷ es) (f ∷ fs) = GrowsEntry e f × AllGrow es fs
 AllGrow _ _ = ⊥
 
 -- how many values each dictionary has
-abbrev pub lens : List TallyEntry → List ℕ
-lens t = map (λ e. length e.values) t
+abbrev pub tally_lengths : List TallyEntry → List ℕ
+tally_lengths t = map (λ e. length e.values) t
 
 -- the tally with only the first n values of each dictionary, where n is the number at its index
-abbrev pub cut : List ℕ → List TallyEntry → List TallyEntry
-cut [] t = t
-cut (n ∷ ns) [] = []
-cut (n ∷ ns) (e ∷ es) = record e { values = take n e.values } ∷ cut ns es
+abbrev pub truncated_tally : List ℕ → List TallyEntry → List TallyEntry
+truncated_tally [] t = t
+truncated_tally (n ∷ ns) [] = []
+truncated_tally (n ∷ ns) (e ∷ es) = record e { values = take n e.values } ∷ truncated_tally ns es
 
 -- ---- one dictionary
 
@@ -61,27 +61,30 @@ of_id id [] = []
 of_id id (p ∷ ps) = if int_eq p.0 id then p.1 ∷ of_id id ps else of_id id ps
 
 -- the values of one dictionary in a tally, if the tally has it
-abbrev pub noted_for : List TallyEntry → ℤ → Option (List Value)
-noted_for [] id = None
-noted_for (e ∷ es) id = if int_eq e.id id then Some e.values else noted_for es id
+abbrev pub values_noted_for : List TallyEntry → ℤ → Option (List Value)
+values_noted_for [] id = None
+values_noted_for (e ∷ es) id = if int_eq e.id id then Some e.values else values_noted_for es id
 
 -- the index of a value among those of the dictionary with the id
-abbrev pub noted_place : List TallyEntry → ℤ → Value → Option ℕ
-noted_place [] id v = None
-noted_place (e ∷ es) id v = if int_eq e.id id then place v e.values else noted_place es id v
+abbrev pub place_of_value : List TallyEntry → ℤ → Value → Option ℕ
+place_of_value [] id v = None
+place_of_value (e ∷ es) id v = if int_eq e.id id then first_index v e.values else place_of_value es
+    id v
 
 -- a value keeps its index, whatever is noted after it
 abbrev pub KeepsPlaces : Type 0
 KeepsPlaces = (t : List TallyEntry) (ps : List (ℤ × Value)) (id : ℤ) (v : Value) (i : ℕ)
-    → noted_place t id v ≡ Some i → noted_place (note_all t ps) id v ≡ Some i
+    → place_of_value t id v ≡ Some i → place_of_value (note_all t ps) id v ≡ Some i
 
 -- each value that is noted has an index, if the tally has its dictionary
 abbrev pub PlacesAll : Type 0
 PlacesAll = (t : List TallyEntry) (ps : List (ℤ × Value)) (id : ℤ) (v : Value)
-    → Contains ps (id, v) → IsSome (noted_for t id) → IsSome (noted_place (note_all t ps) id v)
+    → Contains ps (id, v) → IsSome (values_noted_for t id)
+    → IsSome (place_of_value (note_all t ps) id v)
 
 -- after noting, each dictionary of a tally has the values it had, then the distinct new ones of the
 -- pairs, in order of first appearance
 abbrev pub HoldsDistinct : Type 0
 HoldsDistinct = (t : List TallyEntry) (ps : List (ℤ × Value)) (id : ℤ)
-    → noted_for (note_all t ps) id ≡ option_map (λ xs. seen_all xs (of_id id ps)) (noted_for t id)
+    → values_noted_for (note_all t ps) id ≡ option_map (λ xs. with_all_distinct xs (of_id id ps))
+    (values_noted_for t id)

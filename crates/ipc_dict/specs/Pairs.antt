@@ -42,13 +42,13 @@ own_pair id v _ = (id, v) ∷ []
 
 -- the pairs of a value: its own, if its field has a dictionary; otherwise those of the values
 -- inside it
-abbrev pub pairs_in : Option Dictionary → DataType → List Walk → Value → Pairs
-pairs_in (Some d) kind walks v = own_pair d.id v (out-Value v)
-pairs_in None kind walks v = inner_pairs kind walks (out-Value v)
+abbrev pub value_pairs : Option Dictionary → DataType → List Walk → Value → Pairs
+value_pairs (Some d) kind walks v = own_pair d.id v (out-Value v)
+value_pairs None kind walks v = inner_pairs kind walks (out-Value v)
 
 -- the pairs of a value in a field, given the pairs of values in its children
 abbrev pub pairs_step : Field-F Walk → Walk
-pairs_step f v = pairs_in f.dictionary f.kind f.children v
+pairs_step f v = value_pairs f.dictionary f.kind f.children v
 
 -- the pairs of a value in a field, depth first
 abbrev pub pairs : Field → Walk

@@ -1,27 +1,27 @@
 -- What a plan decides for each dictionary (Arrow Columnar Format, "Dictionary Messages").
 use Rattle.std.specs.Prelude.{◌≡◌, ℕ, ℤ, List, [], ◌∷◌, ◌++◌, map, Option, Some, None, slice_get}
 use Rattle.std.specs.Prelude.{Contains, IsSome, if◌then◌else◌}
-use Rattle.ipc_dict.specs.Noting.{noted_for, noted_place}
+use Rattle.ipc_dict.specs.Noting.{values_noted_for, place_of_value}
 use Rattle.ipc_encode.specs.Numbers.{number_or}
 use Rattle.std.specs.Ordering.{int_eq}
 use Rattle.ipc_model.specs.declared.value.Value.{Value}
 use Rattle.ipc_dict.specs.declared.entry.TallyEntry.{TallyEntry}
 use Rattle.ipc_dict.specs.declared.kept.KeptEntry.{KeptEntry}
-use Rattle.ipc_dict.specs.Distinct.{place}
+use Rattle.ipc_dict.specs.Distinct.{first_index}
 
 -- each value is first found in `known` at its number in `to`
-abbrev pub AreNumbers : List Value → List Value → List ℕ → Type 0
-AreNumbers known values to = map (λ v. place v known) values ≡ map (λ i. Some i) to
+abbrev pub AreFirstIndices : List Value → List Value → List ℕ → Type 0
+AreFirstIndices known values to = map (λ v. first_index v known) values ≡ map (λ i. Some i) to
 
 -- one of the values is not in `known`
-abbrev pub Lacks : List Value → List Value → Type 0
-Lacks known values = (v : Value) × (Contains values v × (place v known ≡ None))
+abbrev pub LacksValue : List Value → List Value → Type 0
+LacksValue known values = (v : Value) × (Contains values v × (first_index v known ≡ None))
 
 -- the dictionary was sent, and each value of the batch is in it at its number; or it is sent with
 -- this batch, since it was not sent before or lacks a value
 abbrev pub IsSettled : Option (List Value) → List Value → Option (List ℕ) → Type 0
-IsSettled (Some known) values (Some to) = AreNumbers known values to
-IsSettled (Some known) values None = Lacks known values
+IsSettled (Some known) values (Some to) = AreFirstIndices known values to
+IsSettled (Some known) values None = LacksValue known values
 IsSettled None values (Some to) = ⊥
 IsSettled None values None = Unit {0}
 
@@ -33,9 +33,9 @@ number_at (Some i) None = Some i
 number_at (Some i) (Some to) = slice_get to i
 
 -- the dictionary's values after the batch was sent
-abbrev pub after : Option (List Value) → List Value → Option (List ℕ) → Option (List Value)
-after sent values (Some to) = sent
-after sent values None = Some values
+abbrev pub values_after : Option (List Value) → List Value → Option (List ℕ) → Option (List Value)
+values_after sent values (Some to) = sent
+values_after sent values None = Some values
 
 -- the number, among the values sent before, of the value with number i in the batch; none if the
 -- dictionary is sent again
@@ -62,7 +62,7 @@ abbrev pub index : List TallyEntry → List (Option (List ℕ)) → ℤ → Valu
 index [] os id v = None
 index (n ∷ ns) [] id v = None
 index (n ∷ ns) (o ∷ os) id v =
-    if int_eq n.id id then number_at (place v n.values) o else index ns os id v
+    if int_eq n.id id then number_at (first_index v n.values) o else index ns os id v
 
 -- the number of a value among those sent before, for the dictionary with the id and its number in
 -- the batch
@@ -83,7 +83,7 @@ after_all [] ns os = []
 after_all (s ∷ ss) [] os = s ∷ ss
 after_all (s ∷ ss) (n ∷ ns) [] = s ∷ ss
 after_all (s ∷ ss) (n ∷ ns) (o ∷ os) =
-    record s { values = after s.values n.values o } ∷ after_all ss ns os
+    record s { values = values_after s.values n.values o } ∷ after_all ss ns os
 
 -- the values sent for the id, if any
 abbrev pub sent_for : List KeptEntry → ℤ → Option (List Value)
@@ -105,12 +105,13 @@ FindsAll ss ns os = (id : ℤ) (v : Value) (i : ℕ) → index ns os id v ≡ So
 -- each place that a tally gives a value, replaced by the plan's number for it, is the value's place
 -- in what is sent once the batch was
 abbrev pub FindsNoted : List KeptEntry → List TallyEntry → List (Option (List ℕ)) → Type 0
-FindsNoted ss ns os = (id : ℤ) (v : Value) (i : ℕ) → noted_place ns id v ≡ Some i
+FindsNoted ss ns os = (id : ℤ) (v : Value) (i : ℕ) → place_of_value ns id v ≡ Some i
     → (now : List Value)
     × ((sent_for (after_all ss ns os) id ≡ Some now)
     × (slice_get now (number_or (number ns os id i) i) ≡ Some v))
 
 -- each value of the batch has an index
 abbrev pub KnowsAll : List TallyEntry → List (Option (List ℕ)) → Type 0
-KnowsAll ns os = (id : ℤ) (v : Value) (xs : List Value) → noted_for ns id ≡ Some xs → Contains xs v
+KnowsAll ns os = (id : ℤ) (v : Value) (xs : List Value) → values_noted_for ns id ≡ Some xs
+    → Contains xs v
     → IsSome (index ns os id v)

@@ -9,11 +9,11 @@ use Rattle.ipc_model.specs.declared.schema.Field.{Field}
 use Rattle.ipc_model.specs.declared.value.Value.{Value}
 use Rattle.ipc_dict.specs.declared.entry.TallyEntry.{TallyEntry}
 use Rattle.ipc_dict.specs.declared.kept.KeptEntry.{KeptEntry}
-use Rattle.ipc_dict.specs.Distinct.{is_seen, distinct}
-use Rattle.ipc_dict.specs.Noting.{of_id, note_all, noted_for}
+use Rattle.ipc_dict.specs.Distinct.{is_among, distinct}
+use Rattle.ipc_dict.specs.Noting.{of_id, note_all, values_noted_for}
 use Rattle.ipc_dict.specs.Pairs.{rows_pairs}
 use Rattle.ipc_dict.specs.Planning.{sent_for}
-use Rattle.ipc_dict.specs.SchemaIds.{of_fields, count_of, unused}
+use Rattle.ipc_dict.specs.SchemaIds.{of_fields, index_capacity, empty_entries}
 
 -- the distinct values other than null that rows have for the dictionary with the id, in order of
 -- first appearance
@@ -21,15 +21,15 @@ abbrev pub batch_values : List Field → List (List Value) → ℤ → List Valu
 batch_values fields rows id = distinct (of_id id (rows_pairs fields rows))
 
 -- the distinct values of each dictionary, with its id: the tally of the rows
-abbrev pub tallied : List Field → List (List Value) → List TallyEntry
-tallied fields rows = note_all (unused fields) (rows_pairs fields rows)
+abbrev pub tally_of_rows : List Field → List (List Value) → List TallyEntry
+tally_of_rows fields rows = note_all (empty_entries fields) (rows_pairs fields rows)
 
 -- a dictionary's values after a batch with these was sent: these, if none were sent before or one
 -- of these is not among them; otherwise those sent before
 abbrev pub sent_next : Option (List Value) → List Value → Option (List Value)
 sent_next None values = Some values
 sent_next (Some known) values =
-    if list_all (is_seen known) values then Some known else Some values
+    if list_all (is_among known) values then Some known else Some values
 
 -- the values sent of one dictionary after a batch of these rows
 abbrev pub sent_entry : List Field → List (List Value) → KeptEntry → KeptEntry
@@ -45,23 +45,24 @@ sent_after fields rows kept = map (sent_entry fields rows) kept
 abbrev pub needed_of : Option (List Value) → ℤ → List Value → List (ℤ × List (List Value))
 needed_of None id values = (id, map (λ v. v ∷ []) values) ∷ []
 needed_of (Some known) id values =
-    if list_all (is_seen known) values then [] else (id, map (λ v. v ∷ []) values) ∷ []
+    if list_all (is_among known) values then [] else (id, map (λ v. v ∷ []) values) ∷ []
 
 -- the dictionaries that are sent before a batch of these rows, in the order in which their ids
 -- first occur in the schema. Each has exactly the distinct values other than null that the batch
 -- has for the id, in order of first appearance
-abbrev pub needed : List Field → List (List Value) → List KeptEntry → List (ℤ × List (List Value))
-needed fields rows [] = []
-needed fields rows (e ∷ kept) =
-    needed_of e.values e.id (batch_values fields rows e.id) ++ needed fields rows kept
+abbrev pub dictionaries_to_send : List Field → List (List Value) → List KeptEntry
+    → List (ℤ × List (List Value))
+dictionaries_to_send fields rows [] = []
+dictionaries_to_send fields rows (e ∷ kept) =
+    needed_of e.values e.id (batch_values fields rows e.id) ++ dictionaries_to_send fields rows kept
 
 -- each index type of the fields can address the values that a tally or a plan has of its dictionary
 abbrev pub AreAddressed : List Field → List TallyEntry → Type 0
 AreAddressed fields entries = (d : Dictionary) → Contains (of_fields fields) d
-    → IfSome (noted_for entries d.id) (λ values. length values ≤ count_of d)
+    → IfSome (values_noted_for entries d.id) (λ values. length values ≤ index_capacity d)
 
 -- the number of values sent of a dictionary is within what each index type of its fields can
 -- address
 abbrev pub AreCounted : List Field → List KeptEntry → Type 0
 AreCounted fields kept = (d : Dictionary) → Contains (of_fields fields) d
-    → IfSome (sent_for kept d.id) (λ known. length known ≤ count_of d)
+    → IfSome (sent_for kept d.id) (λ known. length known ≤ index_capacity d)

@@ -6,24 +6,25 @@ ghost use Rattle.ipc_model.specs.declared.value.Value.{Value};
 ghost use Rattle.ipc_column.specs.Lent.{AreOfColumn};
 ghost use Rattle.ipc_column.specs.Nested.{slot_values};
 ghost use Rattle.ipc_encode.specs.Cells.{cells};
-ghost use Rattle.ipc_dict.specs.ColumnNotes.{AreApart, AreNoted, AreOthers, IsApart};
-ghost use Rattle.ipc_dict.specs.Noting.{note_all, AllFit, AllGrow, IsFull};
+ghost use Rattle.ipc_dict.specs.ColumnNotes.{HaveDistinctDictionaries, AreNoted, AreOthers};
+ghost use Rattle.ipc_dict.specs.ColumnNotes.{HasOtherDictionaries};
+ghost use Rattle.ipc_dict.specs.Noting.{note_all, AllFit, AllGrow, IsIndexOverflow};
 ghost use Rattle.ipc_dict.specs.Pairs.{pairs, items_pairs, rows_pairs};
 
 use crate::entry::TallyEntry;
-use crate::recent::Recent;
-use crate::walk::{is_plain, note_each, note_value};
+use crate::recent_values::RecentValues;
+use crate::walk::{has_no_dictionary, note_each, note_value};
 use ipc_column::{Batch, SlotView};
 use ipc_encode::PushFault;
 use ipc_model::{Field, Value};
 use std::alloc::{AllocError, Global};
 
 // Whether two fields surely name no dictionary in common.
-fn are_apart(one: &Field, other: &Field) -> bool
+fn have_other_dictionaries(one: &Field, other: &Field) -> bool
     ensures { IsTrue result
         → (v w : Value) → AreOthers (pairs one.now v) (pairs other.now w) }
 {
-    if is_plain(one) || is_plain(other) {
+    if has_no_dictionary(one) || has_no_dictionary(other) {
         return true;
     }
     match (one.dictionary, other.dictionary) {
@@ -33,14 +34,14 @@ fn are_apart(one: &Field, other: &Field) -> bool
 }
 
 // Whether a field surely names no dictionary of the others.
-fn is_apart(field: &Field, others: &[Field]) -> bool
-    ensures { IsTrue result → IsApart field.now others.now }
+fn has_other_dictionaries(field: &Field, others: &[Field]) -> bool
+    ensures { IsTrue result → HasOtherDictionaries field.now others.now }
 {
-    if is_plain(field) {
+    if has_no_dictionary(field) {
         return true;
     }
     for other in others {
-        if !are_apart(field, other) {
+        if !have_other_dictionaries(field, other) {
             return false;
         }
     }
@@ -48,11 +49,11 @@ fn is_apart(field: &Field, others: &[Field]) -> bool
 }
 
 // Whether surely no dictionary is named by two of the fields.
-fn are_all_apart(fields: &[Field]) -> bool
-    ensures { IsTrue result → AreApart fields.now }
+fn have_distinct_dictionaries(fields: &[Field]) -> bool
+    ensures { IsTrue result → HaveDistinctDictionaries fields.now }
 {
     for i in 0..fields.len() {
-        if !is_apart(&fields[i], &fields[i + 1..]) {
+        if !has_other_dictionaries(&fields[i], &fields[i + 1..]) {
             return false;
         }
     }
@@ -60,7 +61,7 @@ fn are_all_apart(fields: &[Field]) -> bool
 }
 
 // A mark for each value of a column's dictionary, none of which was noted.
-fn none_noted(alloc: Global, slots: &SlotView<'_>) -> Result<Vec<bool>, AllocError>
+fn no_marks(alloc: Global, slots: &SlotView<'_>) -> Result<Vec<bool>, AllocError>
     ensures { (entries : List TallyEntry) (field : Field) → IfOk result
         (λ noted. AreNoted entries field slots.now.column.dictionary noted.items) }
 {
@@ -76,7 +77,7 @@ fn none_noted(alloc: Global, slots: &SlotView<'_>) -> Result<Vec<bool>, AllocErr
 fn note_cell(
     alloc: Global,
     entries: &mut [TallyEntry],
-    recent: &mut Recent,
+    recent: &mut RecentValues,
     field: &Field,
     batch: &Batch,
     column: usize,
@@ -91,7 +92,7 @@ fn note_cell(
     ensures full { (value : Value)
         → slice_get (slice_index_or batch.now.rows row []) column ≡ Some value
         → IfErr result (λ fault. fault ≡ PushFault.DictionaryFull
-        → IsFull (note_all entries.old (pairs field.now value))) }
+        → IsIndexOverflow (note_all entries.old (pairs field.now value))) }
     ensures memory { IfErr result
         (λ fault. (fault ≡ PushFault.DictionaryFull) ⊎ (fault ≡ PushFault.OutOfMemory)) }
     ensures grows { AllGrow entries.old entries.new }
@@ -106,7 +107,7 @@ fn note_cell(
 fn note_entry(
     alloc: Global,
     entries: &mut [TallyEntry],
-    recent: &mut Recent,
+    recent: &mut RecentValues,
     field: &Field,
     batch: &Batch,
     column: usize,
@@ -131,7 +132,7 @@ fn note_entry(
         → slice_get dictionary entry ≡ Some value
         → slice_get (slice_index_or batch.now.rows row []) column ≡ Some value
         → IfErr result (λ fault. fault ≡ PushFault.DictionaryFull
-        → IsFull (note_all entries.old (pairs field.now value))) }
+        → IsIndexOverflow (note_all entries.old (pairs field.now value))) }
     ensures memory { IfErr result
         (λ fault. (fault ≡ PushFault.DictionaryFull) ⊎ (fault ≡ PushFault.OutOfMemory)) }
     ensures grows { AllGrow entries.old entries.new }
@@ -152,7 +153,7 @@ fn note_entry(
 fn note_slot(
     alloc: Global,
     entries: &mut [TallyEntry],
-    recent: &mut Recent,
+    recent: &mut RecentValues,
     field: &Field,
     batch: &Batch,
     column: usize,
@@ -173,7 +174,7 @@ fn note_slot(
     ensures fits { OnOk result (AllFit entries.old → AllFit entries.new) }
     ensures full { (value : Value) → slice_get (slot_values slots.now) slot ≡ Some value
         → IfErr result (λ fault. fault ≡ PushFault.DictionaryFull
-        → IsFull (note_all entries.old (pairs field.now value))) }
+        → IsIndexOverflow (note_all entries.old (pairs field.now value))) }
     ensures memory { IfErr result
         (λ fault. (fault ≡ PushFault.DictionaryFull) ⊎ (fault ≡ PushFault.OutOfMemory)) }
     ensures grows { AllGrow entries.old entries.new }
@@ -191,7 +192,7 @@ fn note_slot(
 fn note_column(
     alloc: Global,
     entries: &mut [TallyEntry],
-    recent: &mut Recent,
+    recent: &mut RecentValues,
     field: &Field,
     batch: &Batch,
     column: usize,
@@ -201,14 +202,14 @@ fn note_column(
         ≡ note_all entries.old (items_pairs (pairs field.now) (cells column batch.now.rows))) }
     ensures fits { OnOk result (AllFit entries.old → AllFit entries.new) }
     ensures full { IfErr result (λ fault. fault ≡ PushFault.DictionaryFull
-        → IsFull (note_all entries.old
+        → IsIndexOverflow (note_all entries.old
         (items_pairs (pairs field.now) (cells column batch.now.rows)))) }
     ensures memory { IfErr result
         (λ fault. (fault ≡ PushFault.DictionaryFull) ⊎ (fault ≡ PushFault.OutOfMemory)) }
     ensures grows { AllGrow entries.old entries.new }
 {
     let slots = batch.slots(column);
-    let mut noted = none_noted(alloc, &slots)?;
+    let mut noted = no_marks(alloc, &slots)?;
     for slot in 0..slots.len() {
         note_slot(
             alloc, entries, recent, field, batch, column, &slots, slot, &mut noted,
@@ -222,7 +223,7 @@ fn note_column(
 fn note_field(
     alloc: Global,
     entries: &mut [TallyEntry],
-    recent: &mut Recent,
+    recent: &mut RecentValues,
     field: &Field,
     batch: &Batch,
     column: usize,
@@ -232,13 +233,13 @@ fn note_field(
         ≡ note_all entries.old (items_pairs (pairs field.now) (cells column batch.now.rows))) }
     ensures fits { OnOk result (AllFit entries.old → AllFit entries.new) }
     ensures full { IfErr result (λ fault. fault ≡ PushFault.DictionaryFull
-        → IsFull (note_all entries.old
+        → IsIndexOverflow (note_all entries.old
         (items_pairs (pairs field.now) (cells column batch.now.rows)))) }
     ensures memory { IfErr result
         (λ fault. (fault ≡ PushFault.DictionaryFull) ⊎ (fault ≡ PushFault.OutOfMemory)) }
     ensures grows { AllGrow entries.old entries.new }
 {
-    if is_plain(field) {
+    if has_no_dictionary(field) {
         return Ok(());
     }
     note_column(alloc, entries, recent, field, batch, column)
@@ -249,17 +250,17 @@ fn note_field(
 fn note_columns(
     alloc: Global,
     entries: &mut [TallyEntry],
-    recent: &mut Recent,
+    recent: &mut RecentValues,
     fields: &[Field],
     batch: &Batch,
 ) -> Result<(), PushFault>
-    requires apart { AreApart fields.now }
+    requires apart { HaveDistinctDictionaries fields.now }
     requires columns { batch.now.columns ≡ length fields.now }
     ensures noted { OnOk result
         (entries.new ≡ note_all entries.old (rows_pairs fields.now batch.now.rows)) }
     ensures fits { OnOk result (AllFit entries.old → AllFit entries.new) }
     ensures full { IfErr result (λ fault. fault ≡ PushFault.DictionaryFull
-        → IsFull (note_all entries.old (rows_pairs fields.now batch.now.rows))) }
+        → IsIndexOverflow (note_all entries.old (rows_pairs fields.now batch.now.rows))) }
     ensures memory { IfErr result
         (λ fault. (fault ≡ PushFault.DictionaryFull) ⊎ (fault ≡ PushFault.OutOfMemory)) }
     ensures grows { AllGrow entries.old entries.new }
@@ -276,7 +277,7 @@ fn note_columns(
 fn note_rows(
     alloc: Global,
     entries: &mut [TallyEntry],
-    recent: &mut Recent,
+    recent: &mut RecentValues,
     fields: &[Field],
     batch: &Batch,
 ) -> Result<(), PushFault>
@@ -284,7 +285,7 @@ fn note_rows(
         (entries.new ≡ note_all entries.old (rows_pairs fields.now batch.now.rows)) }
     ensures fits { OnOk result (AllFit entries.old → AllFit entries.new) }
     ensures full { IfErr result (λ fault. fault ≡ PushFault.DictionaryFull
-        → IsFull (note_all entries.old (rows_pairs fields.now batch.now.rows))) }
+        → IsIndexOverflow (note_all entries.old (rows_pairs fields.now batch.now.rows))) }
     ensures memory { IfErr result
         (λ fault. (fault ≡ PushFault.DictionaryFull) ⊎ (fault ≡ PushFault.OutOfMemory)) }
     ensures grows { AllGrow entries.old entries.new }
@@ -305,7 +306,7 @@ fn note_rows(
 pub(crate) fn note_batch(
     alloc: Global,
     entries: &mut [TallyEntry],
-    recent: &mut Recent,
+    recent: &mut RecentValues,
     fields: &[Field],
     batch: &Batch,
 ) -> Result<(), PushFault>
@@ -313,12 +314,12 @@ pub(crate) fn note_batch(
         (entries.new ≡ note_all entries.old (rows_pairs fields.now batch.now.rows)) }
     ensures fits { OnOk result (AllFit entries.old → AllFit entries.new) }
     ensures full { IfErr result (λ fault. fault ≡ PushFault.DictionaryFull
-        → IsFull (note_all entries.old (rows_pairs fields.now batch.now.rows))) }
+        → IsIndexOverflow (note_all entries.old (rows_pairs fields.now batch.now.rows))) }
     ensures memory { IfErr result
         (λ fault. (fault ≡ PushFault.DictionaryFull) ⊎ (fault ≡ PushFault.OutOfMemory)) }
     ensures grows { AllGrow entries.old entries.new }
 {
-    if batch.columns() == fields.len() && are_all_apart(fields) {
+    if batch.columns() == fields.len() && have_distinct_dictionaries(fields) {
         return note_columns(alloc, entries, recent, fields, batch);
     }
     note_rows(alloc, entries, recent, fields, batch)

@@ -2,19 +2,19 @@
 ghost use Rattle.std.specs.Prelude.{◌≡◌, ◌<◌, List, [], ◌∷◌, length, Some, IfOk, IfErr, OnOk};
 ghost use Rattle.std.specs.Prelude.{OnErr, ◌⊎◌};
 ghost use Rattle.ipc_model.specs.declared.schema.Field.{Field};
-ghost use Rattle.ipc_encode.specs.CountedColumns.{CountsRows};
+ghost use Rattle.ipc_encode.specs.ColumnSizes.{CountsRows};
 ghost use Rattle.ipc_encode.specs.Faults.{write_fault};
-ghost use Rattle.ipc_encode.specs.Limits.{IsTooLong};
-ghost use Rattle.ipc_dictionaries.specs.ValuesColumns.{columns_for, IsOneColumn};
+ghost use Rattle.ipc_encode.specs.Limits.{AreColumnsTooLong};
+ghost use Rattle.ipc_dict_read.specs.ValuesColumns.{columns_for, IsOneColumn};
 ghost use Rattle.ipc_dict.specs.declared.entry.TallyEntry.{TallyEntry};
 ghost use Rattle.ipc_dict.specs.EntryColumns.{AllCounted, AreEntriesCounted};
-ghost use Rattle.ipc_dict.specs.Noting.{cut};
-ghost use Rattle.ipc_dict.specs.SchemaIds.{unused};
+ghost use Rattle.ipc_dict.specs.Noting.{truncated_tally};
+ghost use Rattle.ipc_dict.specs.SchemaIds.{empty_entries};
 ghost use Rattle.ipc_dict.specs.Within.{IsOverLimit};
 
 use crate::entry::TallyEntry;
-use ipc_dictionaries::Dictionaries;
-use ipc_encode::{CountedColumn, PushFault};
+use ipc_dict_read::Dictionaries;
+use ipc_encode::{ColumnSizes, PushFault};
 use ipc_model::{Limits, Schema, WriteFault};
 use std::alloc::Global;
 use std::mem;
@@ -23,9 +23,9 @@ use std::mem;
 #[derive(Debug, Drop)]
 pub(crate) struct EntryColumns {
     pub(crate) limits: Limits,
-    pub(crate) counted: Vec<CountedColumn>,
+    pub(crate) counted: Vec<ColumnSizes>,
     // The numbers with the values of the next row; what they are between two rows has no meaning.
-    pub(crate) next: Vec<CountedColumn>,
+    pub(crate) next: Vec<ColumnSizes>,
 }
 
 impl EntryColumns {
@@ -39,7 +39,7 @@ impl EntryColumns {
         schema: &Schema,
         entries: &[TallyEntry],
     ) -> Result<EntryColumns, WriteFault>
-        requires { entries.now ≡ unused schema.now.fields }
+        requires { entries.now ≡ empty_entries schema.now.fields }
         ensures counted { IfOk result (AreEntriesCounted schema.now.fields entries.now) }
         ensures limits { IfOk result (λ columns. columns.limits ≡ limits.now) }
         ensures over { IfErr result (λ fault. fault ≡ WriteFault.TooLong
@@ -73,10 +73,10 @@ impl EntryColumns {
         requires room { length self.old.next.items ≡ length entries.now }
         requires marks { length marks.now ≡ length entries.now }
         ensures counted { (fields : List Field)
-            → AreEntriesCounted fields (cut marks.now entries.now) self.old
+            → AreEntriesCounted fields (truncated_tally marks.now entries.now) self.old
             → OnOk result (AreEntriesCounted fields entries.now self.new) }
         ensures refused { (fields : List Field)
-            → AreEntriesCounted fields (cut marks.now entries.now) self.old
+            → AreEntriesCounted fields (truncated_tally marks.now entries.now) self.old
             → IfErr result (λ fault.
             IsOverLimit self.old.limits fields entries.now (write_fault fault)) }
         ensures kept { (fields : List Field) (others : List TallyEntry)
@@ -95,7 +95,7 @@ fn fresh_column(
     dictionaries: &Dictionaries,
     entry: &TallyEntry,
     limits: &Limits,
-) -> Result<CountedColumn, PushFault>
+) -> Result<ColumnSizes, PushFault>
     requires { (columns : List Field)
         × ((columns_for dictionaries.now.columns entry.now.id ≡ Some columns)
         × IsOneColumn columns) }
@@ -105,7 +105,7 @@ fn fresh_column(
     ensures refused { (columns : List Field)
         → columns_for dictionaries.now.columns entry.now.id ≡ Some columns
         → IfErr result
-        (λ fault. (fault ≡ PushFault.TooLong) × IsTooLong limits.now columns []) }
+        (λ fault. (fault ≡ PushFault.TooLong) × AreColumnsTooLong limits.now columns []) }
 {
     let Some(columns) = dictionaries.fields_of(entry.id) else {
         unreachable!();
@@ -113,13 +113,13 @@ fn fresh_column(
     let Some(column) = columns.as_slice().first() else {
         unreachable!();
     };
-    CountedColumn::new(column, limits)
+    ColumnSizes::new(column, limits)
 }
 
 // The sizes of each column with the values after those that are already counted.
 fn count_next(
-    next: &mut [CountedColumn],
-    before: &[CountedColumn],
+    next: &mut [ColumnSizes],
+    before: &[ColumnSizes],
     entries: &[TallyEntry],
     marks: &[usize],
     limits: &Limits,
@@ -128,10 +128,10 @@ fn count_next(
     requires room { length next.old ≡ length entries.now }
     requires marks { length marks.now ≡ length entries.now }
     ensures counted { (fields : List Field)
-        → AllCounted limits.now fields (cut marks.now entries.now) before.now
+        → AllCounted limits.now fields (truncated_tally marks.now entries.now) before.now
         → OnOk result (AllCounted limits.now fields entries.now next.new) }
     ensures refused { (fields : List Field)
-        → AllCounted limits.now fields (cut marks.now entries.now) before.now
+        → AllCounted limits.now fields (truncated_tally marks.now entries.now) before.now
         → IfErr result (λ fault.
         IsOverLimit limits.now fields entries.now (write_fault fault)) }
 {

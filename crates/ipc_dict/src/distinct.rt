@@ -1,7 +1,7 @@
 //! The distinct values of one dictionary.
 ghost use Rattle.std.specs.Prelude.{◌≡◌, [], not, length, take, drop, IfOk, OnOk, OnErr, IsTrue};
 ghost use Rattle.std.specs.Prelude.{Some};
-ghost use Rattle.ipc_dict.specs.Distinct.{same, is_seen, seen, place};
+ghost use Rattle.ipc_dict.specs.Distinct.{same, is_among, with_distinct, first_index};
 
 use crate::seed::Seed;
 use indexmap::IndexSet;
@@ -54,22 +54,22 @@ impl DistinctValues {
 
     /// Returns whether the value is one of these.
     pub fn contains(&self, value: &Value) -> bool
-        ensures { result ≡ is_seen self.now value.now }
+        ensures { result ≡ is_among self.now value.now }
     {
         self.values.contains(value)
     }
 
     /// Returns the index of a value, or `None` if it is none of these.
     pub fn index_of(&self, value: &Value) -> Option<usize>
-        ensures { result ≡ place value.now self.now }
+        ensures { result ≡ first_index value.now self.now }
     {
         self.values.get_index_of(value)
     }
 
     /// Returns the index of a value. If it is `guess`, this takes one comparison and no hash.
     #[inline]
-    pub(crate) fn index_near(&self, guess: usize, value: &Value) -> Option<usize>
-        ensures { result ≡ place value.now self.now }
+    pub(crate) fn index_with_guess(&self, guess: usize, value: &Value) -> Option<usize>
+        ensures { result ≡ first_index value.now self.now }
     {
         if self.is_at(guess, value) {
             return Some(guess);
@@ -80,7 +80,7 @@ impl DistinctValues {
     // Whether the value has this number.
     #[inline]
     fn is_at(&self, number: usize, value: &Value) -> bool
-        ensures { IsTrue result → place value.now self.now ≡ Some number }
+        ensures { IsTrue result → first_index value.now self.now ≡ Some number }
     {
         match self.values.as_slice().get(number) {
             Some(known) => known == value,
@@ -105,8 +105,8 @@ impl DistinctValues {
     /// Appends a copy of the value, if it is not there yet. Returns whether it was new. After an
     /// error, because memory ran out, the values are unchanged.
     pub fn add(&mut self, value: &Value) -> Result<bool, AllocError>
-        ensures added { IfOk result (λ new. new ≡ not (is_seen self.old value.now)) }
-        ensures values { OnOk result (self.new ≡ seen self.old value.now) }
+        ensures added { IfOk result (λ new. new ≡ not (is_among self.old value.now)) }
+        ensures values { OnOk result (self.new ≡ with_distinct self.old value.now) }
         ensures err { OnErr result (self.new ≡ self.old) }
     {
         if self.values.contains(value) {

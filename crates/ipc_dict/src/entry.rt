@@ -3,12 +3,13 @@ ghost use Rattle.std.specs.Prelude.{◌≡◌, ◌<◌, ◌≤◌, length, IfOk,
 ghost use Rattle.std.specs.Prelude.{false, slice_index_or, IfSome, IfNone};
 ghost use Rattle.std.specs.Ordering.{int_eq};
 ghost use Rattle.ipc_dict.specs.declared.entry.TallyEntry.{TallyEntry};
-ghost use Rattle.ipc_dict.specs.Distinct.{place};
-ghost use Rattle.ipc_dict.specs.Noting.{note_entry, note_one, noted_place, AllFit, IsFull};
-ghost use Rattle.ipc_dict.specs.Noting.{Grows, AllGrow};
+ghost use Rattle.ipc_dict.specs.Distinct.{first_index};
+ghost use Rattle.ipc_dict.specs.Noting.{note_entry, note_one, place_of_value, AllFit};
+ghost use Rattle.ipc_dict.specs.Noting.{IsIndexOverflow};
+ghost use Rattle.ipc_dict.specs.Noting.{GrowsEntry, AllGrow};
 
 use crate::distinct::DistinctValues;
-use crate::recent::{Recent, spot_of};
+use crate::recent_values::{RecentValues, slot_of_hash};
 use ipc_encode::PushFault;
 use ipc_model::Value;
 
@@ -55,9 +56,9 @@ fn note_in(entry: &mut TallyEntry, guess: usize, value: &Value) -> Result<usize,
         × (entry.new.limit < length entry.new.values)) }
     ensures memory { IfErr result
         (λ fault. (fault ≡ PushFault.DictionaryFull) ⊎ (fault ≡ PushFault.OutOfMemory)) }
-    ensures grows { Grows entry.old entry.new }
+    ensures grows { GrowsEntry entry.old entry.new }
 {
-    if let Some(place) = entry.values.index_near(guess, value) {
+    if let Some(place) = entry.values.index_with_guess(guess, value) {
         return Ok(place);
     }
     let place = entry.values.len();
@@ -70,14 +71,15 @@ fn note_in(entry: &mut TallyEntry, guess: usize, value: &Value) -> Result<usize,
 // Notes one value of the dictionary with the id, if there is one, and keeps its position.
 pub(crate) fn note_one(
     entries: &mut [TallyEntry],
-    recent: &mut Recent,
+    recent: &mut RecentValues,
     id: i64,
     value: &Value,
 ) -> Result<(), PushFault>
     ensures noted { OnOk result (entries.new ≡ note_one entries.old id value.now) }
     ensures fits { OnOk result (AllFit entries.old → AllFit entries.new) }
     ensures full { IfErr result
-        (λ fault. fault ≡ PushFault.DictionaryFull → IsFull (note_one entries.old id value.now)) }
+        (λ fault. fault ≡ PushFault.DictionaryFull → IsIndexOverflow
+        (note_one entries.old id value.now)) }
     ensures memory { IfErr result
         (λ fault. (fault ≡ PushFault.DictionaryFull) ⊎ (fault ≡ PushFault.OutOfMemory)) }
     ensures grows { AllGrow entries.old entries.new }
@@ -85,7 +87,7 @@ pub(crate) fn note_one(
     let Some(at) = find(entries, id) else {
         return Ok(());
     };
-    let spot = spot_of(at, value);
+    let spot = slot_of_hash(at, value);
     let entry = &mut entries[at];
     let place = note_in(entry, recent.place(spot), value)?;
     recent.keep(spot, place);
@@ -96,21 +98,21 @@ pub(crate) fn note_one(
 // up after they are noted, so most are still at the kept position.
 pub(crate) fn place_in(
     entries: &[TallyEntry],
-    recent: &Recent,
+    recent: &RecentValues,
     id: i64,
     value: &Value,
 ) -> Option<u64>
-    ensures { result ≡ noted_place entries.now id value.now }
+    ensures { result ≡ place_of_value entries.now id value.now }
 {
     let i = find(entries, id)?;
-    let guess = recent.place(spot_of(i, value));
+    let guess = recent.place(slot_of_hash(i, value));
     place_of(&entries[i].values, guess, value)
 }
 
 // The position of a value among those of one dictionary, where it may be at this position.
 fn place_of(values: &DistinctValues, guess: usize, value: &Value) -> Option<u64>
-    ensures { result ≡ place value.now values.now }
+    ensures { result ≡ first_index value.now values.now }
 {
-    let at = values.index_near(guess, value)?;
+    let at = values.index_with_guess(guess, value)?;
     Some(at as u64)
 }

@@ -1,11 +1,11 @@
 //! What a writer has sent of each dictionary.
 ghost use Rattle.std.specs.Prelude.{◌≡◌, IfOk, IfErr, map};
-ghost use Rattle.ipc_dict.specs.SchemaIds.{ids_of, kept_ids, tally_ids, unsent};
+ghost use Rattle.ipc_dict.specs.SchemaIds.{ids_of, kept_ids, tally_ids, nothing_sent};
 ghost use Rattle.ipc_dict.specs.Sending.{AreCounted};
 
 use crate::distinct::DistinctValues;
 use crate::entry::TallyEntry;
-use crate::schema_ids::unused_entries;
+use crate::schema_ids::empty_entries;
 use crate::seed::Seed;
 use ipc_model::{Schema, WriteFault};
 use std::alloc::{AllocError, Global};
@@ -50,20 +50,20 @@ impl Kept {
     /// Errors: `OutOfMemory` if memory for the entries ran out.
     #[tactic(auto, using(crate::proofs::Ids::ids_unsent))]
     pub fn new(alloc: Global, schema: &Schema) -> Result<Kept, WriteFault>
-        ensures entries { IfOk result (λ kept. kept ≡ unsent (ids_of schema.now.fields)) }
+        ensures entries { IfOk result (λ kept. kept ≡ nothing_sent (ids_of schema.now.fields)) }
         ensures ids { IfOk result (λ kept. kept_ids kept ≡ ids_of schema.now.fields) }
         ensures counted { IfOk result (λ kept. AreCounted schema.now.fields kept) }
         ensures memory { IfErr result (λ fault. fault ≡ WriteFault.OutOfMemory) }
     {
-        let entries = unused_entries(alloc, Seed::Fixed, schema.fields.as_slice())?;
-        let entries = unsent(alloc, &entries)?;
+        let entries = empty_entries(alloc, Seed::Fixed, schema.fields.as_slice())?;
+        let entries = nothing_sent(alloc, &entries)?;
         Ok(Kept { entries })
     }
 }
 
 // An entry without values for each of these.
-fn unsent(alloc: Global, entries: &[TallyEntry]) -> Result<Vec<KeptEntry>, AllocError>
-    ensures { IfOk result (λ kept. kept.items ≡ unsent (tally_ids entries.now)) }
+fn nothing_sent(alloc: Global, entries: &[TallyEntry]) -> Result<Vec<KeptEntry>, AllocError>
+    ensures { IfOk result (λ kept. kept.items ≡ nothing_sent (tally_ids entries.now)) }
 {
     let mut kept = Vec::with_capacity(alloc, entries.len())?;
     for entry in entries {

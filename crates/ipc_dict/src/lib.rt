@@ -10,7 +10,7 @@ mod entry;
 mod kept;
 mod messages;
 mod plan;
-mod recent;
+mod recent_values;
 mod schema_ids;
 mod seed;
 mod settle;
@@ -19,7 +19,7 @@ mod walk;
 
 pub use distinct::DistinctValues;
 pub use entry::TallyEntry;
-pub use ipc_dictionaries::{Dictionaries, one_column};
+pub use ipc_dict_read::{Dictionaries, one_column};
 pub use kept::{Kept, KeptEntry};
 pub use messages::has_short_messages;
 pub use plan::Plan;

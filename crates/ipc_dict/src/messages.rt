@@ -1,13 +1,13 @@
 //! Checks that the metadata of dictionary messages is within the limits.
 ghost use Rattle.std.specs.Prelude.{◌≡◌, ◌<◌, ◌≤◌, List, Some, true, false, IfErr, IfOk};
 ghost use Rattle.ipc_model.specs.declared.schema.Field.{Field};
-ghost use Rattle.ipc_dictionaries.specs.ValuesColumns.{IsOneColumn, columns_for, columns_in};
+ghost use Rattle.ipc_dict_read.specs.ValuesColumns.{IsOneColumn, columns_for, dictionary_columns};
 ghost use Rattle.ipc_dict.specs.Within.{HasLongMessage, HaveShortMessages, dictionary_room_of};
 
 use crate::entry::TallyEntry;
-use crate::schema_ids::unused_entries;
+use crate::schema_ids::empty_entries;
 use crate::seed::Seed;
-use ipc_dictionaries::Dictionaries;
+use ipc_dict_read::Dictionaries;
 use ipc_meta::dictionary_room;
 use ipc_model::{Limits, Schema, WriteFault, layout_of};
 use std::alloc::Global;
@@ -44,14 +44,14 @@ pub fn has_short_messages(
     schema: &Schema,
     columns: &Dictionaries,
 ) -> Result<bool, WriteFault>
-    requires { columns.now.columns ≡ columns_in schema.now.fields }
+    requires { columns.now.columns ≡ dictionary_columns schema.now.fields }
     ensures short { IfOk result
         (λ short. short ≡ true → HaveShortMessages limits.now schema.now.fields) }
     ensures long { IfOk result
         (λ short. short ≡ false → HasLongMessage limits.now schema.now.fields) }
     ensures memory { IfErr result (λ fault. fault ≡ WriteFault.OutOfMemory) }
 {
-    let entries = unused_entries(alloc, Seed::Fixed, schema.fields.as_slice())?;
+    let entries = empty_entries(alloc, Seed::Fixed, schema.fields.as_slice())?;
     for entry in &entries {
         if !is_short(limits, columns, entry) {
             return Ok(false);

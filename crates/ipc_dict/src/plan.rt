@@ -4,10 +4,10 @@ ghost use Rattle.ipc_model.specs.declared.schema.Field.{Field};
 ghost use Rattle.ipc_dict.specs.Planning.{after_all, sends_of, AllSettled, FindsAll};
 ghost use Rattle.ipc_dict.specs.Planning.{FindsNoted, KnowsAll};
 ghost use Rattle.ipc_dict.specs.Counted.{HoldsRows};
-ghost use Rattle.ipc_dict.specs.Noting.{note_all, AllFit, IsFull};
+ghost use Rattle.ipc_dict.specs.Noting.{note_all, AllFit, IsIndexOverflow};
 ghost use Rattle.ipc_dict.specs.Pairs.{rows_pairs};
-ghost use Rattle.ipc_dict.specs.SchemaIds.{kept_ids, tally_ids, ids_of, unused};
-ghost use Rattle.ipc_dict.specs.Sending.{AreAddressed, AreCounted, tallied};
+ghost use Rattle.ipc_dict.specs.SchemaIds.{kept_ids, tally_ids, ids_of, empty_entries};
+ghost use Rattle.ipc_dict.specs.Sending.{AreAddressed, AreCounted, tally_of_rows};
 ghost use Rattle.ipc_dict.specs.Within.{AllWithin, IsOfLimits, IsOverLimit};
 
 use crate::entry::TallyEntry;
@@ -39,10 +39,10 @@ impl Model for Plan {
     ghost use Rattle.std.specs.Prelude.{◌≡◌, length};
     ghost use Rattle.std.specs.Coded.{codes};
     ghost use Rattle.ipc_dict.specs.contracts.entry.TallyEntry as entry;
-    ghost use Rattle.ipc_dict.specs.Planned.{Planned};
+    ghost use Rattle.ipc_dict.specs.PlanState.{PlanState};
     ghost use Rattle.ipc_dict.specs.Planning.{sends_of};
 
-    ghost Value = { Planned };
+    ghost Value = { PlanState };
 
     ghost coded = { Prim.hlevel (codes, entry.the_row.coded) };
 
@@ -80,7 +80,7 @@ impl Plan {
             (λ plan. HoldsRows schema.now.fields rows.now plan.entries) }
         // The entries are those that the schema and the rows give, with their limits.
         ensures tallied { IfOk result
-            (λ plan. plan.entries ≡ tallied schema.now.fields rows.now) }
+            (λ plan. plan.entries ≡ tally_of_rows schema.now.fields rows.now) }
         // Each is sent where it has not been or lacks a value, and nowhere else.
         ensures settled { IfOk result
             (λ plan. AllSettled kept.now plan.entries plan.numbers) }
@@ -100,11 +100,11 @@ impl Plan {
             (λ plan. AllWithin limits.now schema.now.fields plan.entries) }
         // At W7 one would have more.
         ensures full { IfErr result (λ fault. fault ≡ WriteFault.DictionaryFull
-            → IsFull (note_all (unused schema.now.fields)
+            → IsIndexOverflow (note_all (empty_entries schema.now.fields)
             (rows_pairs schema.now.fields rows.now))) }
         // At W6 and W8 one would be longer than the limits allow.
         ensures over { IfErr result (λ fault. IsOfLimits fault
-            → IsOverLimit limits.now schema.now.fields (note_all (unused schema.now.fields)
+            → IsOverLimit limits.now schema.now.fields (note_all (empty_entries schema.now.fields)
             (rows_pairs schema.now.fields rows.now)) fault) }
         ensures only { IfErr result (λ fault. ((fault ≡ WriteFault.DictionaryFull)
             ⊎ IsOfLimits fault) ⊎ (fault ≡ WriteFault.OutOfMemory)) }
@@ -131,7 +131,7 @@ impl Plan {
         requires { kept_ids kept.now ≡ ids_of schema.now.fields }
         // The entries are those that the schema and the rows give, with their limits.
         ensures tallied { IfOk result
-            (λ plan. plan.entries ≡ tallied schema.now.fields batch.now.rows) }
+            (λ plan. plan.entries ≡ tally_of_rows schema.now.fields batch.now.rows) }
         // Each is sent where it has not been or lacks a value, and nowhere else.
         ensures settled { IfOk result
             (λ plan. AllSettled kept.now plan.entries plan.numbers) }
@@ -150,11 +150,11 @@ impl Plan {
             (λ plan. AllWithin limits.now schema.now.fields plan.entries) }
         // At W7 one would have more.
         ensures full { IfErr result (λ fault. fault ≡ WriteFault.DictionaryFull
-            → IsFull (tallied schema.now.fields batch.now.rows)) }
+            → IsIndexOverflow (tally_of_rows schema.now.fields batch.now.rows)) }
         // At W6 and W8 one would be longer than the limits allow.
         ensures over { IfErr result (λ fault. IsOfLimits fault
             → IsOverLimit limits.now schema.now.fields
-            (tallied schema.now.fields batch.now.rows) fault) }
+            (tally_of_rows schema.now.fields batch.now.rows) fault) }
         ensures only { IfErr result (λ fault. ((fault ≡ WriteFault.DictionaryFull)
             ⊎ IsOfLimits fault) ⊎ (fault ≡ WriteFault.OutOfMemory)) }
     {

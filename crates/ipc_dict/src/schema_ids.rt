@@ -2,8 +2,8 @@
 ghost use Rattle.std.specs.Prelude.{◌≡◌, ◌<◌, ◌++◌, ◌∷◌, [], ℕ, true, false, length, IfOk, IfSome};
 ghost use Rattle.std.specs.Prelude.{IfNone, OnOk, slice_index_or};
 ghost use Rattle.std.specs.Ordering.{int_eq};
-ghost use Rattle.ipc_dict.specs.SchemaIds.{of_field, of_fields, count_of, fresh, with_field};
-ghost use Rattle.ipc_dict.specs.SchemaIds.{unused};
+ghost use Rattle.ipc_dict.specs.SchemaIds.{of_field, of_fields, index_capacity, fresh, with_field};
+ghost use Rattle.ipc_dict.specs.SchemaIds.{empty_entries};
 ghost use Rattle.ipc_dict.specs.SchemaEntries.{AreOfSchema};
 ghost use Rattle.ipc_dict.specs.declared.entry.TallyEntry.{TallyEntry};
 
@@ -36,8 +36,8 @@ fn collect(found: &mut Vec<Dictionary>, fields: &[Field]) -> Result<(), AllocErr
 }
 
 // How many values the dictionary's indices count.
-fn count_of(dictionary: &Dictionary) -> usize
-    ensures { result ≡ count_of dictionary.now }
+fn index_capacity(dictionary: &Dictionary) -> usize
+    ensures { result ≡ index_capacity dictionary.now }
 {
     match (dictionary.index.bits, dictionary.index.signed) {
         (IntBits::B8, true) => 1 << 7,
@@ -72,7 +72,7 @@ fn find_entry(entries: &[TallyEntry], dictionary: &Dictionary) -> Option<usize>
 // Lowers the limit of the dictionary's entry to this one, where there is an entry. Answers whether
 // there is.
 fn lower_limit(entries: &mut [TallyEntry], dictionary: &Dictionary, limit: usize) -> bool
-    requires { limit ≡ count_of dictionary.now }
+    requires { limit ≡ index_capacity dictionary.now }
     ensures found { result ≡ true → entries.new ≡ with_field entries.old dictionary.now }
     ensures unchanged { result ≡ false → entries.new ≡ entries.old }
     ensures absent { result ≡ false
@@ -95,7 +95,7 @@ fn add_field(
 ) -> Result<(), AllocError>
     ensures { OnOk result (entries.new.items ≡ with_field entries.old.items dictionary.now) }
 {
-    let limit = count_of(dictionary);
+    let limit = index_capacity(dictionary);
     if lower_limit(entries, dictionary, limit) {
         return Ok(());
     }
@@ -108,12 +108,12 @@ fn add_field(
 }
 
 // An entry for each id that the fields name, in pre-order without repeats.
-pub(crate) fn unused_entries(
+pub(crate) fn empty_entries(
     alloc: Global,
     seed: Seed,
     fields: &[Field],
 ) -> Result<Vec<TallyEntry>, AllocError>
-    ensures { IfOk result (λ entries. entries.items ≡ unused fields.now) }
+    ensures { IfOk result (λ entries. entries.items ≡ empty_entries fields.now) }
 {
     let mut found = Vec::new(alloc);
     collect(&mut found, fields)?;

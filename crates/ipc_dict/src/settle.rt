@@ -1,10 +1,12 @@
 //! Plans each dictionary; the lists of dictionaries are all in one order.
 ghost use Rattle.std.specs.Prelude.{◌≡◌, ◌∷◌, ◌++◌, [], map, length, IfOk, OnOk, IfNone, IfSome};
-ghost use Rattle.ipc_dict.specs.Planning.{AreNumbers, Lacks, IsSettled, AllSettled, number_at};
-ghost use Rattle.ipc_dict.specs.Planning.{index, number, kept_number, after, after_all, own_send};
+ghost use Rattle.ipc_dict.specs.Planning.{AreFirstIndices, LacksValue, IsSettled, AllSettled};
+ghost use Rattle.ipc_dict.specs.Planning.{number_at};
+ghost use Rattle.ipc_dict.specs.Planning.{index, number, kept_number, values_after, after_all};
+ghost use Rattle.ipc_dict.specs.Planning.{own_send};
 ghost use Rattle.ipc_dict.specs.Planning.{sends_of, FindsAll, FindsNoted, KnowsAll};
 ghost use Rattle.ipc_dict.specs.SchemaIds.{kept_ids, tally_ids};
-ghost use Rattle.ipc_dict.specs.Distinct.{place};
+ghost use Rattle.ipc_dict.specs.Distinct.{first_index};
 
 use crate::distinct::DistinctValues;
 use crate::entry::{TallyEntry, find};
@@ -49,11 +51,15 @@ pub(crate) fn index_of(
     ensures { result ≡ index entries.now numbers.now id value.now }
 {
     let i = find(entries, id)?;
-    number_of(&entries[i].values, &numbers[i], value)
+    sent_index_of(&entries[i].values, &numbers[i], value)
 }
 
-fn number_of(values: &DistinctValues, numbers: &Option<Items<u64>>, value: &Value) -> Option<u64>
-    ensures { result ≡ number_at (place value.now values.now) numbers.now }
+fn sent_index_of(
+    values: &DistinctValues,
+    numbers: &Option<Items<u64>>,
+    value: &Value,
+) -> Option<u64>
+    ensures { result ≡ number_at (first_index value.now values.now) numbers.now }
 {
     let at = values.index_of(value)?;
     match numbers {
@@ -92,8 +98,8 @@ fn numbers_in(
     values: &[Value],
 ) -> Result<Option<Vec<u64>>, AllocError>
     ensures all { IfOk result
-        (λ o. IfSome o (λ to. AreNumbers known.now values.now to.items)) }
-    ensures lacks { IfOk result (λ o. IfNone o (Lacks known.now values.now)) }
+        (λ o. IfSome o (λ to. AreFirstIndices known.now values.now to.items)) }
+    ensures lacks { IfOk result (λ o. IfNone o (LacksValue known.now values.now)) }
 {
     let mut to = Vec::with_capacity(alloc, values.len())?;
     for value in values {
@@ -208,7 +214,7 @@ pub(crate) fn commit(
 // Keeps the values of one dictionary as the last ones sent, if the plan sends it.
 fn keep(alloc: Global, kept: &mut KeptEntry, entry: &mut TallyEntry, numbers: &Option<Items<u64>>)
     ensures { kept.new ≡ record kept.old {
-      values = after kept.old.values entry.old.values numbers.now;
+      values = values_after kept.old.values entry.old.values numbers.now;
     } }
 {
     if numbers.is_none() {

@@ -1,10 +1,12 @@
 //! The distinct values of a batch, counted row by row.
 ghost use Rattle.std.specs.Prelude.{◌↔◌, [], IsTrue};
 ghost use Rattle.std.specs.Prelude.{◌≡◌, true, false, length, IfOk, IfErr, OnOk, OnErr, ◌⊎◌, Err};
-ghost use Rattle.ipc_dict.specs.Noting.{note_all, AllFit, IsFull, HoldsDistinct, lens, cut};
+ghost use Rattle.ipc_dict.specs.Noting.{note_all, AllFit, IsIndexOverflow, HoldsDistinct};
+ghost use Rattle.ipc_dict.specs.Noting.{tally_lengths, truncated_tally};
 ghost use Rattle.ipc_dict.specs.Noting.{AllGrow, KeepsPlaces, PlacesAll};
 ghost use Rattle.ipc_dict.specs.Pairs.{row_pairs, rows_pairs};
-ghost use Rattle.ipc_dict.specs.SchemaIds.{ids_of, unused, kept_ids, tally_bounds, tally_ids};
+ghost use Rattle.ipc_dict.specs.SchemaIds.{ids_of, empty_entries, kept_ids, tally_bounds};
+ghost use Rattle.ipc_dict.specs.SchemaIds.{tally_ids};
 ghost use Rattle.ipc_dict.specs.Sending.{AreAddressed};
 ghost use Rattle.ipc_dict.specs.Planning.{AllSettled, FindsAll, FindsNoted, KnowsAll};
 ghost use Rattle.ipc_dict.specs.EntryColumns.{AreEntriesCounted};
@@ -16,8 +18,8 @@ use crate::columns::EntryColumns;
 use crate::entry::{TallyEntry, place_in};
 use crate::kept::Kept;
 use crate::plan::Plan;
-use crate::recent::Recent;
-use crate::schema_ids::unused_entries;
+use crate::recent_values::RecentValues;
+use crate::schema_ids::empty_entries;
 use crate::seed::Seed;
 use crate::settle::settle;
 use crate::walk::note_each;
@@ -40,7 +42,7 @@ pub struct Tally {
     // How many values each dictionary had before the row.
     marks: Vec<usize>,
     // The positions of values that were noted recently.
-    recent: Recent,
+    recent: RecentValues,
     // Each dictionary's values as the one column of its message.
     columns: EntryColumns,
     failed: bool,
@@ -52,12 +54,12 @@ impl Model for Tally {
     ghost use Rattle.ipc_model.specs.contracts.limits.Limits as limits;
     ghost use Rattle.ipc_model.specs.contracts.schema.Field as field;
     ghost use Rattle.ipc_dict.specs.contracts.entry.TallyEntry as entry;
-    ghost use Rattle.ipc_dict.specs.Tallied.{Tallied};
+    ghost use Rattle.ipc_dict.specs.TallyState.{TallyState};
     ghost use Rattle.ipc_dict.specs.Noting.{AllFit};
-    ghost use Rattle.ipc_dict.specs.SchemaIds.{tally_bounds, unused};
+    ghost use Rattle.ipc_dict.specs.SchemaIds.{tally_bounds, empty_entries};
     ghost use Rattle.ipc_dict.specs.EntryColumns.{AreEntriesCounted};
 
-    ghost Value = { Tallied };
+    ghost Value = { TallyState };
 
     ghost coded = { Prim.hlevel
         (codes, limits.the_row.coded, field.the_row.coded, entry.the_row.coded) };
@@ -70,7 +72,7 @@ impl Model for Tally {
     } };
 
     ghost invariant = { λ t. ((length t.marks.items ≡ length t.entries.items)
-        × (tally_bounds t.entries.items ≡ tally_bounds (unused t.fields)))
+        × (tally_bounds t.entries.items ≡ tally_bounds (empty_entries t.fields)))
         × (AllFit t.entries.items × AreEntriesCounted t.fields t.entries.items t.columns) };
 }
 
@@ -89,13 +91,13 @@ impl Tally {
           failed = false;
           limits = limits.now;
           fields = schema.now.fields;
-          entries = unused schema.now.fields;
+          entries = empty_entries schema.now.fields;
         }) }
         ensures within { IfOk result
             (λ tally. AllWithin limits.now schema.now.fields tally.entries) }
         // At W6 the column of no values of a dictionary is too long.
         ensures over { IfErr result (λ fault. fault ≡ WriteFault.TooLong
-            → IsOverLimit limits.now schema.now.fields (unused schema.now.fields) fault) }
+            → IsOverLimit limits.now schema.now.fields (empty_entries schema.now.fields) fault) }
         ensures only { IfErr result
             (λ fault. (fault ≡ WriteFault.TooLong) ⊎ (fault ≡ WriteFault.OutOfMemory)) }
     {
@@ -113,20 +115,20 @@ impl Tally {
           failed = false;
           limits = limits.now;
           fields = schema.now.fields;
-          entries = unused schema.now.fields;
+          entries = empty_entries schema.now.fields;
         }) }
         ensures within { IfOk result
             (λ tally. AllWithin limits.now schema.now.fields tally.entries) }
         // At W6 the column of no values of a dictionary is too long.
         ensures over { IfErr result (λ fault. fault ≡ WriteFault.TooLong
-            → IsOverLimit limits.now schema.now.fields (unused schema.now.fields) fault) }
+            → IsOverLimit limits.now schema.now.fields (empty_entries schema.now.fields) fault) }
         ensures only { IfErr result
             (λ fault. (fault ≡ WriteFault.TooLong) ⊎ (fault ≡ WriteFault.OutOfMemory)) }
     {
         let fields = schema.fields.clone()?;
-        let entries = unused_entries(alloc, seed, schema.fields.as_slice())?;
+        let entries = empty_entries(alloc, seed, schema.fields.as_slice())?;
         let marks = zeros_for(alloc, &entries)?;
-        let recent = Recent::new(alloc, entries.len())?;
+        let recent = RecentValues::new(alloc, entries.len())?;
         let columns = EntryColumns::new(alloc, limits, schema, &entries)?;
         Ok(Tally {
             fields,
@@ -165,7 +167,7 @@ impl Tally {
         ensures as_before { IfErr result
             (λ fault. IsOfLimits (write_fault fault) → self.new ≡ self.old) }
         ensures full { IfErr result (λ fault. write_fault fault ≡ WriteFault.DictionaryFull
-            → IsFull (note_all self.old.entries (row_pairs self.old.fields row.now))) }
+            → IsIndexOverflow (note_all self.old.entries (row_pairs self.old.fields row.now))) }
         // At W6 and W8 a dictionary's column would be longer than the limits allow.
         ensures over { IfErr result (λ fault. IsOfLimits (write_fault fault)
             → IsOverLimit self.old.limits self.old.fields
@@ -227,7 +229,7 @@ impl Tally {
         ensures as_before { IfErr result
             (λ fault. IsOfLimits (write_fault fault) → self.new ≡ self.old) }
         ensures full { IfErr result (λ fault. write_fault fault ≡ WriteFault.DictionaryFull
-            → IsFull (note_all self.old.entries
+            → IsIndexOverflow (note_all self.old.entries
             (rows_pairs self.old.fields batch.now.rows))) }
         // At W6 and W8 a dictionary's column would be longer than the limits allow.
         ensures over { IfErr result (λ fault. IsOfLimits (write_fault fault)
@@ -320,9 +322,9 @@ impl Tally {
 }
 
 impl IndexOf for Tally {
-    ghost use Rattle.ipc_dict.specs.Noting.{noted_place};
+    ghost use Rattle.ipc_dict.specs.Noting.{place_of_value};
 
-    ghost index = { λ tally id value. noted_place tally.entries id value };
+    ghost index = { λ tally id value. place_of_value tally.entries id value };
 
     // The position of the value among those of its dictionary so far. It does not change later.
     fn index_of(&self, id: i64, value: &Value) -> Option<u64> {
@@ -345,7 +347,7 @@ fn zeros_for(alloc: Global, entries: &[TallyEntry]) -> Result<Vec<usize>, AllocE
 #[tactic(auto, using(crate::proofs::Rows::ids_note_all, crate::proofs::Rows::bounds_note_all))]
 fn note_row(
     entries: &mut [TallyEntry],
-    recent: &mut Recent,
+    recent: &mut RecentValues,
     marks: &mut [usize],
     columns: &mut EntryColumns,
     fields: &[Field],
@@ -361,7 +363,7 @@ fn note_row(
     ensures err { OnErr result (entries.new ≡ entries.old) }
     ensures full { IfErr result
         (λ fault. write_fault fault ≡ WriteFault.DictionaryFull
-        → IsFull (note_all entries.old (row_pairs fields.now row.now))) }
+        → IsIndexOverflow (note_all entries.old (row_pairs fields.now row.now))) }
     ensures counted { AreEntriesCounted fields.now entries.new columns.new }
     ensures limits { columns.new.limits ≡ columns.old.limits }
     ensures over { IfErr result (λ fault. IsOfLimits (write_fault fault)
@@ -372,7 +374,7 @@ fn note_row(
         ⊎ (write_fault fault ≡ WriteFault.OutOfMemory)) }
 {
     mark(entries, marks);
-    if let Err(fault) = note_counted(entries, recent, marks, columns, fields, row) {
+    if let Err(fault) = note_and_count(entries, recent, marks, columns, fields, row) {
         restore(entries, marks);
         return Err(fault);
     }
@@ -380,22 +382,22 @@ fn note_row(
 }
 
 // Notes the values of a row, and counts those that came since the marks.
-fn note_counted(
+fn note_and_count(
     entries: &mut [TallyEntry],
-    recent: &mut Recent,
+    recent: &mut RecentValues,
     marks: &[usize],
     columns: &mut EntryColumns,
     fields: &[Field],
     row: &[Value],
 ) -> Result<(), PushFault>
-    requires marks { marks.now ≡ lens entries.old }
+    requires marks { marks.now ≡ tally_lengths entries.old }
     requires columns { AreEntriesCounted fields.now entries.old columns.old }
     ensures noted { OnOk result
         (entries.new ≡ note_all entries.old (row_pairs fields.now row.now)) }
     ensures fits { OnOk result (AllFit entries.old → AllFit entries.new) }
     ensures full { IfErr result
         (λ fault. write_fault fault ≡ WriteFault.DictionaryFull
-        → IsFull (note_all entries.old (row_pairs fields.now row.now))) }
+        → IsIndexOverflow (note_all entries.old (row_pairs fields.now row.now))) }
     ensures counted { OnOk result (AreEntriesCounted fields.now entries.new columns.new) }
     ensures kept { OnErr result (AreEntriesCounted fields.now entries.old columns.new) }
     ensures limits { columns.new.limits ≡ columns.old.limits }
@@ -408,7 +410,7 @@ fn note_counted(
     ensures grows { AllGrow entries.old entries.new }
 {
     note_each(entries, recent, fields, row)?;
-    if have_grown(entries, marks) {
+    if have_new_values(entries, marks) {
         columns.count(entries, marks)?;
     }
     Ok(())
@@ -419,7 +421,7 @@ fn note_counted(
 fn add_batch(
     alloc: Global,
     entries: &mut [TallyEntry],
-    recent: &mut Recent,
+    recent: &mut RecentValues,
     marks: &mut [usize],
     columns: &mut EntryColumns,
     fields: &[Field],
@@ -435,7 +437,7 @@ fn add_batch(
     ensures err { OnErr result (entries.new ≡ entries.old) }
     ensures full { IfErr result
         (λ fault. write_fault fault ≡ WriteFault.DictionaryFull
-        → IsFull (note_all entries.old (rows_pairs fields.now batch.now.rows))) }
+        → IsIndexOverflow (note_all entries.old (rows_pairs fields.now batch.now.rows))) }
     ensures counted { AreEntriesCounted fields.now entries.new columns.new }
     ensures limits { columns.new.limits ≡ columns.old.limits }
     ensures over { IfErr result (λ fault. IsOfLimits (write_fault fault)
@@ -457,20 +459,20 @@ fn add_batch(
 fn count_batch(
     alloc: Global,
     entries: &mut [TallyEntry],
-    recent: &mut Recent,
+    recent: &mut RecentValues,
     marks: &[usize],
     columns: &mut EntryColumns,
     fields: &[Field],
     batch: &Batch,
 ) -> Result<(), PushFault>
-    requires marks { marks.now ≡ lens entries.old }
+    requires marks { marks.now ≡ tally_lengths entries.old }
     requires columns { AreEntriesCounted fields.now entries.old columns.old }
     ensures noted { OnOk result
         (entries.new ≡ note_all entries.old (rows_pairs fields.now batch.now.rows)) }
     ensures fits { OnOk result (AllFit entries.old → AllFit entries.new) }
     ensures full { IfErr result
         (λ fault. write_fault fault ≡ WriteFault.DictionaryFull
-        → IsFull (note_all entries.old (rows_pairs fields.now batch.now.rows))) }
+        → IsIndexOverflow (note_all entries.old (rows_pairs fields.now batch.now.rows))) }
     ensures counted { OnOk result (AreEntriesCounted fields.now entries.new columns.new) }
     ensures kept { OnErr result (AreEntriesCounted fields.now entries.old columns.new) }
     ensures limits { columns.new.limits ≡ columns.old.limits }
@@ -483,16 +485,16 @@ fn count_batch(
     ensures grows { AllGrow entries.old entries.new }
 {
     note_batch(alloc, entries, recent, fields, batch)?;
-    if have_grown(entries, marks) {
+    if have_new_values(entries, marks) {
         columns.count(entries, marks)?;
     }
     Ok(())
 }
 
 // Whether a dictionary has another number of values than it had.
-fn have_grown(entries: &[TallyEntry], marks: &[usize]) -> bool
+fn have_new_values(entries: &[TallyEntry], marks: &[usize]) -> bool
     requires { length marks.now ≡ length entries.now }
-    ensures { result ≡ false → lens entries.now ≡ marks.now }
+    ensures { result ≡ false → tally_lengths entries.now ≡ marks.now }
 {
     for (i, entry) in entries.iter().enumerate() {
         if entry.values.len() != marks[i] {
@@ -505,7 +507,7 @@ fn have_grown(entries: &[TallyEntry], marks: &[usize]) -> bool
 // Keeps how many values each dictionary has.
 fn mark(entries: &[TallyEntry], marks: &mut [usize])
     requires { length marks.old ≡ length entries.now }
-    ensures { marks.new ≡ lens entries.now }
+    ensures { marks.new ≡ tally_lengths entries.now }
 {
     for (i, entry) in entries.iter().enumerate() {
         marks[i] = entry.values.len();
@@ -515,7 +517,7 @@ fn mark(entries: &[TallyEntry], marks: &mut [usize])
 // Cuts off the values that came since.
 fn restore(entries: &mut [TallyEntry], marks: &[usize])
     requires { length marks.now ≡ length entries.old }
-    ensures { entries.new ≡ cut marks.now entries.old }
+    ensures { entries.new ≡ truncated_tally marks.now entries.old }
 {
     for (i, len) in marks.iter().enumerate() {
         let entry = &mut entries[i];

@@ -1,18 +1,18 @@
 //! Finds the dictionary values of a row in field order, depth first, without nulls.
 ghost use Rattle.std.specs.Prelude.{◌≡◌, [], map, IfErr, IsTrue, OnOk, ◌⊎◌};
 ghost use Rattle.ipc_model.specs.declared.value.Value.{Value};
-ghost use Rattle.ipc_dict.specs.Noting.{note_all, AllFit, IsFull, AllGrow};
+ghost use Rattle.ipc_dict.specs.Noting.{note_all, AllFit, IsIndexOverflow, AllGrow};
 ghost use Rattle.ipc_dict.specs.Pairs.{pairs, items_pairs, each_pairs};
 
 use crate::entry::{TallyEntry, note_one};
-use crate::recent::Recent;
+use crate::recent_values::RecentValues;
 use ipc_encode::PushFault;
 use ipc_model::{DataType, Field, Value};
 
 /// Returns true only if neither the field nor a descendant names a dictionary.
 #[inline(always)]
 #[tactic(auto, using(crate::proofs::Walks::plain_pairs))]
-pub(crate) fn is_plain(field: &Field) -> bool
+pub(crate) fn has_no_dictionary(field: &Field) -> bool
     ensures { IsTrue result → (value : Value) → pairs field.now value ≡ [] }
 {
     field.dictionary.is_none() && field.children.is_empty()
@@ -25,7 +25,7 @@ pub(crate) fn is_plain(field: &Field) -> bool
 #[tactic(auto, using(crate::proofs::Notes::all_grow_same, crate::proofs::Notes::all_grow_trans))]
 pub(crate) fn note_value(
     entries: &mut [TallyEntry],
-    recent: &mut Recent,
+    recent: &mut RecentValues,
     field: &Field,
     value: &Value,
 ) -> Result<(), PushFault>
@@ -33,12 +33,12 @@ pub(crate) fn note_value(
     ensures fits { OnOk result (AllFit entries.old → AllFit entries.new) }
     ensures full { IfErr result
         (λ fault. fault ≡ PushFault.DictionaryFull
-        → IsFull (note_all entries.old (pairs field.now value.now))) }
+        → IsIndexOverflow (note_all entries.old (pairs field.now value.now))) }
     ensures memory { IfErr result
         (λ fault. (fault ≡ PushFault.DictionaryFull) ⊎ (fault ≡ PushFault.OutOfMemory)) }
     ensures grows { AllGrow entries.old entries.new }
 {
-    if is_plain(field) {
+    if has_no_dictionary(field) {
         return Ok(());
     }
     note_named(entries, recent, field, value)
@@ -49,7 +49,7 @@ pub(crate) fn note_value(
 #[tactic(auto, using(crate::proofs::Notes::all_grow_same, crate::proofs::Notes::all_grow_trans))]
 fn note_named(
     entries: &mut [TallyEntry],
-    recent: &mut Recent,
+    recent: &mut RecentValues,
     field: &Field,
     value: &Value,
 ) -> Result<(), PushFault>
@@ -57,7 +57,7 @@ fn note_named(
     ensures fits { OnOk result (AllFit entries.old → AllFit entries.new) }
     ensures full { IfErr result
         (λ fault. fault ≡ PushFault.DictionaryFull
-        → IsFull (note_all entries.old (pairs field.now value.now))) }
+        → IsIndexOverflow (note_all entries.old (pairs field.now value.now))) }
     ensures memory { IfErr result
         (λ fault. (fault ≡ PushFault.DictionaryFull) ⊎ (fault ≡ PushFault.OutOfMemory)) }
     ensures grows { AllGrow entries.old entries.new }
@@ -88,7 +88,7 @@ fn note_named(
 #[tactic(auto, using(crate::proofs::Notes::all_grow_same, crate::proofs::Notes::all_grow_trans))]
 fn note_items(
     entries: &mut [TallyEntry],
-    recent: &mut Recent,
+    recent: &mut RecentValues,
     child: &Field,
     values: &[Value],
 ) -> Result<(), PushFault>
@@ -97,7 +97,7 @@ fn note_items(
     ensures fits { OnOk result (AllFit entries.old → AllFit entries.new) }
     ensures full { IfErr result
         (λ fault. fault ≡ PushFault.DictionaryFull
-        → IsFull (note_all entries.old (items_pairs (pairs child.now) values.now))) }
+        → IsIndexOverflow (note_all entries.old (items_pairs (pairs child.now) values.now))) }
     ensures memory { IfErr result
         (λ fault. (fault ≡ PushFault.DictionaryFull) ⊎ (fault ≡ PushFault.OutOfMemory)) }
     ensures grows { AllGrow entries.old entries.new }
@@ -113,7 +113,7 @@ fn note_items(
 #[tactic(auto, using(crate::proofs::Notes::all_grow_same, crate::proofs::Notes::all_grow_trans))]
 pub(crate) fn note_each(
     entries: &mut [TallyEntry],
-    recent: &mut Recent,
+    recent: &mut RecentValues,
     fields: &[Field],
     values: &[Value],
 ) -> Result<(), PushFault>
@@ -122,7 +122,7 @@ pub(crate) fn note_each(
     ensures fits { OnOk result (AllFit entries.old → AllFit entries.new) }
     ensures full { IfErr result
         (λ fault. fault ≡ PushFault.DictionaryFull
-        → IsFull (note_all entries.old (each_pairs (map pairs fields.now) values.now))) }
+        → IsIndexOverflow (note_all entries.old (each_pairs (map pairs fields.now) values.now))) }
     ensures memory { IfErr result
         (λ fault. (fault ≡ PushFault.DictionaryFull) ⊎ (fault ≡ PushFault.OutOfMemory)) }
     ensures grows { AllGrow entries.old entries.new }

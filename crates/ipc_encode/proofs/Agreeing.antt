@@ -1,6 +1,6 @@
 -- A builder holds the same rows under any indices that agree on their values.
 use Rattle.ipc_column.specs.Shapes.{shape_of}
-use Rattle.ipc_encode.specs.Buffers.{columns}
+use Rattle.ipc_encode.specs.Buffers.{row_columns}
 use Rattle.ipc_encode.specs.Built.{HoldsAgreeing}
 use Rattle.ipc_encode.proofs.Indexed.{columns_agree}
 
@@ -9,7 +9,7 @@ holds_agreeing known others limits fields rows builder same h = record {
   limits_are = h.limits_are;
   works = h.works;
   count = h.count;
-  columns_are = columns_agree known others limits (shape_of fields) builder.nodes.items (columns rows) same h.columns_are;
+  columns_are = columns_agree known others limits (shape_of fields) builder.nodes.items (row_columns rows) same h.columns_are;
   within = h.within;
   has_headroom = h.has_headroom;
 }

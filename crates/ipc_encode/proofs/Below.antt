@@ -12,13 +12,13 @@ use Rattle.ipc_model.specs.declared.value.Value.TheOpen.{Value-F}
 use Rattle.ipc_model.specs.declared.value.Value.TheVariants as v
 use Rattle.ipc_model.specs.declared.value.Value.TheViews.{out-Value, roll-Value, out-roll-Value, roll-out-Value}
 use Rattle.std.proofs.Math.Nat.{suc-mul}
-use Rattle.ipc_encode.specs.Buffers.{below, nulls_below}
-use Rattle.ipc_encode.specs.Cells.{cell, fixed_items_in, part_in, items, fixed_items, part}
+use Rattle.ipc_encode.specs.Buffers.{child_values, nulls_below}
+use Rattle.ipc_encode.specs.Cells.{cell, fixed_items_in, part_in, items, fixed_items, struct_member}
 use Rattle.ipc_encode.proofs.Steps.{below_append, below_none}
 
 -- ---- a null
 
-null_part : (j : ℕ) → part j v.Null ≡ v.Null
+null_part : (j : ℕ) → struct_member j v.Null ≡ v.Null
 unfolding V.out-Value denote.Hole.Carrier.out
 null_part j = refl
 
@@ -31,7 +31,7 @@ unfolding V.out-Value denote.Hole.Carrier.out
 null_fixed size = refl
 
 -- what a null gives to each child
-pub null_gives : (layout : Layout) (j : ℕ) → below layout (v.Null ∷ []) j ≡ replicate (nulls_below layout) v.Null
+pub null_gives : (layout : Layout) (j : ℕ) → child_values layout (v.Null ∷ []) j ≡ replicate (nulls_below layout) v.Null
 null_gives l.Structs j = ap (λ (w : Value). w ∷ []) (null_part j)
 null_gives (l.FixedLists size) j = append-nil (fixed_items size v.Null) ∙ null_fixed size
 null_gives l.Lists j = append-nil (items v.Null) ∙ null_items
@@ -44,12 +44,12 @@ null_gives (l.Indices bits signed id) j = refl
 
 -- what so many nulls give to it
 pub nulls_give : (layout : Layout) (count j : ℕ)
-    → below layout (replicate count v.Null) j ≡ replicate (count * nulls_below layout) v.Null
+    → child_values layout (replicate count v.Null) j ≡ replicate (count * nulls_below layout) v.Null
 nulls_give layout zero j =
     below_none layout j ∙ ap (λ (n : ℕ). replicate n v.Null) (let e : 0 ≡ 0 * nulls_below layout = omega arith in e)
 nulls_give layout (suc n) j =
     below_append layout (v.Null ∷ []) (replicate n v.Null) j
-    ∙ (ap (λ (vs : List Value). vs ++ below layout (replicate n v.Null) j) (null_gives layout j)
+    ∙ (ap (λ (vs : List Value). vs ++ child_values layout (replicate n v.Null) j) (null_gives layout j)
     ∙ (ap (λ (vs : List Value). replicate (nulls_below layout) v.Null ++ vs) (nulls_give layout n j)
     ∙ (replicate-append-replicate (nulls_below layout) (n * nulls_below layout) v.Null
     ∙ ap (λ (k : ℕ). replicate k v.Null)
@@ -69,9 +69,10 @@ nulls_first values n count few = ap (λ (vs : List Value). values ++ vs) (sym (t
 
 -- ---- a list, a struct, and another value
 
-pub parts_are : (value : Value) (values : List Value) → value ≡ v.Struct values → (j : ℕ) → part j value ≡ cell j values
+pub parts_are : (value : Value) (values : List Value) → value ≡ v.Struct values → (j : ℕ) → struct_member j value ≡ cell j values
 unfolding out-Value roll-Value Carrier.roll
-parts_are value values e j = ap (λ (w : Value). part j w) e ∙ ap (λ (w : Value-F Value). part_in j w) (out-roll-Value (o.Struct values))
+parts_are value values e j = ap (λ (w : Value). struct_member j w) e ∙ ap (λ (w : Value-F Value). part_in j w)
+    (out-roll-Value (o.Struct values))
 
 pub fixed_are : (size : ℕ) (value : Value) (values : List Value) → value ≡ v.List values → fixed_items size value ≡ values
 unfolding out-Value roll-Value Carrier.roll
@@ -91,50 +92,50 @@ no_fixed : (size : ℕ) (value : Value) → ((values : List Value) → value ≡
 unfolding roll-Value Carrier.roll
 no_fixed size value other = no_fixed_in size (out-Value value) (λ values e. other values (sym (roll-out-Value value) ∙ ap roll-Value e))
 
-no_struct : (value : Value) → ((values : List Value) → value ≡ v.Struct values → ⊥) → (j : ℕ) → part j value ≡ v.Null
+no_struct : (value : Value) → ((values : List Value) → value ≡ v.Struct values → ⊥) → (j : ℕ) → struct_member j value ≡ v.Null
 unfolding roll-Value Carrier.roll
 no_struct value other j = no_parts_in j (out-Value value) (λ values e. other values (sym (roll-out-Value value) ∙ ap roll-Value e))
 
 -- what is no list gives as many nulls to the child of a column of lists of a fixed size
 pub fixed_gives : (layout : Layout) (size : ℕ) (value : Value) → layout ≡ l.FixedLists size
     → ((values : List Value) → value ≡ v.List values → ⊥) → (j : ℕ)
-    → below layout (value ∷ []) j ≡ replicate (nulls_below layout) v.Null
+    → child_values layout (value ∷ []) j ≡ replicate (nulls_below layout) v.Null
 fixed_gives layout size value e other j = rw e (append-nil (fixed_items size value) ∙ no_fixed size value other)
 
 -- what is no struct gives a null to each child of a column of structs
 pub struct_gives : (layout : Layout) (value : Value) → layout ≡ l.Structs → ((values : List Value) → value ≡ v.Struct values → ⊥)
-    → (j : ℕ) → below layout (value ∷ []) j ≡ replicate (nulls_below layout) v.Null
+    → (j : ℕ) → child_values layout (value ∷ []) j ≡ replicate (nulls_below layout) v.Null
 struct_gives layout value e other j = rw e (ap (λ (w : Value). w ∷ []) (no_struct value other j))
 
 -- what values give, behind the others
-pub more_below : (layout : Layout) (vs ws : List Value) (more : ℕ → List Value) → ((j : ℕ) → below layout ws j ≡ more j)
-    → ◌≡◌ {A = ℕ → List Value} (λ j. below layout vs j ++ more j) (below layout (vs ++ ws))
+pub more_below : (layout : Layout) (vs ws : List Value) (more : ℕ → List Value) → ((j : ℕ) → child_values layout ws j ≡ more j)
+    → ◌≡◌ {A = ℕ → List Value} (λ j. child_values layout vs j ++ more j) (child_values layout (vs ++ ws))
 more_below layout vs ws more gives = λ d j. sym (below_append layout vs ws j
-    ∙ ap (λ (given : List Value). below layout vs j ++ given) (gives j)) d
+    ∙ ap (λ (given : List Value). child_values layout vs j ++ given) (gives j)) d
 
 -- the items of a list behind the others
 pub lists_more : (layout : Layout) (vs : List Value) (value : Value) (values : List Value) → layout ≡ l.Lists → items value ≡ values
-    → ◌≡◌ {A = ℕ → List Value} (λ j. below layout vs j ++ values) (below layout (vs ++ value ∷ []))
+    → ◌≡◌ {A = ℕ → List Value} (λ j. child_values layout vs j ++ values) (child_values layout (vs ++ value ∷ []))
 lists_more layout vs value values e is =
     more_below layout vs (value ∷ []) (λ j. values) (λ j. rw e (append-nil (items value) ∙ is))
 
 -- the same of a list of a fixed size
 pub fixed_more : (layout : Layout) (size : ℕ) (vs : List Value) (value : Value) (values : List Value) → layout ≡ l.FixedLists size
     → fixed_items size value ≡ values
-    → ◌≡◌ {A = ℕ → List Value} (λ j. below layout vs j ++ values) (below layout (vs ++ value ∷ []))
+    → ◌≡◌ {A = ℕ → List Value} (λ j. child_values layout vs j ++ values) (child_values layout (vs ++ value ∷ []))
 fixed_more layout size vs value values e is =
     more_below layout vs (value ∷ []) (λ j. values) (λ j. rw e (append-nil (fixed_items size value) ∙ is))
 
 -- a part of a struct behind the others
 pub structs_more : (layout : Layout) (vs : List Value) (value : Value) (next : ℕ → Value) → layout ≡ l.Structs
-    → ((j : ℕ) → part j value ≡ next j)
-    → ◌≡◌ {A = ℕ → List Value} (λ j. below layout vs j ++ next j ∷ []) (below layout (vs ++ value ∷ []))
+    → ((j : ℕ) → struct_member j value ≡ next j)
+    → ◌≡◌ {A = ℕ → List Value} (λ j. child_values layout vs j ++ next j ∷ []) (child_values layout (vs ++ value ∷ []))
 structs_more layout vs value next e is =
     more_below layout vs (value ∷ []) (λ j. next j ∷ []) (λ j. rw e (ap (λ (w : Value). w ∷ []) (is j)))
 
 -- so many nulls behind the others
 pub nulls_more : (layout : Layout) (vs : List Value) (value : Value) (count : ℕ) → count ≡ nulls_below layout
-    → ((j : ℕ) → below layout (value ∷ []) j ≡ replicate (nulls_below layout) v.Null)
-    → ◌≡◌ {A = ℕ → List Value} (λ j. below layout vs j ++ replicate count v.Null) (below layout (vs ++ value ∷ []))
+    → ((j : ℕ) → child_values layout (value ∷ []) j ≡ replicate (nulls_below layout) v.Null)
+    → ◌≡◌ {A = ℕ → List Value} (λ j. child_values layout vs j ++ replicate count v.Null) (child_values layout (vs ++ value ∷ []))
 nulls_more layout vs value count e gives =
     more_below layout vs (value ∷ []) (λ j. replicate count v.Null) (λ j. gives j ∙ ap (λ (n : ℕ). replicate n v.Null) (sym e))

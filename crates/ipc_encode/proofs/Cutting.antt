@@ -9,9 +9,9 @@ use Rattle.ipc_model.specs.declared.layout.Layout.{Layout}
 use Rattle.ipc_model.specs.declared.layout.Layout.TheVariants as l
 use Rattle.ipc_model.specs.Layouts.{own_buffers}
 use Rattle.ipc_column.specs.Columns.{Columns, none, column, EachTop}
-use Rattle.ipc_column.specs.Shapes.{Shape, bare, field, nodes_in, buffers_in, node_at, buffer_at, column_at, cut}
+use Rattle.ipc_column.specs.Shapes.{Shape, bare, field, node_count, buffer_count, node_at, buffer_at, column_at, assigned_columns}
 use Rattle.ipc_encode.specs.Cells.{nulls}
-use Rattle.ipc_encode.specs.Buffers.{column_buffers, below, nodes_of, buffers_with, stored}
+use Rattle.ipc_encode.specs.Buffers.{column_buffers, child_values, nodes_of, buffers_with, written_values}
 use Rattle.ipc_encode.specs.Numbers.{Numbering}
 use Rattle.ipc_column.specs.Dictionaries.{Dictionaries, values_for}
 use Rattle.ipc_encode.proofs.Indexed.{validity_same}
@@ -21,7 +21,7 @@ use Rattle.ipc_encode.proofs.ReadbackParts.{column_of}
 abbrev pub written : Dictionaries → Numbering → Shape → (ℕ → List Value) → Columns
 written m known bare given = none
 written m known (field l children rest) given =
-    column (column_of m known l (given 0)) (written m known children (below l (given 0))) (written m known rest (λ j. given (suc j)))
+    column (column_of m known l (given 0)) (written m known children (child_values l (given 0))) (written m known rest (λ j. given (suc j)))
 
 -- what holds of the number of values of each column holds of the slots that are written
 pub slots_written : (m : Dictionaries) (known : Numbering) (P : ℕ → Type 0) (s : Shape) (given : ℕ → List Value)
@@ -45,25 +45,25 @@ own_length (l.FixedLists size) vs = refl
 own_length (l.Indices bits signed id) vs = refl
 
 -- a node is written for each field, children included
-pub nodes_length : (s : Shape) (given : ℕ → List Value) → length (nodes_of s given) ≡ nodes_in s
-unfolding nodes_in
+pub nodes_length : (s : Shape) (given : ℕ → List Value) → length (nodes_of s given) ≡ node_count s
+unfolding node_count
 nodes_length bare given = refl
 nodes_length (field l children rest) given =
-    let inner = nodes_length children (below l (given 0)) in
+    let inner = nodes_length children (child_values l (given 0)) in
     let others = nodes_length rest (λ j. given (suc j)) in
-    omega (arith, inner, others, length-append (nodes_of children (below l (given 0))) (nodes_of rest (λ j. given (suc j))))
+    omega (arith, inner, others, length-append (nodes_of children (child_values l (given 0))) (nodes_of rest (λ j. given (suc j))))
 
 -- the buffers of each field are written, children included
-pub buffers_length : (known : Numbering) (s : Shape) (given : ℕ → List Value) → length (buffers_with known s given) ≡ buffers_in s
-unfolding buffers_in
+pub buffers_length : (known : Numbering) (s : Shape) (given : ℕ → List Value) → length (buffers_with known s given) ≡ buffer_count s
+unfolding buffer_count
 buffers_length known bare given = refl
 buffers_length known (field l children rest) given =
-    let inner = buffers_length known children (below l (given 0)) in
+    let inner = buffers_length known children (child_values l (given 0)) in
     let others = buffers_length known rest (λ j. given (suc j)) in
-    let behind = buffers_with known children (below l (given 0)) ++ buffers_with known rest (λ j. given (suc j)) in
-    let parts = length-append (buffers_with known children (below l (given 0))) (buffers_with known rest (λ j. given (suc j))) in
-    let whole = length-append (column_buffers l (stored known l (given 0))) behind in
-    omega (arith, inner, others, parts, whole, own_length l (stored known l (given 0)))
+    let behind = buffers_with known children (child_values l (given 0)) ++ buffers_with known rest (λ j. given (suc j)) in
+    let parts = length-append (buffers_with known children (child_values l (given 0))) (buffers_with known rest (λ j. given (suc j))) in
+    let whole = length-append (column_buffers l (written_values known l (given 0))) behind in
+    omega (arith, inner, others, parts, whole, own_length l (written_values known l (given 0)))
 
 -- ---- where they stand
 
@@ -94,7 +94,7 @@ BuffersAt head body n bs = StandAt (buffer_at head body) [] n bs
 
 -- a column whose node and buffers were written is cut out of the body again
 pub column_back : (ds : Dictionaries) (known : Numbering) (l : Layout) (vs : List Value) (head : BatchHead) (body : List ℕ) (n m : ℕ)
-    → node_at head n ≡ (pos (length vs), pos (nulls vs)) → BuffersAt head body m (column_buffers l (stored known l vs))
+    → node_at head n ≡ (pos (length vs), pos (nulls vs)) → BuffersAt head body m (column_buffers l (written_values known l vs))
     → column_at ds l head body n m ≡ column_of ds known l vs
 column_back ds known l.Null vs head body n m e h =
     λ i. record {
@@ -207,14 +207,14 @@ column_back ds known (l.VariableBytes utf8) vs head body n m e h =
 -- the columns whose nodes and buffers were written are cut out of the body again
 pub cut_back : (ds : Dictionaries) (known : Numbering) (s : Shape) (given : ℕ → List Value) (head : BatchHead) (body : List ℕ)
     (n m : ℕ) → NodesAt head n (nodes_of s given)
-    → BuffersAt head body m (buffers_with known s given) → cut ds s head body n m ≡ written ds known s given
-unfolding cut
+    → BuffersAt head body m (buffers_with known s given) → assigned_columns ds s head body n m ≡ written ds known s given
+unfolding assigned_columns
 cut_back ds known bare given head body n m ns bs = refl
 cut_back ds known (field l children rest) given head body n m ns bs =
     let vs = given 0 in
-    let own = column_buffers l (stored known l vs) in
-    let inner_nodes = nodes_of children (below l vs) in
-    let inner_buffers = buffers_with known children (below l vs) in
+    let own = column_buffers l (written_values known l vs) in
+    let inner_nodes = nodes_of children (child_values l vs) in
+    let inner_buffers = buffers_with known children (child_values l vs) in
     let other_nodes = nodes_of rest (λ j. given (suc j)) in
     let other_buffers = buffers_with known rest (λ j. given (suc j)) in
     let nodes = node_at head in
@@ -225,14 +225,15 @@ cut_back ds known (field l children rest) given head body n m ns bs =
     stand_behind nodes (pos 0, pos 0) n (n + 1) 1 ((pos (length vs), pos (nulls vs)) ∷ []) (inner_nodes ++ other_nodes) refl refl ns in
     let later_buffers : BuffersAt head body (m + own_buffers l) (inner_buffers ++ other_buffers) =
     stand_behind buffers [] m (m + own_buffers l) (own_buffers l) own (inner_buffers ++ other_buffers)
-    (own_length l (stored known l vs)) refl bs in
+    (own_length l (written_values known l vs)) refl bs in
     let first = column_back ds known l vs head body n m node (stand_front buffers [] m own (inner_buffers ++ other_buffers) bs) in
-    let inner = cut_back ds known children (below l vs) head body (n + 1) (m + own_buffers l)
+    let inner = cut_back ds known children (child_values l vs) head body (n + 1) (m + own_buffers l)
     (stand_front nodes (pos 0, pos 0) (n + 1) inner_nodes other_nodes later_nodes)
     (stand_front buffers [] (m + own_buffers l) inner_buffers other_buffers later_buffers) in
-    let others = cut_back ds known rest (λ j. given (suc j)) head body (n + 1 + nodes_in children) (m + own_buffers l + buffers_in children)
-    (stand_behind nodes (pos 0, pos 0) (n + 1) (n + 1 + nodes_in children) (nodes_in children) inner_nodes other_nodes
-    (nodes_length children (below l vs)) refl later_nodes)
-    (stand_behind buffers [] (m + own_buffers l) (m + own_buffers l + buffers_in children) (buffers_in children) inner_buffers
-    other_buffers (buffers_length known children (below l vs)) refl later_buffers) in
+    let others = cut_back ds known rest (λ j. given (suc j)) head body (n + 1 + node_count children)
+    (m + own_buffers l + buffer_count children)
+    (stand_behind nodes (pos 0, pos 0) (n + 1) (n + 1 + node_count children) (node_count children) inner_nodes other_nodes
+    (nodes_length children (child_values l vs)) refl later_nodes)
+    (stand_behind buffers [] (m + own_buffers l) (m + own_buffers l + buffer_count children) (buffer_count children) inner_buffers
+    other_buffers (buffers_length known children (child_values l vs)) refl later_buffers) in
     λ i. column (first i) (inner i) (others i)

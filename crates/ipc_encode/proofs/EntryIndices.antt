@@ -11,14 +11,14 @@ use Rattle.ipc_model.specs.declared.value.Value.{Value, out-Value}
 use Rattle.ipc_model.specs.declared.value.Value.TheOpen.{Value-F}
 use Rattle.ipc_model.specs.declared.value.Value.TheVariants.{Null}
 use Rattle.ipc_encode.specs.Cells.{is_null, is_set}
-use Rattle.ipc_encode.specs.Numbers.{index_in, index_of, indices_of}
+use Rattle.ipc_encode.specs.Numbers.{index_unless_null, index_of, indices_of}
 use Rattle.ipc_encode.specs.Pieces.{Valid}
 
 -- a value has an index where it isn't null
 pub valid_index : (known : Value → ℕ) (v : Value) → is_some (index_of known v) ≡ is_set Valid v
 valid_index known v = by (known v) (out-Value v)
   where
-    by : (i : ℕ) (o : Value-F Value) → is_some (index_in i o) ≡ not (is_null o)
+    by : (i : ℕ) (o : Value-F Value) → is_some (index_unless_null i o) ≡ not (is_null o)
     by i Value-F.Null = refl
     by i o = refl
 

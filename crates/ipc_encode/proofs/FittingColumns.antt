@@ -4,7 +4,7 @@ use Rattle.std.proofs.Common.{List, [], ◌∷◌, ◌++◌, length, get_or, tak
 use Rattle.std.specs.Prelude.{IsTrue, IsOk, not, ◌⊎◌, slice_get, Some}
 use Rattle.std.specs.List.{AllByRecursion}
 use Rattle.std.proofs.lemmas.List.{take_more}
-use Rattle.ipc_model.specs.Fits.{EachFits, Fits, InnerFit, IsOfKind, IsOwn, RowFits}
+use Rattle.ipc_model.specs.Fits.{EachFits, Fits, InnerFit, IsOfKind, FitsOwnType, RowFits}
 use Rattle.ipc_model.specs.Refusals.{refusal_of}
 use Rattle.ipc_model.specs.RowFaults.{row_faults, verdict}
 use Rattle.ipc_model.specs.declared.fault.WriteFault.{WriteFault}
@@ -20,14 +20,14 @@ use Rattle.ipc_model.specs.declared.value.Value.TheOpen.{Value-F}
 use Rattle.ipc_model.specs.declared.value.Value.TheVariants as v
 use Rattle.ipc_model.specs.declared.value.Value.TheVariants.{Null}
 use Rattle.ipc_column.specs.declared.ranges.ColumnRanges.{ColumnRanges}
-use Rattle.ipc_column.specs.Nested.{Nested, below, slot_values}
+use Rattle.ipc_column.specs.Nested.{Nested, child_columns, slot_values}
 use Rattle.ipc_column.specs.Plain.{IsShownBy}
 use Rattle.ipc_column.specs.Slots.{is_null, nested_in}
-use Rattle.ipc_column.specs.Values.{first_of, is_valid, items, place, row}
-use Rattle.ipc_column.specs.Views.{columns}
+use Rattle.ipc_column.specs.Values.{first_of, is_valid, items, offset_position, row}
+use Rattle.ipc_column.specs.Views.{part_columns}
 use Rattle.ipc_encode.specs.Cells as c
 use Rattle.ipc_encode.specs.Cells.{all_items, cell, is_set, items_in}
-use Rattle.ipc_encode.specs.Misfits.{Misfits}
+use Rattle.ipc_encode.specs.Mismatches.{AreMismatches}
 use Rattle.ipc_encode.specs.Pieces.{Valid}
 use Rattle.ipc_encode.proofs.LentBuffers.{list_out, slot_is, struct_out}
 use Rattle.ipc_encode.proofs.NestedFits.{all_behind, all_front}
@@ -74,13 +74,13 @@ clear_only value e = absurd (cc)
 pub null_slot : (f : Field) (value : Value) → value ≡ v.Null → (is_set Valid value ≡ false → MayBeNull f) → Fits f value
 null_slot f value is may =
     null_fits f value is
-    (subst (λ (w : Value-F Value). IsOwn (out-Field f).kind (out-Field f).nullable (length (out-Field f).children) w)
+    (subst (λ (w : Value-F Value). FitsOwnType (out-Field f).kind (out-Field f).nullable (length (out-Field f).children) w)
     (sym (ap out-Value is ∙ null_out)) (may (clear value is)))
 
 -- a value of the field's own, or null where that fits
 pub own_slot : (f : Field) (value : Value) → length (out-Field f).children ≡ 0 → (is_set Valid value ≡ false → MayBeNull f)
     → (is_set Valid value ≡ true
-    → IsOwn (out-Field f).kind (out-Field f).nullable (length (out-Field f).children) (out-Value value)) → Fits f value
+    → FitsOwnType (out-Field f).kind (out-Field f).nullable (length (out-Field f).children) (out-Value value)) → Fits f value
 own_slot f value none may own = either (is_set Valid value) refl
   where
     either : (b : Bool) → is_set Valid value ≡ b → Fits f value
@@ -88,7 +88,7 @@ own_slot f value none may own = either (is_set Valid value) refl
     either false e = null_slot f value (clear_only value e) may
 
 own_kind : (kind : DataType) (nullable : Bool) (n : ℕ) (value : Value) → is_null value ≡ false → IsOfKind kind n (out-Value value)
-    → IsOwn kind nullable n (out-Value value)
+    → FitsOwnType kind nullable n (out-Value value)
 unfolding out-Value denote.Hole.Carrier.out
 own_kind kind nullable n v.Null some h = absurd (cc)
 own_kind kind nullable n value some h = h
@@ -134,20 +134,20 @@ list_slot s f fs i laid kind those m may inner = either (is_valid s.column.valid
     either : (valid : Bool) → is_valid s.column.validity i ≡ valid → Fits f (get_or (slot_values s) i Null)
     either true e =
         let value = get_or (slot_values s) i Null in
-        let vs = items (λ j. first_of (row (below s) j)) (place s.column.offsets i) (place s.column.offsets
-        (i + 1) - place s.column.offsets i) in
+        let vs = items (λ j. first_of (row (child_columns s) j)) (offset_position s.column.offsets i) (offset_position s.column.offsets
+        (i + 1) - offset_position s.column.offsets i) in
         let is : value ≡ v.List vs = slot_is s i m ∙ rw (e, laid) refl in
         let shown : out-Value value ≡ o.List vs = ap out-Value is ∙ list_out vs in
-        let own = subst (λ (w : Value-F Value). IsOwn (out-Field f).kind (out-Field f).nullable (length (out-Field f).children) w)
+        let own = subst (λ (w : Value-F Value). FitsOwnType (out-Field f).kind (out-Field f).nullable (length (out-Field f).children) w)
         (sym shown)
-        (subst (λ (k : DataType). IsOwn k (out-Field f).nullable (length (out-Field f).children) (o.List vs)) (sym kind) tt) in
+        (subst (λ (k : DataType). FitsOwnType k (out-Field f).nullable (length (out-Field f).children) (o.List vs)) (sym kind) tt) in
         list_fits f value fs vs vs those refl is own
         (subst (λ (ws : List Value). InnerFit Fits t.List fs (o.List ws)) (ap items_in shown) (inner_at fs (slot_values s) i m inner))
     either false e = null_slot f (get_or (slot_values s) i Null) (slot_is s i m ∙ rw e refl) may
 
 -- ---- structs
 
-row_length : (body : List ℕ) (ps : List ColumnRanges) (i : ℕ) → length (row (columns body ps) i) ≡ length ps
+row_length : (body : List ℕ) (ps : List ColumnRanges) (i : ℕ) → length (row (part_columns body ps) i) ≡ length ps
 row_length body [] i = refl
 row_length body (p ∷ ps) i = ap (λ (n : ℕ). suc n) (row_length body ps i)
 
@@ -155,26 +155,26 @@ row_length body (p ∷ ps) i = ap (λ (n : ℕ). suc n) (row_length body ps i)
 pub struct_slot : (s : Nested) (f : Field) (fs : List Field) (i : ℕ) → s.column.layout ≡ l.Structs → (out-Field f).kind ≡ t.Struct
     → fs ≡ (out-Field f).children → length fs ≡ length s.children → i < length (slot_values s)
     → (is_set Valid (get_or (slot_values s) i Null) ≡ false → MayBeNull f)
-    → (is_valid s.column.validity i ≡ true → EachFits Fits fs (row (below s) i)) → Fits f (get_or (slot_values s) i Null)
+    → (is_valid s.column.validity i ≡ true → EachFits Fits fs (row (child_columns s) i)) → Fits f (get_or (slot_values s) i Null)
 struct_slot s f fs i laid kind those many m may each = either (is_valid s.column.validity i) refl
   where
     either : (valid : Bool) → is_valid s.column.validity i ≡ valid → Fits f (get_or (slot_values s) i Null)
     either true e =
         let value = get_or (slot_values s) i Null in
-        let vs = row (below s) i in
+        let vs = row (child_columns s) i in
         let is : value ≡ v.Struct vs = slot_is s i m ∙ rw (e, laid) refl in
         let shown : out-Value value ≡ o.Struct vs = ap out-Value is ∙ struct_out vs in
         let size : length vs ≡ length (out-Field f).children =
         row_length s.body s.children i ∙ (sym many ∙ ap (λ (gs : List Field). length gs) those) in
-        let own = subst (λ (w : Value-F Value). IsOwn (out-Field f).kind (out-Field f).nullable (length (out-Field f).children) w)
+        let own = subst (λ (w : Value-F Value). FitsOwnType (out-Field f).kind (out-Field f).nullable (length (out-Field f).children) w)
         (sym shown)
-        (subst (λ (k : DataType). IsOwn k (out-Field f).nullable (length (out-Field f).children) (o.Struct vs)) (sym kind) size) in
+        (subst (λ (k : DataType). FitsOwnType k (out-Field f).nullable (length (out-Field f).children) (o.Struct vs)) (sym kind) size) in
         struct_fits f value fs vs vs those refl is own (each e)
     either false e = null_slot f (get_or (slot_values s) i Null) (slot_is s i m ∙ rw e refl) may
 
 -- a part of a struct is the slot of its child
 pub part_slot : (s child : Nested) (k i : ℕ) → slice_get (nested_in s) k ≡ Some child → i < length (slot_values child)
-    → get_or (slot_values child) i Null ≡ cell k (row (below s) i)
+    → get_or (slot_values child) i Null ≡ cell k (row (child_columns s) i)
 part_slot s child k i is m = slot_is child i m ∙ sym (cell_value s child k i is)
 
 -- ---- the first row that does not fit
@@ -186,7 +186,7 @@ err_of cause = Err cause
 pub misfit : (fields : List Field) (rows : List (List Value)) (number : ℕ) (found : List Value) (cause : RowFault)
     (r : Result Unit RowFault) (fault : WriteFault) → number < length rows → found ≡ get_or rows number []
     → AllByRecursion (RowFits fields) (take number rows) → (RowFits fields found → IsOk r) → r ≡ verdict (row_faults fields found)
-    → r ≡ Err cause → fault ≡ refusal_of cause number → Misfits fields rows fault
+    → r ≡ Err cause → fault ≡ refusal_of cause number → AreMismatches fields rows fault
 misfit fields rows number found cause r fault inside is before fits judged failed told = record {
   number = number;
   inside = inside;

@@ -12,13 +12,13 @@ use Rattle.ipc_model.specs.declared.fault.WriteFault.{WriteFault}
 use Rattle.ipc_model.specs.declared.fault.WriteFault.TheVariants as fault
 use Rattle.ipc_model.specs.declared.schema.Field.{Field}
 use Rattle.ipc_column.specs.Shapes.{Shape, bare, field, shape_of}
-use Rattle.ipc_encode.specs.declared.column.Column.{Column}
+use Rattle.ipc_encode.specs.declared.column_builder.ColumnBuilder.{ColumnBuilder}
 use Rattle.ipc_encode.specs.declared.node.Node.{Node}
 use Rattle.ipc_encode.specs.Cells.{nulls}
-use Rattle.ipc_encode.specs.Buffers.{below, columns, column_buffers, padded, buffers_of, body_of}
+use Rattle.ipc_encode.specs.Buffers.{child_values, row_columns, column_buffers, padded_bytes, buffers_of, rows_body}
 use Rattle.ipc_encode.specs.Columns.{bits_length, padded_length, validity_length, offsets_length, values_length, column_length, data_in}
-use Rattle.ipc_encode.specs.Columns.{PassesOffsets}
-use Rattle.ipc_encode.specs.Limits.{HasLongData, HasLongItems, HasLongNode, IsPastOffsets, IsRefused, SomeColumn}
+use Rattle.ipc_encode.specs.Columns.{ExceedsOffsets}
+use Rattle.ipc_encode.specs.Limits.{HasLongData, HasLongItems, HasLongNode, HasExcessData, AreRowsRefused, SomeColumn}
 use Rattle.ipc_encode.specs.Built.{IsNode, IsPushRefused, ArePushesRefused}
 use Rattle.ipc_encode.specs.declared.fault.PushFault.{PushFault}
 use Rattle.ipc_encode.specs.declared.fault.PushFault.TheVariants as push
@@ -29,7 +29,7 @@ use Rattle.ipc_encode.proofs.Sizes.{column_size, long_is, long_from}
 
 -- ---- one value more
 
-passes_more : (layout : Layout) (m n : ℕ) → m ≤ n → PassesOffsets layout m → PassesOffsets layout n
+passes_more : (layout : Layout) (m n : ℕ) → m ≤ n → ExceedsOffsets layout m → ExceedsOffsets layout n
 passes_more l.Null m n e h = h
 passes_more (l.Indices bits signed id) m n e h = h
 passes_more l.Lists m n e h = omega (arith, e, h)
@@ -40,7 +40,7 @@ passes_more (l.Numbers bits signed) m n e h = h
 passes_more (l.FixedBytes width) m n e h = h
 passes_more (l.VariableBytes utf8) m n e h = omega (arith, e, h)
 
-long_more : (layout : Layout) (vs : List Value) (v : Value) → IsPastOffsets layout vs → IsPastOffsets layout (vs ++ v ∷ [])
+long_more : (layout : Layout) (vs : List Value) (v : Value) → HasExcessData layout vs → HasExcessData layout (vs ++ v ∷ [])
 long_more layout vs v h =
     let more = data_push layout vs v in
     long_is layout (vs ++ v ∷ []) (passes_more layout (data_in layout vs) (data_in layout (vs ++ v ∷ [])) (omega (arith, more))
@@ -100,7 +100,7 @@ column_grow layout n c d a b h g =
 
 -- the buffers of a column with one value more are no shorter
 buffers_grow : (layout : Layout) (vs : List Value) (v : Value)
-    → length (padded (column_buffers layout vs)) ≤ length (padded (column_buffers layout (vs ++ v ∷ [])))
+    → length (padded_bytes (column_buffers layout vs)) ≤ length (padded_bytes (column_buffers layout (vs ++ v ∷ [])))
 buffers_grow layout vs v =
     let size = length-append vs (v ∷ []) in
     let count : length (vs ++ v ∷ []) ≡ length vs + 1 = omega (arith, size) in
@@ -118,13 +118,13 @@ always_more : (P : List Value → Type 0) → ((vs : List Value) (v : Value) →
 always_more P step vs [] h = subst P (sym (append-nil vs)) h
 always_more P step vs (v ∷ more) h = subst P (append_assoc vs (v ∷ []) more) (always_more P step (vs ++ v ∷ []) more (step vs v h))
 
-pub long_data_more : (layout : Layout) (vs more : List Value) → IsPastOffsets layout vs → IsPastOffsets layout (vs ++ more)
-long_data_more layout vs more h = always_more (IsPastOffsets layout) (long_more layout) vs more h
+pub long_data_more : (layout : Layout) (vs more : List Value) → HasExcessData layout vs → HasExcessData layout (vs ++ more)
+long_data_more layout vs more h = always_more (HasExcessData layout) (long_more layout) vs more h
 
 pub column_more : (layout : Layout) (vs more : List Value)
-    → length (padded (column_buffers layout vs)) ≤ length (padded (column_buffers layout (vs ++ more)))
+    → length (padded_bytes (column_buffers layout vs)) ≤ length (padded_bytes (column_buffers layout (vs ++ more)))
 column_more layout vs more =
-    always_more (λ (ws : List Value). length (padded (column_buffers layout vs)) ≤ length (padded (column_buffers layout ws)))
+    always_more (λ (ws : List Value). length (padded_bytes (column_buffers layout vs)) ≤ length (padded_bytes (column_buffers layout ws)))
     (λ ws v h. let grown = buffers_grow layout ws v in omega (arith, grown, h)) vs more (omega arith)
 
 -- ---- more values in each column
@@ -135,7 +135,7 @@ long_nodes_grow most bare given more h = absurd h
 long_nodes_grow most (field l c rest) given more (inl own) = let size = length-append (given 0) (more 0) in inl (omega (arith, size, own))
 long_nodes_grow most (field l c rest) given more (inr (inl child)) =
     inr (inl (subst (λ (inner : ℕ → List Value). HasLongNode most c inner) (λ d j. sym (below_append l (given 0) (more 0) j) d)
-    (long_nodes_grow most c (below l (given 0)) (below l (more 0)) child)))
+    (long_nodes_grow most c (child_values l (given 0)) (child_values l (more 0)) child)))
 long_nodes_grow most (field l c rest) given more (inr (inr later)) =
     inr (inr (long_nodes_grow most rest (λ j. given (suc j)) (λ j. more (suc j)) later))
 
@@ -146,7 +146,7 @@ some_grow P grow bare given more h = absurd h
 some_grow P grow (field l c rest) given more (inl own) = inl (grow l (given 0) (more 0) own)
 some_grow P grow (field l c rest) given more (inr (inl child)) =
     inr (inl (subst (λ (inner : ℕ → List Value). SomeColumn P c inner) (λ d j. sym (below_append l (given 0) (more 0) j) d)
-    (some_grow P grow c (below l (given 0)) (below l (more 0)) child)))
+    (some_grow P grow c (child_values l (given 0)) (child_values l (more 0)) child)))
 some_grow P grow (field l c rest) given more (inr (inr later)) =
     inr (inr (some_grow P grow rest (λ j. given (suc j)) (λ j. more (suc j)) later))
 
@@ -168,26 +168,27 @@ long_items_grow shape given more h = some_grow HasLongItems items_more shape giv
 
 -- a column's buffers, those below it, and the others
 pub parts_length : (l : Layout) (c rest : Shape) (given : ℕ → List Value)
-    → length (padded (buffers_of (field l c rest) given))
-    ≡ length (padded (column_buffers l (given 0))) + length (padded (buffers_of c (below l (given 0))))
-    + length (padded (buffers_of rest (λ j. given (suc j))))
+    → length (padded_bytes (buffers_of (field l c rest) given))
+    ≡ length (padded_bytes (column_buffers l (given 0))) + length (padded_bytes (buffers_of c (child_values l (given 0))))
+    + length (padded_bytes (buffers_of rest (λ j. given (suc j))))
 parts_length l c rest given =
     let own = column_buffers l (given 0) in
-    let inner = buffers_of c (below l (given 0)) in
+    let inner = buffers_of c (child_values l (given 0)) in
     let others = buffers_of rest (λ j. given (suc j)) in
     let whole = ap (λ (bs : List ℕ). length bs) (joined_append own (inner ++ others)) in
     let last = ap (λ (bs : List ℕ). length bs) (joined_append inner others) in
-    let a = length-append (padded own) (padded (inner ++ others)) in
-    let b = length-append (padded inner) (padded others) in
+    let a = length-append (padded_bytes own) (padded_bytes (inner ++ others)) in
+    let b = length-append (padded_bytes inner) (padded_bytes others) in
     omega (arith, whole, last, a, b)
 
 pub body_grows : (shape : Shape) (given more : ℕ → List Value)
-    → length (padded (buffers_of shape given)) ≤ length (padded (buffers_of shape (λ j. given j ++ more j)))
+    → length (padded_bytes (buffers_of shape given)) ≤ length (padded_bytes (buffers_of shape (λ j. given j ++ more j)))
 body_grows bare given more = omega arith
 body_grows (field l c rest) given more =
     let own = column_more l (given 0) (more 0) in
-    let inner = subst (λ (g : ℕ → List Value). length (padded (buffers_of c (below l (given 0)))) ≤ length (padded (buffers_of c g)))
-    (λ d j. sym (below_append l (given 0) (more 0) j) d) (body_grows c (below l (given 0)) (below l (more 0))) in
+    let inner = subst (λ (g : ℕ → List Value). length (padded_bytes (buffers_of c (child_values l (given 0))))
+    ≤ length (padded_bytes (buffers_of c g)))
+    (λ d j. sym (below_append l (given 0) (more 0) j) d) (body_grows c (child_values l (given 0)) (child_values l (more 0))) in
     let later = body_grows rest (λ j. given (suc j)) (λ j. more (suc j)) in
     let old = parts_length l c rest given in
     let new = parts_length l c rest (λ j. given j ++ more j) in
@@ -218,7 +219,7 @@ own_refused limits l c rest given push.DictionaryFull h = h
 own_refused limits l c rest given push.Failed h = h
 
 pub child_refused : (limits : Limits) (l : Layout) (c rest : Shape) (given : ℕ → List Value) (e : PushFault)
-    → ArePushesRefused limits c (below l (given 0)) e → ArePushesRefused limits (field l c rest) given e
+    → ArePushesRefused limits c (child_values l (given 0)) e → ArePushesRefused limits (field l c rest) given e
 child_refused limits l c rest given push.TooLong (inl long) = inl (inr (inl long))
 child_refused limits l c rest given push.TooLong (inr body) = let size = parts_length l c rest given in inr (omega (arith, size, body))
 child_refused limits l c rest given push.TooMany (inl slots) = inl (inr (inl slots))
@@ -257,7 +258,7 @@ first_refused limits l c rest given push.DictionaryFull h = h
 first_refused limits l c rest given push.Failed h = h
 
 -- why node i doesn't take its values is why all nodes don't take theirs
-pub mixed_refused : (limits : Limits) (Q P : Layout → List Value → Column → Type 0) (i : ℕ) (shape : Shape) (nodes : List Node)
+pub mixed_refused : (limits : Limits) (Q P : Layout → List Value → ColumnBuilder → Type 0) (i : ℕ) (shape : Shape) (nodes : List Node)
     (old new : ℕ → List Value) (d : Node) (e : PushFault) → i < length nodes
     → ((l : Layout) (c : Shape) → IsNode P l c (get_or nodes i d) (old i) → ArePushesRefused limits (field l c bare) (λ j. new i) e)
     → AreMixed Q P i shape nodes old new → ArePushesRefused limits shape new e
@@ -284,21 +285,23 @@ all_refused limits l c before values i e h =
 -- ---- more rows
 
 -- what is refused of some rows is refused of them with others behind them
-pub refused_more : (limits : Limits) (fields : List Field) (rows more : List (List Value)) (e : WriteFault) → IsRefused limits fields rows e
-    → IsRefused limits fields (rows ++ more) e
+pub refused_more : (limits : Limits) (fields : List Field) (rows more : List (List Value)) (e : WriteFault)
+    → AreRowsRefused limits fields rows e
+    → AreRowsRefused limits fields (rows ++ more) e
 refused_more limits fields rows more fault.TooLong (inl long) =
     inl (subst (λ (given : ℕ → List Value). SomeColumn HasLongData (shape_of fields) given) (λ d j. sym (cells_append j rows more) d)
-    (long_data_grow (shape_of fields) (columns rows) (columns more) long))
+    (long_data_grow (shape_of fields) (row_columns rows) (row_columns more) long))
 refused_more limits fields rows more fault.TooLong (inr body) =
-    let grown = subst (λ (given : ℕ → List Value). length (body_of fields rows) ≤ length (padded (buffers_of (shape_of fields) given)))
-    (λ d j. sym (cells_append j rows more) d) (body_grows (shape_of fields) (columns rows) (columns more)) in
+    let grown = subst (λ (given : ℕ → List Value). length (rows_body fields rows)
+    ≤ length (padded_bytes (buffers_of (shape_of fields) given)))
+    (λ d j. sym (cells_append j rows more) d) (body_grows (shape_of fields) (row_columns rows) (row_columns more)) in
     inr (omega (arith, grown, body))
 refused_more limits fields rows more fault.TooManyRows (inl many) = let size = length-append rows more in inl (omega (arith, size, many))
 refused_more limits fields rows more fault.TooManyRows (inr (inl long)) =
     inr (inl (subst (λ (given : ℕ → List Value). HasLongNode limits.slots (shape_of fields) given) (λ d j. sym (cells_append j rows more) d)
-    (long_nodes_grow limits.slots (shape_of fields) (columns rows) (columns more) long)))
+    (long_nodes_grow limits.slots (shape_of fields) (row_columns rows) (row_columns more) long)))
 refused_more limits fields rows more fault.TooManyRows (inr (inr items)) =
     inr (inr (subst (λ (given : ℕ → List Value). SomeColumn HasLongItems (shape_of fields) given) (λ d j. sym (cells_append j rows more) d)
-    (long_items_grow (shape_of fields) (columns rows) (columns more) items)))
+    (long_items_grow (shape_of fields) (row_columns rows) (row_columns more) items)))
 refused_more limits fields rows more fault.OutOfMemory h = h
 refused_more limits fields rows more _ h = h

@@ -3,7 +3,7 @@ use Rattle.std.proofs.Common.{◌≡◌, refl, ap, ℕ, suc, Bool, true, false, 
 use Rattle.std.specs.Prelude.{ℤ, not, ⊤}
 use Rattle.std.specs.List.{AllByRecursion}
 use Rattle.std.proofs.lemmas.Int.{ints}
-use Rattle.ipc_model.specs.Fits.{IsOwn}
+use Rattle.ipc_model.specs.Fits.{FitsOwnType}
 use Rattle.ipc_model.specs.WellFormed.{HasFittingChildren}
 use Rattle.ipc_model.specs.declared.schema.DataType.{DataType}
 use Rattle.ipc_model.specs.declared.schema.DataType.TheVariants as t
@@ -19,7 +19,7 @@ use Rattle.ipc_model.specs.Layouts.{layout, type_layout, time_bits}
 use Rattle.ipc_model.specs.Ranges.{width, IsSignedWithin, IsTimeOfDay}
 use Rattle.ipc_column.specs.Shapes.{Shape, bare, field, shapes, field_shape}
 use Rattle.ipc_encode.specs.Cells.{is_null}
-use Rattle.ipc_encode.specs.Buffers.{below}
+use Rattle.ipc_encode.specs.Buffers.{child_values}
 use Rattle.ipc_encode.proofs.ReadbackParts.{Holds, AllHeld, HasItsChild}
 
 -- how many fields stand side by side
@@ -40,7 +40,7 @@ ColumnHeld l n vs = HasItsChild l n × AllHeld l n vs
 abbrev pub ColumnsHeld : Shape → (ℕ → List Value) → Type 0
 ColumnsHeld bare given = ⊤
 ColumnsHeld (field l children rest) given = ColumnHeld l (across children) (given 0)
-    × (ColumnsHeld children (below l (given 0)) × ColumnsHeld rest (λ j. given (suc j)))
+    × (ColumnsHeld children (child_values l (given 0)) × ColumnsHeld rest (λ j. given (suc j)))
 
 -- ---- facts of all
 
@@ -74,7 +74,7 @@ time_fits u.Microsecond z h = let from = h.0 in let to = h.1 in (omega (arith, i
 time_fits u.Nanosecond z h = let from = h.0 in let to = h.1 in (omega (arith, ints), omega (arith, ints))
 
 -- a value of a type's own is held by its layout
-pub held : (kind : DataType) (nullable : Bool) (n : ℕ) (w : Value-F Value) → HasFittingChildren kind n → IsOwn kind nullable n w
+pub held : (kind : DataType) (nullable : Bool) (n : ℕ) (w : Value-F Value) → HasFittingChildren kind n → FitsOwnType kind nullable n w
     → Holds (type_layout kind) n w
 held t.List nullable n Value-F.Null c h = tt
 held t.List nullable n (Value-F.List values) c h = c
@@ -140,7 +140,7 @@ null_held (t.FixedSizeList size) n = tt
 null_held t.Struct n = tt
 
 value_held : (kind : DataType) (nullable : Bool) (n : ℕ) (w : Value-F Value) → HasFittingChildren kind n → (not (is_null w) ≡ true
-    → IsOwn kind nullable n w) → Holds (type_layout kind) n w
+    → FitsOwnType kind nullable n w) → Holds (type_layout kind) n w
 value_held kind nullable n Value-F.Null c h = null_held kind n
 value_held kind nullable n (Value-F.Bool truth) c h = held kind nullable n (Value-F.Bool truth) c (h refl)
 value_held kind nullable n (Value-F.Int z) c h = held kind nullable n (Value-F.Int z) c (h refl)
@@ -169,12 +169,12 @@ has_child (t.Duration unit) n c = tt
 
 -- values of which each is null or one of a field's own are held by its layout
 pub values_held : (kind : DataType) (d : Option Dictionary) (nullable : Bool) (n : ℕ) (vs : List Value)
-    → HasFittingChildren kind n → AllByRecursion (λ v. not (is_null (out-Value v)) ≡ true → IsOwn kind nullable n (out-Value v)) vs
+    → HasFittingChildren kind n → AllByRecursion (λ v. not (is_null (out-Value v)) ≡ true → FitsOwnType kind nullable n (out-Value v)) vs
     → ColumnHeld (layout kind d) n vs
 values_held kind None nullable n vs c h = (
   has_child kind n c,
-  all_one (λ v. not (is_null (out-Value v)) ≡ true → IsOwn kind nullable n (out-Value v))
+  all_one (λ v. not (is_null (out-Value v)) ≡ true → FitsOwnType kind nullable n (out-Value v))
       (λ v. Holds (type_layout kind) n (out-Value v)) (λ v own. value_held kind nullable n (out-Value v) c own) vs h,
 )
 values_held kind (Some d) nullable n vs c h =
-    (tt, all_one (λ v. not (is_null (out-Value v)) ≡ true → IsOwn kind nullable n (out-Value v)) (λ v. ⊤) (λ v own. tt) vs h)
+    (tt, all_one (λ v. not (is_null (out-Value v)) ≡ true → FitsOwnType kind nullable n (out-Value v)) (λ v. ⊤) (λ v own. tt) vs h)

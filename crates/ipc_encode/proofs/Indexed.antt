@@ -14,19 +14,21 @@ use Rattle.ipc_model.specs.declared.layout.Layout.{Layout}
 use Rattle.ipc_model.specs.declared.layout.Layout.TheVariants as l
 use Rattle.ipc_model.specs.Layouts.{number_bytes}
 use Rattle.ipc_column.specs.Shapes.{Shape, bare, field, shape_of}
-use Rattle.ipc_encode.specs.declared.column.Column.{Column}
+use Rattle.ipc_encode.specs.declared.column_builder.ColumnBuilder.{ColumnBuilder}
 use Rattle.ipc_encode.specs.declared.node.Node.{Node}
 use Rattle.ipc_encode.specs.Pieces.{Valid, Number}
 use Rattle.ipc_encode.specs.Pieces as p
 use Rattle.ipc_encode.specs.Bitmaps.{bitmap}
 use Rattle.ipc_encode.specs.Cells.{is_null, is_set, flags, nulls, slots, slot_bytes}
-use Rattle.ipc_encode.specs.Buffers.{below, column_buffers, padded, buffers_of, buffers_with, stored, body_of, body_with}
-use Rattle.ipc_encode.specs.Buffers.{piece_bytes, columns}
+use Rattle.ipc_encode.specs.Buffers.{child_values, column_buffers, padded_bytes, buffers_of, buffers_with, written_values, rows_body}
+use Rattle.ipc_encode.specs.Buffers.{body_with}
+use Rattle.ipc_encode.specs.Buffers.{piece_bytes, row_columns}
 use Rattle.ipc_encode.specs.Columns.{validity_bytes, validity_in, indices_in, data_in, column_length, values_length}
-use Rattle.ipc_encode.specs.Numbers.{Numbering, number_or, renumbered, index_in, index_of, indices_of, as_number, numbers_of, changed}
+use Rattle.ipc_encode.specs.Numbers.{Numbering, number_or, new_indices, index_unless_null, index_of, indices_of, as_number, numbers_of}
+use Rattle.ipc_encode.specs.Numbers.{new_index}
 use Rattle.ipc_encode.specs.Indices.{InColumn, InColumns}
 use Rattle.ipc_encode.specs.Limits.{IsWithin}
-use Rattle.ipc_encode.specs.Built.{AreColumns, IsColumn}
+use Rattle.ipc_encode.specs.Built.{HoldColumns, IsColumn}
 use Rattle.ipc_encode.proofs.Adding.{joined_append}
 use Rattle.ipc_encode.proofs.Steps.{slots_push}
 use Rattle.ipc_encode.proofs.Siblings.{IsAt, first}
@@ -47,7 +49,7 @@ flag_number f value = by (out-Value value)
     some : is_set Valid (v.UInt (f value)) ≡ true
     some = rw (number_out (f value)) refl
 
-    by : (w : Value-F Value) → is_set Valid (as_number (index_in (f value) w)) ≡ not (is_null w)
+    by : (w : Value-F Value) → is_set Valid (as_number (index_unless_null (f value) w)) ≡ not (is_null w)
     by Value-F.Null = rw null_out refl
     by (Value-F.Bool truth) = some
     by (Value-F.Int z) = some
@@ -97,7 +99,7 @@ validity_same f vs =
 
 -- the buffers of a column are as long as those of its values
 stored_size : (known : Numbering) (lay : Layout) (vs : List Value)
-    → length (padded (column_buffers lay (stored known lay vs))) ≡ length (padded (column_buffers lay vs))
+    → length (padded_bytes (column_buffers lay (written_values known lay vs))) ≡ length (padded_bytes (column_buffers lay vs))
 stored_size known l.Null vs = refl
 stored_size known l.Bits vs = refl
 stored_size known (l.Numbers bits signed) vs = refl
@@ -115,31 +117,34 @@ stored_size known (l.Indices bits signed id) vs =
     ∙ (ap (λ (n : ℕ). column_length lay (length vs) (nulls vs) (values_length lay (length vs) n)) (data_same bits signed id (known id) vs)
     ∙ sym (column_size lay vs))))
 
-three : (a b c : List (List ℕ)) → length (padded (a ++ (b ++ c))) ≡ length (padded a) + (length (padded b) + length (padded c))
+three : (a b c : List (List ℕ)) → length (padded_bytes (a ++ (b ++ c))) ≡ length (padded_bytes a)
+    + (length (padded_bytes b) + length (padded_bytes c))
 three a b c =
     ap (λ (bs : List ℕ). length bs) (joined_append a (b ++ c))
-    ∙ (length-append (padded a) (padded (b ++ c))
-    ∙ ap (λ (n : ℕ). length (padded a) + n) (ap (λ (bs : List ℕ). length bs) (joined_append b c) ∙ length-append (padded b) (padded c)))
+    ∙ (length-append (padded_bytes a) (padded_bytes (b ++ c))
+    ∙ ap (λ (n : ℕ). length (padded_bytes a) + n) (ap (λ (bs : List ℕ). length bs) (joined_append b c)
+    ∙ length-append (padded_bytes b) (padded_bytes c)))
 
 -- and so are those of all columns
 pub buffers_size : (known : Numbering) (s : Shape) (given : ℕ → List Value)
-    → length (padded (buffers_with known s given)) ≡ length (padded (buffers_of s given))
+    → length (padded_bytes (buffers_with known s given)) ≡ length (padded_bytes (buffers_of s given))
 buffers_size known bare given = refl
 buffers_size known (field lay children rest) given =
     let own = stored_size known lay (given 0) in
-    let inner = buffers_size known children (below lay (given 0)) in
+    let inner = buffers_size known children (child_values lay (given 0)) in
     let others = buffers_size known rest (λ j. given (suc j)) in
-    let some = three (column_buffers lay (stored known lay (given 0))) (buffers_with known children (below lay (given 0)))
+    let some = three (column_buffers lay (written_values known lay (given 0))) (buffers_with known children (child_values lay (given 0)))
     (buffers_with known rest (λ j. given (suc j))) in
-    let all = three (column_buffers lay (given 0)) (buffers_of children (below lay (given 0))) (buffers_of rest (λ j. given (suc j))) in
+    let all = three (column_buffers lay (given 0)) (buffers_of children (child_values lay (given 0)))
+    (buffers_of rest (λ j. given (suc j))) in
     omega (arith, own, inner, others, some, all)
 
 -- a body within the limits
 pub body_within : (limits : Limits) (known : Numbering) (fields : List Field) (rows : List (List Value)) (body : List ℕ)
     → body ≡ body_with known fields rows → IsWithin limits fields rows → length body ≤ limits.body
 body_within limits known fields rows body e h =
-    let size : length body ≡ length (body_of fields rows) =
-    ap (λ (bs : List ℕ). length bs) e ∙ buffers_size known (shape_of fields) (columns rows) in
+    let size : length body ≡ length (rows_body fields rows) =
+    ap (λ (bs : List ℕ). length bs) e ∙ buffers_size known (shape_of fields) (row_columns rows) in
     elim (cases_lt limits.body (length body)) as (λ _. length body ≤ limits.body)
     [ inl x ↦ absurd (h.short (inr (omega (arith, x, size)))) | inr g ↦ omega (arith, g) ]
 
@@ -147,14 +152,14 @@ body_within limits known fields rows body e h =
 
 -- indices that are changed one by one are those that are told otherwise
 pub changed_are : (number : ℤ → ℕ → Option ℕ) (known : Numbering) (id : ℤ) (vs : List Value)
-    → map as_number (map (changed (number id)) (indices_of (known id) vs)) ≡ numbers_of (renumbered number known id) vs
+    → map as_number (map (new_index (number id)) (indices_of (known id) vs)) ≡ numbers_of (new_indices number known id) vs
 changed_are number known id [] = refl
 changed_are number known id (value ∷ vs) =
     let here = one (known id value) (out-Value value) in
     let rest = changed_are number known id vs in
     λ q. as_number (here q) ∷ rest q
   where
-    one : (i : ℕ) (w : Value-F Value) → changed (number id) (index_in i w) ≡ index_in (number_or (number id i) i) w
+    one : (i : ℕ) (w : Value-F Value) → new_index (number id) (index_unless_null i w) ≡ index_unless_null (number_or (number id i) i) w
     one i Value-F.Null = refl
     one i (Value-F.Bool truth) = refl
     one i (Value-F.Int z) = refl
@@ -166,7 +171,8 @@ changed_are number known id (value ∷ vs) =
 
 -- numbers that agree on a value give it one index
 one_agrees : (known others : Numbering) (id : ℤ) (value : Value) (w : Value-F Value) → out-Value value ≡ w
-    → (is_set Valid value ≡ true → known id value ≡ others id value) → index_in (known id value) w ≡ index_in (others id value) w
+    → (is_set Valid value ≡ true → known id value ≡ others id value) → index_unless_null (known id value) w
+    ≡ index_unless_null (others id value) w
 one_agrees known others id value Value-F.Null e same = refl
 one_agrees known others id value (Value-F.Bool truth) e same = ap (λ (i : ℕ). Some i) (same (rw e refl))
 one_agrees known others id value (Value-F.Int z) e same = ap (λ (i : ℕ). Some i) (same (rw e refl))
@@ -199,7 +205,7 @@ module _ (known others : Numbering) where
   indices_agree l.Structs vs h = refl
   indices_agree (l.FixedLists size) vs h = refl
 
-  column_agrees : (limits : Limits) (lay : Layout) (vs : List Value) (column : Column) → InColumn Same lay vs
+  column_agrees : (limits : Limits) (lay : Layout) (vs : List Value) (column : ColumnBuilder) → InColumn Same lay vs
       → IsColumn known limits lay vs column → IsColumn others limits lay vs column
   column_agrees limits lay vs column same h = record {
     laid = h.laid;
@@ -213,12 +219,12 @@ module _ (known others : Numbering) where
 
   -- columns are the same under numbers that agree on their values
   pub columns_agree : (limits : Limits) (s : Shape) (nodes : List Node) (given : ℕ → List Value) → InColumns Same s given
-      → AreColumns known limits s nodes given → AreColumns others limits s nodes given
+      → HoldColumns known limits s nodes given → HoldColumns others limits s nodes given
   columns_agree limits bare [] given same h = tt
   columns_agree limits bare (m ∷ ms) given same h = absurd h
   columns_agree limits (field lay c rest) [] given same h = absurd h
   columns_agree limits (field lay c rest) (m ∷ ms) given same h = (
-    (column_agrees limits lay (given 0) _ same.0 h.0.0, columns_agree limits c _ (below lay (given 0)) same.1.0 h.0.1),
+    (column_agrees limits lay (given 0) _ same.0 h.0.0, columns_agree limits c _ (child_values lay (given 0)) same.1.0 h.0.1),
     columns_agree limits rest ms (λ j. given (suc j)) same.1.1 h.1,
   )
 
@@ -232,8 +238,8 @@ pub buffers_with_next : (known : Numbering) (i : ℕ) (shape : Shape) (given : �
 buffers_with_next known i bare given lay c h = absurd h
 buffers_with_next known zero (field k d rest) given lay c h = rw (h.0, h.1) refl
 buffers_with_next known (suc i) (field k d rest) given lay c h =
-    let own = column_buffers k (stored known k (given 0)) in
-    let inner = buffers_with known d (below k (given 0)) in
+    let own = column_buffers k (written_values known k (given 0)) in
+    let inner = buffers_with known d (child_values k (given 0)) in
     let later = buffers_with known (first i rest) (λ j. given (suc j)) in
     let one = buffers_with known (field lay c bare) (λ j. given (suc i)) in
     ap (λ (bs : List (List ℕ)). own ++ (inner ++ bs)) (buffers_with_next known i rest (λ j. given (suc j)) lay c h)
@@ -266,11 +272,11 @@ slots_more f bits xs i value old so_far new k e s n =
 pub index_buffers : (number : ℤ → ℕ → Option ℕ) (known : Numbering) (lay : Layout) (bits : IntBits) (signed : Bool) (id : ℤ)
     (vs : List Value) (valid : List ℕ) (held : List (Option ℕ)) → lay ≡ l.Indices bits signed id → valid ≡ validity_in lay vs
     → held ≡ indices_in known lay vs
-    → (valid ∷ []) ++ (slots (Number bits) (map as_number (map (changed (number id)) held)) ∷ [])
-    ≡ column_buffers lay (stored (renumbered number known) lay vs)
+    → (valid ∷ []) ++ (slots (Number bits) (map as_number (map (new_index (number id)) held)) ∷ [])
+    ≡ column_buffers lay (written_values (new_indices number known) lay vs)
 index_buffers number known lay bits signed id vs valid held is v h =
-    let first : valid ≡ validity_bytes (numbers_of (renumbered number known id) vs) =
-    (rw is at v) ∙ sym (validity_same (renumbered number known id) vs) in
-    let second : map as_number (map (changed (number id)) held) ≡ numbers_of (renumbered number known id) vs =
-    ap (λ (xs : List (Option ℕ)). map as_number (map (changed (number id)) xs)) (rw is at h) ∙ changed_are number known id vs in
+    let first : valid ≡ validity_bytes (numbers_of (new_indices number known id) vs) =
+    (rw is at v) ∙ sym (validity_same (new_indices number known id) vs) in
+    let second : map as_number (map (new_index (number id)) held) ≡ numbers_of (new_indices number known id) vs =
+    ap (λ (xs : List (Option ℕ)). map as_number (map (new_index (number id)) xs)) (rw is at h) ∙ changed_are number known id vs in
     rw is (λ i. first i ∷ slots (Number bits) (second i) ∷ [])

@@ -3,7 +3,7 @@ use Rattle.std.proofs.Common.{◌≡◌, ◌∙◌, refl, sym, ap, ℕ, List, []
 use Rattle.std.proofs.Common.{true, false, arith, Option, Some, None}
 use Rattle.std.specs.Prelude.{IsSome, Bool}
 use Rattle.std.specs.List.{AllByRecursion}
-use Rattle.ipc_model.specs.Fits.{Fits, EachFits, InnerFit, IsOfKind, IsOwn}
+use Rattle.ipc_model.specs.Fits.{Fits, EachFits, InnerFit, IsOfKind, FitsOwnType}
 use Rattle.ipc_model.specs.WellFormed.{HasFittingChildren, IsLeaf}
 use Rattle.ipc_model.specs.Layouts.{layout, type_layout}
 use Rattle.ipc_model.specs.declared.layout.Layout.TheVariants as l
@@ -17,7 +17,7 @@ use Rattle.ipc_model.specs.declared.value.Value.TheOpen as o
 use Rattle.ipc_model.specs.declared.value.Value.TheOpen.{Value-F}
 use Rattle.ipc_model.specs.declared.value.Value.TheVariants as v
 use Rattle.ipc_column.specs.Shapes.{Shape, shape_of}
-use Rattle.ipc_encode.specs.Buffers.{below}
+use Rattle.ipc_encode.specs.Buffers.{child_values}
 use Rattle.ipc_encode.specs.Weights.{field_weight, row_weight, weight_of}
 use Rattle.ipc_encode.proofs.Weights.{weight_none}
 use Rattle.ipc_encode.proofs.Weights.{list_given, fixed_given, struct_given}
@@ -50,7 +50,7 @@ struct_inside _ n fs vs own = absurd own
 
 -- a value that is neither null nor a list nor a struct is of a type without inner types
 pub leaf_kind : (kind : DataType) (nullable : Bool) (n : ℕ) (w : Value-F Value) → (w ≡ o.Null → ⊥)
-    → ((vs : List Value) → w ≡ o.List vs → ⊥) → ((vs : List Value) → w ≡ o.Struct vs → ⊥) → IsOwn kind nullable n w → IsLeaf kind
+    → ((vs : List Value) → w ≡ o.List vs → ⊥) → ((vs : List Value) → w ≡ o.Struct vs → ⊥) → FitsOwnType kind nullable n w → IsLeaf kind
 leaf_kind kind nullable n o.Null null list parts own = absurd (null refl)
 leaf_kind kind nullable n (o.List vs) null list parts own = absurd (list vs refl)
 leaf_kind kind nullable n (o.Struct vs) null list parts own = absurd (parts vs refl)
@@ -79,7 +79,7 @@ leaf_inside _ fs w leaf = tt
 
 -- ---- what a value gives to the children
 
-leaf_gives : (kind : DataType) (c : Shape) (vs : List Value) → IsLeaf kind → weight_of 0 c (below (type_layout kind) vs) ≡ 0
+leaf_gives : (kind : DataType) (c : Shape) (vs : List Value) → IsLeaf kind → weight_of 0 c (child_values (type_layout kind) vs) ≡ 0
 leaf_gives t.List c vs leaf = absurd leaf
 leaf_gives (t.FixedSizeList size) c vs leaf = absurd leaf
 leaf_gives t.Struct c vs leaf = absurd leaf
@@ -88,13 +88,13 @@ leaf_gives (t.Date Millisecond) c vs leaf = weight_none c
 leaf_gives _ c vs leaf = weight_none c
 
 pub given_nothing : (kind : DataType) (d : Option Dictionary) (c : Shape) (vs : List Value) → IsLeaf kind
-    → weight_of 0 c (below (layout kind d) vs) ≡ 0
+    → weight_of 0 c (child_values (layout kind d) vs) ≡ 0
 given_nothing kind None c vs leaf = leaf_gives kind c vs leaf
 given_nothing kind (Some d) c vs leaf = weight_none c
 
 pub given_items : (kind : DataType) (d : Option Dictionary) (n : ℕ) (f : Field) (fs : List Field) (value : Value) (vs : List Value)
     → IsOfKind kind n (o.List vs) → HasFittingChildren kind (length (f ∷ fs)) → (IsSome d → IsLeaf kind) → value ≡ v.List vs
-    → weight_of 0 (shape_of (f ∷ fs)) (below (layout kind d) (value ∷ [])) ≡ field_weight f vs
+    → weight_of 0 (shape_of (f ∷ fs)) (child_values (layout kind d) (value ∷ [])) ≡ field_weight f vs
 given_items t.List (Some d) n f fs value vs own fitting leaf is = absurd (leaf refl)
 given_items (t.FixedSizeList size) (Some d) n f fs value vs own fitting leaf is = absurd (leaf refl)
 given_items t.List None n f (g ∷ fs) value vs own fitting leaf is = absurd (omega (arith, fitting))
@@ -114,7 +114,7 @@ given_items _ d n f fs value vs own fitting leaf is = absurd own
 
 pub given_parts : (kind : DataType) (d : Option Dictionary) (n : ℕ) (fs : List Field) (value : Value) (vs : List Value)
     → IsOfKind kind n (o.Struct vs) → (IsSome d → IsLeaf kind) → value ≡ v.Struct vs
-    → weight_of 0 (shape_of fs) (below (layout kind d) (value ∷ [])) ≡ row_weight fs vs
+    → weight_of 0 (shape_of fs) (child_values (layout kind d) (value ∷ [])) ≡ row_weight fs vs
 given_parts t.Struct (Some d) n fs value vs own leaf is = absurd (leaf refl)
 given_parts t.Struct None n fs value vs own leaf is =
     sym (ap (λ (g : ℕ → List Value). weight_of 0 (shape_of fs) g) (struct_given l.Structs value vs vs refl refl is))

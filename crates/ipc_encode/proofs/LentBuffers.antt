@@ -20,7 +20,7 @@ use Rattle.ipc_column.specs.declared.buffers.Buffers.{Buffers}
 use Rattle.ipc_column.specs.Checks.{has_bitmap}
 use Rattle.ipc_column.specs.declared.numbers.Numbers.{Numbers}
 use Rattle.ipc_column.specs.Lending.{AreBuffers, AreNumbers}
-use Rattle.ipc_column.specs.Nested.{Nested, below, slot_values}
+use Rattle.ipc_column.specs.Nested.{Nested, child_columns, slot_values}
 use Rattle.ipc_column.specs.Values.{between, is_valid, own_value, row, signed_at, value_of}
 use Rattle.ipc_column.proofs.Found.{items_first}
 use Rattle.ipc_column.proofs.Slots.{items_length}
@@ -54,15 +54,15 @@ set_by value f e = ap (λ (f : Value-F Value). not (is_null f)) e
 
 -- how many slots there are
 pub slot_count : (s : Nested) → length (slot_values s) ≡ s.column.slots
-slot_count s = items_length (value_of (row (below s)) s.column) 0 s.column.slots
+slot_count s = items_length (value_of (row (child_columns s)) s.column) 0 s.column.slots
 
 -- the value of a slot
 pub slot_is : (s : Nested) (i : ℕ) → i < length (slot_values s)
-    → get_or (slot_values s) i Null ≡ value_of (row (below s)) s.column i
+    → get_or (slot_values s) i Null ≡ value_of (row (child_columns s)) s.column i
 slot_is s i m =
     let count = slot_count s in
-    get_or_from_slice_get (slot_values s) i (value_of (row (below s)) s.column i) Null
-    (items_first (value_of (row (below s)) s.column) s.column.slots i (omega (arith, m, count)))
+    get_or_from_slice_get (slot_values s) i (value_of (row (child_columns s)) s.column i) Null
+    (items_first (value_of (row (child_columns s)) s.column) s.column.slots i (omega (arith, m, count)))
 
 -- the layouts whose bitmap says which slots are null
 abbrev pub TellsNulls : Layout → Type 0
@@ -87,7 +87,8 @@ module _ (s : Nested) (b : Buffers) (h : AreBuffers s b) where
   -- what stands in a slot, by the bit of its column's bitmap
   pub buffers_at : (i : ℕ) → i < length (slot_values s)
       → get_or (slot_values s) i Null
-      ≡ cond (is_valid b.validity.now i) (own_value b.layout s.column.dictionary (row (below s)) b.offsets.now b.values.now i) v.Null
+      ≡ cond (is_valid b.validity.now i) (own_value b.layout s.column.dictionary (row (child_columns s)) b.offsets.now b.values.now i)
+      v.Null
   buffers_at i m = slot_is s i m ∙ rw (h.validity, h.layout, h.offsets, h.values) refl
 
   -- the bitmap says which are null
@@ -95,8 +96,9 @@ module _ (s : Nested) (b : Buffers) (h : AreBuffers s b) where
   buffers_marked tells = record { each = λ i m. ap (is_set Valid) (buffers_at i m) ∙ either i (is_valid b.validity.now i) }
     where
       either : (i : ℕ) (valid : Bool)
-          → is_set Valid (cond valid (own_value b.layout s.column.dictionary (row (below s)) b.offsets.now b.values.now i) v.Null) ≡ valid
-      either i true = own_set b.layout s.column.dictionary (row (below s)) b.offsets.now b.values.now i tells
+          → is_set Valid (cond valid (own_value b.layout s.column.dictionary (row (child_columns s)) b.offsets.now b.values.now i) v.Null)
+          ≡ valid
+      either i true = own_set b.layout s.column.dictionary (row (child_columns s)) b.offsets.now b.values.now i tells
       either i false = ap (λ (f : Value-F Value). not (is_null f)) null_out
 
   -- and has a bit for each
@@ -138,10 +140,10 @@ numbers_lent s b n h e marks values =
     record {
       layout = laid;
       long = rw (bytes, count) (leb-true (number_bytes n.bits * s.column.slots) (length s.column.values) (rw laid at (lent_values s b h)));
-      each = λ i m. items_first (value_of (row (below s)) s.column) s.column.slots i (omega (arith, m, count))
+      each = λ i m. items_first (value_of (row (child_columns s)) s.column) s.column.slots i (omega (arith, m, count))
           ∙ ap (λ (v : Value). Some v)
           (rw (validity, bytes, laid) (ap (λ (v : Value). cond (is_valid s.column.validity i) v Null)
-          (number_alone n.bits n.signed s.column.dictionary (row (below s)) s.column.offsets s.column.values i)));
+          (number_alone n.bits n.signed s.column.dictionary (row (child_columns s)) s.column.offsets s.column.values i)));
     }
 
 -- ---- slots one behind another
@@ -207,7 +209,7 @@ module _ (s : Nested) (b : Buffers) (h : AreBuffers s b) (e : b.layout ≡ l.Bit
       and_false false = refl
 
       either : (layout : Layout) → layout ≡ l.Bits → (valid : Bool)
-          → is_set True (cond valid (own_value layout s.column.dictionary (row (below s)) b.offsets.now b.values.now i) v.Null)
+          → is_set True (cond valid (own_value layout s.column.dictionary (row (child_columns s)) b.offsets.now b.values.now i) v.Null)
           ≡ (bit b.values.now i && valid)
       either layout e true = rw e (ap is_true (truth_out (bit b.values.now i)) ∙ and_true (bit b.values.now i))
       either layout e false = ap is_true null_out ∙ and_false (bit b.values.now i)
@@ -245,7 +247,7 @@ module _ (s : Nested) (b : Buffers) (h : AreBuffers s b) (width : ℕ) (e : b.la
       ∙ ap (λ (k : ℕ). slice_range b.values.now (width * i) k) (let k : width * i + width ≡ width * (i + 1) = omega arith in k))
     where
       own : (layout : Layout) → layout ≡ l.FixedBytes width
-          → slot_bytes (Fixed width) (own_value layout s.column.dictionary (row (below s)) b.offsets.now b.values.now i)
+          → slot_bytes (Fixed width) (own_value layout s.column.dictionary (row (child_columns s)) b.offsets.now b.values.now i)
           ≡ slice_range b.values.now (width * i) (width * i + width)
       own layout e = rw e (ap (fixed_in width) (bytes_out (slice_range b.values.now (width * i) (width * i + width))))
 

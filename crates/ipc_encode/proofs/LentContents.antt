@@ -19,9 +19,9 @@ use Rattle.ipc_column.proofs.Lendings.{lent_offsets, lent_order}
 use Rattle.ipc_column.specs.declared.buffers.Buffers.{Buffers}
 use Rattle.ipc_column.specs.Checks.{are_ascending}
 use Rattle.ipc_column.specs.Lending.{AreBuffers}
-use Rattle.ipc_column.specs.Nested.{Nested, alone, below, slot_values}
+use Rattle.ipc_column.specs.Nested.{Nested, only_column, child_columns, slot_values}
 use Rattle.ipc_column.specs.Rules.{IsText, SpellsTexts}
-use Rattle.ipc_column.specs.Values.{between, is_valid, own_value, place, row, value_of}
+use Rattle.ipc_column.specs.Values.{between, is_valid, own_value, offset_position, row, value_of}
 use Rattle.ipc_column.proofs.Leads.{bytes_rise}
 use Rattle.ipc_column.proofs.Plain.{items_each}
 use Rattle.ipc_column.proofs.Slices.{above_in, places}
@@ -70,7 +70,7 @@ abbrev pub start_of : List ℕ → ℕ → ℕ
 start_of o i = num o (4 * i) 4
 
 pub place_is : (o : List ℕ) (n size i : ℕ) → ((k : ℕ) → get_or o k 0 < 256) → are_ascending o n size ≡ true → i ≤ n
-    → place o i ≡ start_of o i
+    → offset_position o i ≡ start_of o i
 place_is o n size i small h l = not_negative (start_of o i) (num_small 4 (4 * i) o small) (above_in o n size i h l)
 
 module _ (s : Nested) (b : Buffers) (h : AreBuffers s b) (utf8 : Bool) (e : b.layout ≡ l.VariableBytes utf8)
@@ -91,7 +91,7 @@ module _ (s : Nested) (b : Buffers) (h : AreBuffers s b) (utf8 : Bool) (e : b.la
   ascend =
       let count = slot_count s in
       rw (h.offsets, h.values, count)
-      (bytes_rise utf8 s.column.offsets (below s) s.column.slots 0 (length s.column.values) (omega (arith, some, count))
+      (bytes_rise utf8 s.column.offsets (child_columns s) s.column.slots 0 (length s.column.values) (omega (arith, some, count))
       (rw contents_laid at (lent_offsets s b h)) (rw contents_laid at (lent_order s b h)))
 
 module _ (s : Nested) (b : Buffers) (h : AreBuffers s b) (utf8 : Bool) (e : b.layout ≡ l.VariableBytes utf8)
@@ -107,7 +107,7 @@ module _ (s : Nested) (b : Buffers) (h : AreBuffers s b) (utf8 : Bool) (e : b.la
   contents_joined : LieJoined Content (slot_values s) b.values.now (start_of b.offsets.now)
   contents_joined = record { each = λ i m. each i m (is_valid b.validity.now i) refl; rise = rise }
     where
-      at : (i : ℕ) → i ≤ length (slot_values s) → place b.offsets.now i ≡ start_of b.offsets.now i
+      at : (i : ℕ) → i ≤ length (slot_values s) → offset_position b.offsets.now i ≡ start_of b.offsets.now i
       at i m = place_is b.offsets.now (length (slot_values s)) (length b.values.now) i small (ascend s b h utf8 e some) m
 
       rise : (i : ℕ) → i < length (slot_values s) → start_of b.offsets.now i ≤ start_of b.offsets.now (i + 1)
@@ -130,8 +130,8 @@ module _ (s : Nested) (b : Buffers) (h : AreBuffers s b) (utf8 : Bool) (e : b.la
           → content (get_or (slot_values s) i Null) ≡ slice_range b.values.now (start_of b.offsets.now i) (start_of b.offsets.now (i + 1))
       each i m true e' =
           ap content (buffers_at s b h i m ∙ rw e' refl)
-          ∙ (spelled b.layout s.column.dictionary (row (below s)) b.offsets.now b.values.now i e
-          ∙ (ap (λ (k : ℕ). slice_range b.values.now k (place b.offsets.now (i + 1))) (at i (omega arith))
+          ∙ (spelled b.layout s.column.dictionary (row (child_columns s)) b.offsets.now b.values.now i e
+          ∙ (ap (λ (k : ℕ). slice_range b.values.now k (offset_position b.offsets.now (i + 1))) (at i (omega arith))
           ∙ ap (λ (k : ℕ). slice_range b.values.now (start_of b.offsets.now i) k) (at (i + 1) (omega arith))))
       each i m false e' =
           ap content (buffers_at s b h i m ∙ rw e' refl)
@@ -221,15 +221,15 @@ lie_whole s b h utf8 e count size some small empty =
 
 -- the texts of a column are UTF-8 where each of its slots spells them
 pub texts_hold : (s : Nested) (utf8 : Bool) → s.column.layout ≡ l.VariableBytes utf8
-    → ((i : ℕ) → i < length (slot_values s) → SpellsTexts (alone s) i) → AllByRecursion HasUtf8 (slot_values s)
+    → ((i : ℕ) → i < length (slot_values s) → SpellsTexts (only_column s) i) → AllByRecursion HasUtf8 (slot_values s)
 texts_hold s utf8 e spelled =
-    items_each HasUtf8 (value_of (row (below s)) s.column) 0 s.column.slots
+    items_each HasUtf8 (value_of (row (child_columns s)) s.column) 0 s.column.slots
     (λ k from to. one k utf8 e (is_valid s.column.validity k) refl
     (spelled k (let count = slot_count s in omega (arith, to, count))).0)
   where
     one : (k : ℕ) (u : Bool) → s.column.layout ≡ l.VariableBytes u → (valid : Bool) → is_valid s.column.validity k ≡ valid
-        → (is_valid s.column.validity k ≡ true → IsText s.column.layout (SpellsTexts (below s)) s.column.offsets s.column.values k)
-        → HasUtf8 (value_of (row (below s)) s.column k)
+        → (is_valid s.column.validity k ≡ true → IsText s.column.layout (SpellsTexts (child_columns s)) s.column.offsets s.column.values k)
+        → HasUtf8 (value_of (row (child_columns s)) s.column k)
     one k u e false none text = rw none (subst SpellsOut (sym null_out) tt)
     one k true e true valid text =
         rw (valid, e) (subst SpellsOut (sym (text_out (between s.column.offsets s.column.values k))) (rw e at (text valid)))
@@ -237,7 +237,7 @@ texts_hold s utf8 e spelled =
 
 -- slots that spell their texts are stored in a column that lies as they do
 pub slots_stored : (s : Nested) (layout : Layout) → s.column.layout ≡ layout
-    → ((i : ℕ) → i < length (slot_values s) → SpellsTexts (alone s) i) → AreStored layout (slot_values s)
+    → ((i : ℕ) → i < length (slot_values s) → SpellsTexts (only_column s) i) → AreStored layout (slot_values s)
 slots_stored s (l.VariableBytes utf8) laid spelled = texts_hold s utf8 laid spelled
 slots_stored s l.Null laid spelled = tt
 slots_stored s l.Bits laid spelled = tt

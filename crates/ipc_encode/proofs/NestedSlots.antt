@@ -16,15 +16,15 @@ use Rattle.ipc_column.specs.declared.ranges.ColumnRanges.{ColumnRanges}
 use Rattle.ipc_column.specs.Checks.{are_ascending, have_slots}
 use Rattle.ipc_column.specs.Columns.{Columns}
 use Rattle.ipc_column.specs.Lending.{AreBuffers}
-use Rattle.ipc_column.specs.Nested.{Nested, below, slot_values}
+use Rattle.ipc_column.specs.Nested.{Nested, child_columns, slot_values}
 use Rattle.ipc_column.specs.Slots.{is_null, nested, nested_in}
-use Rattle.ipc_column.specs.Values.{first_of, is_valid, items, own_value, place, row, value_of}
-use Rattle.ipc_column.specs.Views.{columns, column_of, children_of}
+use Rattle.ipc_column.specs.Values.{first_of, is_valid, items, own_value, offset_position, row, value_of}
+use Rattle.ipc_column.specs.Views.{part_columns, column_of, children_of}
 use Rattle.ipc_column.proofs.Cells.{items_more}
 use Rattle.ipc_column.proofs.Parts.{children_out}
 use Rattle.ipc_column.proofs.Slices.{places}
 use Rattle.ipc_column.proofs.Slots.{bytes_from, order_from}
-use Rattle.ipc_encode.specs.Cells.{all_items, all_parts, cell, is_set, items_in, part, part_in}
+use Rattle.ipc_encode.specs.Cells.{all_items, all_parts, cell, is_set, items_in, struct_member, part_in}
 use Rattle.ipc_encode.specs.Marks.{MarksNulls}
 use Rattle.ipc_encode.specs.Pieces.{Valid}
 use Rattle.ipc_encode.specs.Cells as c
@@ -37,7 +37,7 @@ use Rattle.ipc_encode.proofs.Steps.{below_append}
 
 -- the value of a slot of a child, as its column's value
 abbrev pub child_value : Nested → ℕ → Value
-child_value n j = value_of (row (below n)) n.column j
+child_value n j = value_of (row (child_columns n)) n.column j
 
 part_value : (body : List ℕ) (p : ColumnRanges) (j : ℕ)
     → value_of (row (children_of body p)) (column_of body p) j ≡ child_value (nested body p) j
@@ -52,21 +52,21 @@ some_same a b h = ap (λ (o : Option Nested). out o) h
 
 -- the value of a slot in the first column is that of the first child
 first_value : (s child : Nested) (j : ℕ) → slice_get (nested_in s) 0 ≡ Some child
-    → first_of (row (below s) j) ≡ child_value child j
+    → first_of (row (child_columns s) j) ≡ child_value child j
 first_value s child j e = first s.children e
   where
     first : (ps : List ColumnRanges) → slice_get (map (nested s.body) ps) 0 ≡ Some child
-        → first_of (row (columns s.body ps) j) ≡ child_value child j
+        → first_of (row (part_columns s.body ps) j) ≡ child_value child j
     first [] e = absurd (none-some child e)
     first (p ∷ ps) e = part_value s.body p j ∙ ap (λ (n : Nested). child_value n j) (some_same (nested s.body p) child e)
 
 -- the value of a slot in column k is that of child k
 pub cell_value : (s child : Nested) (k j : ℕ) → slice_get (nested_in s) k ≡ Some child
-    → cell k (row (below s) j) ≡ child_value child j
+    → cell k (row (child_columns s) j) ≡ child_value child j
 cell_value s child k j e = at s.children k e
   where
     at : (ps : List ColumnRanges) (k : ℕ) → slice_get (map (nested s.body) ps) k ≡ Some child
-        → cell k (row (columns s.body ps) j) ≡ child_value child j
+        → cell k (row (part_columns s.body ps) j) ≡ child_value child j
     at [] k e = absurd (none-some child e)
     at (p ∷ ps) zero e = part_value s.body p j ∙ ap (λ (n : Nested). child_value n j) (some_same (nested s.body p) child e)
     at (p ∷ ps) (suc k) e = at ps k e
@@ -87,8 +87,8 @@ items_join f a zero n =
     rw (here, size) refl
 items_join f a (suc m) n =
     let size : suc m + n ≡ suc (m + n) = omega arith in
-    let place : a + suc m ≡ a + 1 + m = omega arith in
-    rw (size, place) (ap (λ (vs : List Value). f a ∷ vs) (items_join f (a + 1) m n))
+    let offset_position : a + suc m ≡ a + 1 + m = omega arith in
+    rw (size, offset_position) (ap (λ (vs : List Value). f a ∷ vs) (items_join f (a + 1) m n))
 
 -- lists whose items are runs one behind another have the items of one run
 runs_join : (f g : ℕ → Value) (at : ℕ → ℕ) (n : ℕ) → ((i : ℕ) → i < n → c.items (f i) ≡ items g (at i) (at (i + 1) - at i))
@@ -106,7 +106,7 @@ runs_join f g at (suc n) each rise =
     let next : c.items (f n) ≡ items g (at n) (at (suc n) - at n) =
     each n (omega arith) ∙ ap (λ (k : ℕ). items g (at n) (at k - at n)) more in
     let size : at n - at 0 + (at (suc n) - at n) ≡ at (suc n) - at 0 = omega (arith, before.0, step) in
-    let place : at 0 + (at n - at 0) ≡ at n = omega (arith, before.0) in (
+    let offset_position : at 0 + (at n - at 0) ≡ at n = omega (arith, before.0) in (
       omega (arith, before.0, step),
       ap (λ (k : ℕ). all_items (items f 0 k)) (sym more)
           ∙ (ap all_items (items_more f 0 n ∙ ap (λ (k : ℕ). items f 0 n ++ f k ∷ []) here)
@@ -114,7 +114,7 @@ runs_join f g at (suc n) each rise =
           ∙ (ap (λ (vs : List Value). all_items (items f 0 n) ++ vs) (append-nil (c.items (f n)))
           ∙ (ap (λ (vs : List Value). vs ++ c.items (f n)) before.1
           ∙ (ap (λ (vs : List Value). items g (at 0) (at n - at 0) ++ vs)
-          (next ∙ ap (λ (k : ℕ). items g k (at (suc n) - at n)) (sym place))
+          (next ∙ ap (λ (k : ℕ). items g k (at (suc n) - at n)) (sym offset_position))
           ∙ (sym (items_join g (at 0) (at n - at 0) (at (suc n) - at n))
           ∙ ap (λ (k : ℕ). items g (at 0) k) size)))))),
     )
@@ -132,51 +132,58 @@ module _ (s : Nested) (b : Buffers) (h : AreBuffers s b) (e : b.layout ≡ l.Lis
       let there = bytes_from s.column.slots (length s.column.offsets) (rw list_laid at (lent_offsets s b h)) (omega (arith, some, count)) in
       omega (arith, there, count, size)
 
-  list_ascend : are_ascending b.offsets.now (length (slot_values s)) (place b.offsets.now (length (slot_values s))) ≡ true
+  list_ascend : are_ascending b.offsets.now (length (slot_values s)) (offset_position b.offsets.now (length (slot_values s))) ≡ true
   list_ascend =
       let count = slot_count s in
       let n = s.column.slots in
       let o = s.column.offsets in
       let there = bytes_from n (length o) (rw list_laid at (lent_offsets s b h)) (omega (arith, some, count)) in
-      let both = order_from n o (are_ascending o n (place o n) && have_slots (place o n) (below s)) (rw list_laid at (lent_order s b h))
+      let both = order_from n o (are_ascending o n (offset_position o n) && have_slots (offset_position o n) (child_columns s))
+      (rw list_laid at (lent_order s b h))
       (omega (arith, some, count)) there in
-      rw (h.offsets, count) (and_parts (are_ascending o n (place o n)) (have_slots (place o n) (below s)) both).0
+      rw (h.offsets, count) (and_parts (are_ascending o n (offset_position o n)) (have_slots (offset_position o n) (child_columns s))
+      both).0
 
   module _ (small : (k : ℕ) → get_or b.offsets.now k 0 < 256)
       (empty : (i : ℕ) → i < length (slot_values s) → is_valid b.validity.now i ≡ false
       → start_of b.offsets.now (i + 1) ≡ start_of b.offsets.now i) where
-    pub list_place : (i : ℕ) → i ≤ length (slot_values s) → place b.offsets.now i ≡ start_of b.offsets.now i
-    list_place i m = place_is b.offsets.now (length (slot_values s)) (place b.offsets.now (length (slot_values s))) i small list_ascend m
+    pub list_place : (i : ℕ) → i ≤ length (slot_values s) → offset_position b.offsets.now i ≡ start_of b.offsets.now i
+    list_place i m = place_is b.offsets.now (length (slot_values s)) (offset_position b.offsets.now (length (slot_values s))) i small
+        list_ascend m
 
-    list_rise : (i : ℕ) → i < length (slot_values s) → place b.offsets.now i ≤ place b.offsets.now (i + 1)
+    list_rise : (i : ℕ) → i < length (slot_values s) → offset_position b.offsets.now i ≤ offset_position b.offsets.now (i + 1)
     list_rise i m =
-        (places b.offsets.now (length (slot_values s)) (place b.offsets.now (length (slot_values s))) i (i + 1) list_ascend (omega arith)
+        (places b.offsets.now (length (slot_values s)) (offset_position b.offsets.now (length (slot_values s))) i (i + 1) list_ascend
+        (omega arith)
         (omega arith)).order
 
     -- the items of a slot are a run of the first child's
     list_at : (i : ℕ) → i < length (slot_values s)
-        → c.items (value_of (row (below s)) s.column i)
-        ≡ items (λ j. first_of (row (below s) j)) (place b.offsets.now i) (place b.offsets.now (i + 1) - place b.offsets.now i)
+        → c.items (value_of (row (child_columns s)) s.column i)
+        ≡ items (λ j. first_of (row (child_columns s) j)) (offset_position b.offsets.now i)
+        (offset_position b.offsets.now (i + 1) - offset_position b.offsets.now i)
     list_at i m = ap c.items (sym (slot_is s i m) ∙ buffers_at s b h i m) ∙ either (is_valid b.validity.now i) refl
       where
         g : ℕ → Value
-        g j = first_of (row (below s) j)
+        g j = first_of (row (child_columns s) j)
 
-        none : place b.offsets.now (i + 1) - place b.offsets.now i ≡ 0 → items g (place b.offsets.now i)
-            (place b.offsets.now (i + 1) - place b.offsets.now i) ≡ []
-        none e = ap (λ (k : ℕ). items g (place b.offsets.now i) k) e
+        none : offset_position b.offsets.now (i + 1) - offset_position b.offsets.now i ≡ 0 → items g (offset_position b.offsets.now i)
+            (offset_position b.offsets.now (i + 1) - offset_position b.offsets.now i) ≡ []
+        none e = ap (λ (k : ℕ). items g (offset_position b.offsets.now i) k) e
 
         own : (layout : Layout) → layout ≡ l.Lists
-            → c.items (own_value layout s.column.dictionary (row (below s)) b.offsets.now b.values.now i)
-            ≡ items (λ j. first_of (row (below s) j)) (place b.offsets.now i) (place b.offsets.now (i + 1) - place b.offsets.now i)
+            → c.items (own_value layout s.column.dictionary (row (child_columns s)) b.offsets.now b.values.now i)
+            ≡ items (λ j. first_of (row (child_columns s) j)) (offset_position b.offsets.now i)
+            (offset_position b.offsets.now (i + 1) - offset_position b.offsets.now i)
         own layout e =
-            let run = items (λ j. first_of (row (below s) j)) (place b.offsets.now i) (place b.offsets.now
-            (i + 1) - place b.offsets.now i) in
+            let run = items (λ j. first_of (row (child_columns s) j)) (offset_position b.offsets.now i) (offset_position b.offsets.now
+            (i + 1) - offset_position b.offsets.now i) in
             rw e (ap items_in (list_out run))
 
         either : (valid : Bool) → is_valid b.validity.now i ≡ valid
-            → c.items (cond valid (own_value b.layout s.column.dictionary (row (below s)) b.offsets.now b.values.now i) v.Null)
-            ≡ items (λ j. first_of (row (below s) j)) (place b.offsets.now i) (place b.offsets.now (i + 1) - place b.offsets.now i)
+            → c.items (cond valid (own_value b.layout s.column.dictionary (row (child_columns s)) b.offsets.now b.values.now i) v.Null)
+            ≡ items (λ j. first_of (row (child_columns s) j)) (offset_position b.offsets.now i)
+            (offset_position b.offsets.now (i + 1) - offset_position b.offsets.now i)
         either true e' = own b.layout e
         either false e' =
             let here = list_place i (omega arith) in
@@ -186,13 +193,15 @@ module _ (s : Nested) (b : Buffers) (h : AreBuffers s b) (e : b.layout ≡ l.Lis
 
     -- all items are those of one run
     pub list_run : all_items (slot_values s)
-        ≡ items (λ j. first_of (row (below s) j)) (place b.offsets.now 0)
-        (place b.offsets.now (length (slot_values s)) - place b.offsets.now 0)
+        ≡ items (λ j. first_of (row (child_columns s) j)) (offset_position b.offsets.now 0)
+        (offset_position b.offsets.now (length (slot_values s)) - offset_position b.offsets.now 0)
     list_run =
         let count = slot_count s in
-        (runs_join (value_of (row (below s)) s.column) (λ j. first_of (row (below s) j)) (place b.offsets.now) s.column.slots
+        (runs_join (value_of (row (child_columns s)) s.column) (λ j. first_of (row (child_columns s) j)) (offset_position b.offsets.now)
+        s.column.slots
         (λ i m. list_at i (omega (arith, m, count))) (λ i m. list_rise i (omega (arith, m, count)))).1
-        ∙ ap (λ (k : ℕ). items (λ j. first_of (row (below s) j)) (place b.offsets.now 0) (place b.offsets.now k - place b.offsets.now 0))
+        ∙ ap (λ (k : ℕ). items (λ j. first_of (row (child_columns s) j)) (offset_position b.offsets.now 0)
+        (offset_position b.offsets.now k - offset_position b.offsets.now 0))
         (sym count)
 
     -- which has all slots of the child
@@ -203,10 +212,11 @@ module _ (s : Nested) (b : Buffers) (h : AreBuffers s b) (e : b.layout ≡ l.Lis
         let start = list_place 0 (omega arith) ∙ first in
         let end = list_place (length (slot_values s)) (omega arith) ∙ (last ∙ slot_count child) in
         list_run
-        ∙ (ap (λ (k : ℕ). items (λ j. first_of (row (below s) j)) k (place b.offsets.now (length (slot_values s)) - k)) start
-        ∙ (ap (λ (k : ℕ). items (λ j. first_of (row (below s) j)) 0 k)
-        (let k : place b.offsets.now (length (slot_values s)) - 0 ≡ child.column.slots = omega (arith, end) in k)
-        ∙ items_same (λ j. first_of (row (below s) j)) (child_value child) 0 child.column.slots (λ j. first_value s child j is)))
+        ∙ (ap (λ (k : ℕ). items (λ j. first_of (row (child_columns s) j)) k (offset_position b.offsets.now (length (slot_values s)) - k))
+        start
+        ∙ (ap (λ (k : ℕ). items (λ j. first_of (row (child_columns s) j)) 0 k)
+        (let k : offset_position b.offsets.now (length (slot_values s)) - 0 ≡ child.column.slots = omega (arith, end) in k)
+        ∙ items_same (λ j. first_of (row (child_columns s) j)) (child_value child) 0 child.column.slots (λ j. first_value s child j is)))
 
 -- no lists have no items
 pub no_lists : (vs ws : List Value) → length vs ≡ 0 → length ws ≡ 0 → all_items vs ≡ ws
@@ -218,12 +228,12 @@ no_lists (v ∷ vs) ws none same = absurd (omega arith)
 
 -- part k of each value, one by one
 parts_same : (k : ℕ) (vs ws : List Value) → length vs ≡ length ws
-    → ((i : ℕ) → i < length vs → part k (get_or vs i Null) ≡ get_or ws i Null) → all_parts k vs ≡ ws
+    → ((i : ℕ) → i < length vs → struct_member k (get_or vs i Null) ≡ get_or ws i Null) → all_parts k vs ≡ ws
 parts_same k [] [] size each = refl
 parts_same k [] (w ∷ ws) size each = absurd (omega arith)
 parts_same k (v ∷ vs) [] size each = absurd (omega arith)
 parts_same k (v ∷ vs) (w ∷ ws) size each =
-    let first : part k v ≡ w = each 0 (omega arith) in
+    let first : struct_member k v ≡ w = each 0 (omega arith) in
     let rest = parts_same k vs ws (omega (arith, size)) (λ i m. each (suc i) (omega arith)) in
     rw (first, rest) refl
 
@@ -234,14 +244,15 @@ pub struct_gives : (s child : Nested) (b : Buffers) (k : ℕ) → AreBuffers s b
     → all_parts k (slot_values s) ≡ slot_values child
 struct_gives s child b k h e is size empty =
     parts_same k (slot_values s) (slot_values child) size
-    (λ i m. ap (part k) (buffers_at s b h i m) ∙ either i m (is_valid b.validity.now i) refl)
+    (λ i m. ap (struct_member k) (buffers_at s b h i m) ∙ either i m (is_valid b.validity.now i) refl)
   where
     own : (layout : Layout) (i : ℕ) → layout ≡ l.Structs
-        → part k (own_value layout s.column.dictionary (row (below s)) b.offsets.now b.values.now i) ≡ cell k (row (below s) i)
-    own layout i e = rw e (ap (part_in k) (struct_out (row (below s) i)))
+        → struct_member k (own_value layout s.column.dictionary (row (child_columns s)) b.offsets.now b.values.now i)
+        ≡ cell k (row (child_columns s) i)
+    own layout i e = rw e (ap (part_in k) (struct_out (row (child_columns s) i)))
 
     either : (i : ℕ) → i < length (slot_values s) → (valid : Bool) → is_valid b.validity.now i ≡ valid
-        → part k (cond valid (own_value b.layout s.column.dictionary (row (below s)) b.offsets.now b.values.now i) v.Null)
+        → struct_member k (cond valid (own_value b.layout s.column.dictionary (row (child_columns s)) b.offsets.now b.values.now i) v.Null)
         ≡ get_or (slot_values child) i Null
     either i m true e' = own b.layout i e ∙ (cell_value s child k i is ∙ sym (slot_is child i (omega (arith, m, size))))
     either i m false e' = ap (part_in k) null_out ∙ sym (empty i m e')

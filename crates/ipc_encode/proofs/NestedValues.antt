@@ -4,7 +4,7 @@ use Rattle.std.proofs.Common.{Option, Some, None, zero, replicate}
 use Rattle.std.specs.Prelude.{not, ⊤}
 use Rattle.std.specs.List.{AllByRecursion}
 use Rattle.std.proofs.lemmas.List.{length-map}
-use Rattle.ipc_model.specs.Fits.{EachFits, InnerFit, IsOwn, Fits, RowFits, fits_step}
+use Rattle.ipc_model.specs.Fits.{EachFits, InnerFit, FitsOwnType, Fits, RowFits, fits_step}
 use Rattle.ipc_model.specs.WellFormed.{IsFieldWellFormed, HasFittingChildren}
 use Rattle.ipc_model.specs.Entries.{Listing, preorder, preorder_step, all_at, entries}
 use Rattle.ipc_model.specs.declared.schema.DataType.{DataType}
@@ -21,9 +21,9 @@ use Rattle.ipc_model.specs.declared.layout.Layout.{Layout}
 use Rattle.ipc_model.specs.Layouts.{layout, type_layout}
 use Rattle.ipc_model.proofs.FitsLemmas.{fits_roll}
 use Rattle.ipc_column.specs.Shapes.{Shape, shape_of, shapes, field_shape, field_step, field_layout, field_children}
-use Rattle.ipc_encode.specs.Cells.{is_null, cell, cells, items, items_in, all_items, part, part_in, all_parts}
+use Rattle.ipc_encode.specs.Cells.{is_null, cell, cells, items, items_in, all_items, struct_member, part_in, all_parts}
 use Rattle.ipc_encode.specs.Cells.{fixed_items, fixed_items_in, all_fixed_items}
-use Rattle.ipc_encode.specs.Buffers.{below, columns}
+use Rattle.ipc_encode.specs.Buffers.{child_values, row_columns}
 use Rattle.ipc_encode.proofs.HeldValues.{across, across_is, ColumnHeld, ColumnsHeld, values_held, all_one, all_both, all_left, all_right}
 
 -- ---- values that stand in a column
@@ -92,9 +92,9 @@ columns_stand at (f ∷ fs) xs h = (
       (all_one (λ x. PartsStand (f ∷ fs) (λ j. at j x)) (λ x. PartsStand fs (λ j. at (suc j) x)) (λ x here. here.1) xs h),
 )
 
-parts_are : (j : ℕ) (vs : List Value) → map (part j) vs ≡ all_parts j vs
+parts_are : (j : ℕ) (vs : List Value) → map (struct_member j) vs ≡ all_parts j vs
 parts_are j [] = refl
-parts_are j (value ∷ vs) = ap (λ (ws : List Value). part j value ∷ ws) (parts_are j vs)
+parts_are j (value ∷ vs) = ap (λ (ws : List Value). struct_member j value ∷ ws) (parts_are j vs)
 
 cells_are : (j : ℕ) (rows : List (List Value)) → map (cell j) rows ≡ cells j rows
 cells_are j [] = refl
@@ -103,12 +103,12 @@ cells_are j (row ∷ rows) = ap (λ (ws : List Value). cell j row ∷ ws) (cells
 structs_stand : (fs : List Field) (vs : List Value) → AllByRecursion (λ x. IsThere x → InnerFit Fits t.Struct fs (out-Value x)) vs
     → AllStand fs (λ j. all_parts j vs)
 structs_stand fs vs h =
-    let each = all_one (λ x. IsThere x → InnerFit Fits t.Struct fs (out-Value x)) (λ x. PartsStand fs (λ j. part j x))
+    let each = all_one (λ x. IsThere x → InnerFit Fits t.Struct fs (out-Value x)) (λ x. PartsStand fs (λ j. struct_member j x))
     (λ x inner. parts_stand fs (out-Value x) inner) vs h in
-    subst (λ (given : ℕ → List Value). AllStand fs given) (λ d j. parts_are j vs d) (columns_stand part fs vs each)
+    subst (λ (given : ℕ → List Value). AllStand fs given) (λ d j. parts_are j vs d) (columns_stand struct_member fs vs each)
 
 -- the columns of rows that fit
-pub rows_stand : (fs : List Field) (rows : List (List Value)) → AllByRecursion (RowFits fs) rows → AllStand fs (columns rows)
+pub rows_stand : (fs : List Field) (rows : List (List Value)) → AllByRecursion (RowFits fs) rows → AllStand fs (row_columns rows)
 rows_stand fs rows h =
     let each = all_one (RowFits fs) (λ row. PartsStand fs (λ j. cell j row)) (λ row fits. cells_stand fs row fits.1) rows h in
     subst (λ (given : ℕ → List Value). AllStand fs given) (λ d j. cells_are j rows d) (columns_stand cell fs rows each)
@@ -175,7 +175,7 @@ fixed_lists_stand size (f ∷ g ∷ fs) vs one h = absurd (omega arith)
 
 -- what stands inside the values of a column may stand in the columns of its children
 kind_below : (kind : DataType) (fs : List Field) (vs : List Value) → HasFittingChildren kind (length fs)
-    → AllByRecursion (λ x. IsThere x → InnerFit Fits kind fs (out-Value x)) vs → AllStand fs (below (type_layout kind) vs)
+    → AllByRecursion (λ x. IsThere x → InnerFit Fits kind fs (out-Value x)) vs → AllStand fs (child_values (type_layout kind) vs)
 kind_below t.List fs vs c h = lists_stand fs vs c h
 kind_below t.Struct fs vs c h = structs_stand fs vs h
 kind_below (t.FixedSizeList size) fs vs c h = fixed_lists_stand size fs vs c h
@@ -192,7 +192,7 @@ kind_below (t.Timestamp unit timezone) fs vs c h = none_stand fs
 kind_below (t.Duration unit) fs vs c h = none_stand fs
 
 below_stands : (kind : DataType) (d : Option Dictionary) (fs : List Field) (vs : List Value) → HasFittingChildren kind (length fs)
-    → AllByRecursion (λ x. IsThere x → InnerFit Fits kind fs (out-Value x)) vs → AllStand fs (below (layout kind d) vs)
+    → AllByRecursion (λ x. IsThere x → InnerFit Fits kind fs (out-Value x)) vs → AllStand fs (child_values (layout kind d) vs)
 below_stands kind None fs vs c h = kind_below kind fs vs c h
 below_stands kind (Some d) fs vs c h = none_stand fs
 
@@ -203,7 +203,7 @@ module _ (limits : Limits) where
   abbrev IsHeld : Field → Type 0
   IsHeld f = (d : ℕ) → AllByRecursion (IsFieldWellFormed limits) (preorder f d)
       → (vs : List Value) → AllByRecursion (Stands f) vs
-      → ColumnHeld (field_layout f) (across (field_children f)) vs × ColumnsHeld (field_children f) (below (field_layout f) vs)
+      → ColumnHeld (field_layout f) (across (field_children f)) vs × ColumnsHeld (field_children f) (child_values (field_layout f) vs)
 
   abbrev Shown : Type 0
   Shown = (f : Field) × IsHeld f
@@ -233,13 +233,13 @@ module _ (limits : Limits) where
       let each : AllByRecursion (λ x. IsThere x → fits_step Field (λ g. g) Fits z x) vs =
       subst (λ (F : Value → Type 0). AllByRecursion (λ x. IsThere x → F x) vs) (fits_roll z) h in
       let owns = all_one (λ x. IsThere x → fits_step Field (λ g. g) Fits z x)
-      (λ x. IsThere x → IsOwn z.kind z.nullable (length z.children) (out-Value x)) (λ x both there. (both there).0) vs each in
+      (λ x. IsThere x → FitsOwnType z.kind z.nullable (length z.children) (out-Value x)) (λ x both there. (both there).0) vs each in
       let inner = all_one (λ x. IsThere x → fits_step Field (λ g. g) Fits z x)
       (λ x. IsThere x → InnerFit Fits z.kind z.children (out-Value x)) (λ x both there. (both there).1) vs each in
       let own = values_held z.kind z.dictionary z.nullable (length z.children) vs fitting owns in
-      let under = all_held y.children (d + 1) listed.1 (below (layout z.kind z.dictionary) vs)
+      let under = all_held y.children (d + 1) listed.1 (child_values (layout z.kind z.dictionary) vs)
       (below_stands z.kind z.dictionary z.children vs fitting inner) in
-      subst (λ (s : Layout × Shape). ColumnHeld s.0 (across s.1) vs × ColumnsHeld s.1 (below s.0 vs)) (sym shape) (
+      subst (λ (s : Layout × Shape). ColumnHeld s.0 (across s.1) vs × ColumnsHeld s.1 (child_values s.0 vs)) (sym shape) (
         subst (λ (n : ℕ). ColumnHeld (layout z.kind z.dictionary) n vs) (sym (across_is z.children)) own,
         under,
       )
@@ -258,5 +258,6 @@ module _ (limits : Limits) where
 
   -- the columns of rows that fit hold them
   pub rows_held : (fs : List Field) (rows : List (List Value))
-      → AllByRecursion (IsFieldWellFormed limits) (entries fs) → AllByRecursion (RowFits fs) rows → ColumnsHeld (shape_of fs) (columns rows)
-  rows_held fs rows fine fits = fields_held fs 1 fine (columns rows) (rows_stand fs rows fits)
+      → AllByRecursion (IsFieldWellFormed limits) (entries fs) → AllByRecursion (RowFits fs) rows
+      → ColumnsHeld (shape_of fs) (row_columns rows)
+  rows_held fs rows fine fits = fields_held fs 1 fine (row_columns rows) (rows_stand fs rows fits)

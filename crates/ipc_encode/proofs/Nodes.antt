@@ -8,19 +8,20 @@ use Rattle.ipc_model.specs.declared.value.Value.{Value}
 use Rattle.ipc_column.specs.Shapes.{Shape, bare, field, shapes, field_shape, shape_of}
 use Rattle.ipc_model.specs.declared.schema.Field.{Field}
 use Rattle.ipc_encode.proofs.Steps.{below_none}
-use Rattle.ipc_encode.specs.declared.column.Column.{Column}
+use Rattle.ipc_encode.specs.declared.column_builder.ColumnBuilder.{ColumnBuilder}
 use Rattle.ipc_encode.specs.declared.node.Node.{Node, out-Node}
 use Rattle.ipc_encode.specs.declared.node.Node.TheOpen.{Node-F}
 use Rattle.ipc_encode.specs.declared.node.Node.TheViews.{out-roll-Node, roll-Node}
-use Rattle.ipc_encode.specs.Buffers.{below}
-use Rattle.ipc_encode.specs.declared.column.Purpose.{Purpose}
-use Rattle.ipc_encode.specs.declared.column.Purpose.TheVariants as purpose
+use Rattle.ipc_encode.specs.Buffers.{child_values}
+use Rattle.ipc_encode.specs.declared.column_builder.Purpose.{Purpose}
+use Rattle.ipc_encode.specs.declared.column_builder.Purpose.TheVariants as purpose
 use Rattle.ipc_model.specs.declared.limits.Limits.{Limits}
 use Rattle.ipc_encode.specs.Built.{AreNodes, IsNode, HasTaken}
 use Rattle.ipc_encode.specs.Numbers.{Numbering}
 
 -- the first so many nodes have one property of new values, and the others another of the old ones
-abbrev pub AreMixed : (Layout → List Value → Column → Type 0) → (Layout → List Value → Column → Type 0) → ℕ → Shape → List Node
+abbrev pub AreMixed : (Layout → List Value → ColumnBuilder → Type 0) → (Layout → List Value → ColumnBuilder → Type 0) → ℕ → Shape
+    → List Node
     → (ℕ → List Value) → (ℕ → List Value) → Type 0
 AreMixed Q P zero shape nodes old new = AreNodes P shape nodes old
 AreMixed Q P (suc i) bare [] old new = ⊤
@@ -30,7 +31,7 @@ AreMixed Q P (suc i) (field l c rest) (n ∷ ns) old new =
     IsNode Q l c n (new 0) × AreMixed Q P i rest ns (λ j. old (suc j)) (λ j. new (suc j))
 
 -- node i has its new values
-pub mixed_more : (Q P : Layout → List Value → Column → Type 0) (i : ℕ) (shape : Shape) (nodes : List Node) (old new : ℕ → List Value)
+pub mixed_more : (Q P : Layout → List Value → ColumnBuilder → Type 0) (i : ℕ) (shape : Shape) (nodes : List Node) (old new : ℕ → List Value)
     (n d : Node) → i < length nodes
     → ((l : Layout) (c : Shape) → IsNode P l c (get_or nodes i d) (old i) → IsNode Q l c n (new i))
     → AreMixed Q P i shape nodes old new → AreMixed Q P (suc i) shape (slice_set nodes i n) old new
@@ -44,7 +45,7 @@ mixed_more Q P (suc i) (field k c rest) (m ∷ ms) old new n d l step h =
     (h.0, mixed_more Q P i rest ms (λ j. old (suc j)) (λ j. new (suc j)) n d (omega arith) step h.1)
 
 -- every node has its new values
-pub mixed_all : (Q P : Layout → List Value → Column → Type 0) (i : ℕ) (shape : Shape) (nodes : List Node) (old new : ℕ → List Value)
+pub mixed_all : (Q P : Layout → List Value → ColumnBuilder → Type 0) (i : ℕ) (shape : Shape) (nodes : List Node) (old new : ℕ → List Value)
     → i ≡ length nodes → AreMixed Q P i shape nodes old new → AreNodes Q shape nodes new
 mixed_all Q P zero bare [] old new e h = tt
 mixed_all Q P (suc i) bare [] old new e h = tt
@@ -57,7 +58,7 @@ mixed_all Q P (suc i) (field k c rest) (m ∷ ms) old new e h =
     (h.0, mixed_all Q P i rest ms (λ j. old (suc j)) (λ j. new (suc j)) (omega arith) h.1)
 
 -- a changed node that has its values still
-pub kept_at : (P : Layout → List Value → Column → Type 0) (i : ℕ) (shape : Shape) (nodes : List Node) (given : ℕ → List Value)
+pub kept_at : (P : Layout → List Value → ColumnBuilder → Type 0) (i : ℕ) (shape : Shape) (nodes : List Node) (given : ℕ → List Value)
     (n d : Node)
     → i < length nodes → ((l : Layout) (c : Shape) (vs : List Value) → IsNode P l c (get_or nodes i d) vs → IsNode P l c n vs)
     → AreNodes P shape nodes given → AreNodes P shape (slice_set nodes i n) given
@@ -71,10 +72,10 @@ kept_at P (suc i) (field k c rest) (m ∷ ms) given n d l step h =
 -- ---- a node as it is put together
 
 -- the property of a node by its parts
-pub node_is : (P : Layout → List Value → Column → Type 0) (l : Layout) (c : Shape) (vs : List Value) (f : Node-F Node)
-    → P l vs f.column → AreNodes P c f.children.items (below l vs) → IsNode P l c (roll-Node f) vs
+pub node_is : (P : Layout → List Value → ColumnBuilder → Type 0) (l : Layout) (c : Shape) (vs : List Value) (f : Node-F Node)
+    → P l vs f.column → AreNodes P c f.children.items (child_values l vs) → IsNode P l c (roll-Node f) vs
 node_is P l c vs f own inner =
-    subst (λ (g : Node-F Node). P l vs g.column × AreNodes P c g.children.items (below l vs)) (sym (out-roll-Node f)) (own, inner)
+    subst (λ (g : Node-F Node). P l vs g.column × AreNodes P c g.children.items (child_values l vs)) (sym (out-roll-Node f)) (own, inner)
 
 -- the children of a node that were lent and came back
 lent_back : (node : Node) (lent new : List Node) → lent ≡ (out-Node node).children.items → length new ≡ length lent
@@ -91,7 +92,7 @@ lent_back node lent new e size =
     })) ∙ with_items_is (out-Node node).children new len
 
 -- its column stays
-pub lent_column : (P : Layout → List Value → Column → Type 0) (l : Layout) (vs : List Value) (node : Node) (new : List Node)
+pub lent_column : (P : Layout → List Value → ColumnBuilder → Type 0) (l : Layout) (vs : List Value) (node : Node) (new : List Node)
     → P l vs (out-Node node).column
     → P l vs (out-Node (roll-Node (record {
       column = (out-Node node).column;
@@ -102,7 +103,8 @@ lent_column P l vs node new h =
     subst (λ (g : Node-F Node). P l vs g.column) (sym (out-roll-Node after)) h
 
 -- its children have what they came back with
-pub lent_children : (P : Layout → List Value → Column → Type 0) (c : Shape) (given : ℕ → List Value) (node : Node) (lent new : List Node)
+pub lent_children : (P : Layout → List Value → ColumnBuilder → Type 0) (c : Shape) (given : ℕ → List Value) (node : Node)
+    (lent new : List Node)
     → lent ≡ (out-Node node).children.items → length new ≡ length lent → AreNodes P c new given
     → AreNodes P c (out-Node (roll-Node (record {
       column = (out-Node node).column;
@@ -112,10 +114,10 @@ lent_children P c given node lent new e size h =
     subst (λ (ns : List Node). AreNodes P c ns given) (sym (lent_back node lent new e size)) h
 
 -- a node whose children have the values that more values give, and whose column has not
-pub lent_node : (P : Layout → List Value → Column → Type 0) (l : Layout) (c : Shape) (vs ws : List Value) (node : Node)
+pub lent_node : (P : Layout → List Value → ColumnBuilder → Type 0) (l : Layout) (c : Shape) (vs ws : List Value) (node : Node)
     (lent new : List Node)
     → lent ≡ (out-Node node).children.items → length new ≡ length lent → IsNode P l c node vs
-    → (AreNodes P c lent (below l vs) → AreNodes P c new (below l ws))
+    → (AreNodes P c lent (child_values l vs) → AreNodes P c new (child_values l ws))
     → P l vs (out-Node (roll-Node (record {
       column = (out-Node node).column;
       children = with_items (out-Node node).children new;
@@ -123,14 +125,15 @@ pub lent_node : (P : Layout → List Value → Column → Type 0) (l : Layout) (
     × AreNodes P c (out-Node (roll-Node (record {
       column = (out-Node node).column;
       children = with_items (out-Node node).children new;
-    }))).children.items (below l ws)
+    }))).children.items (child_values l ws)
 lent_node P l c vs ws node lent new e size h more = (
   lent_column P l vs node new h.0,
-  lent_children P c (below l ws) node lent new e size (more (subst (λ (ns : List Node). AreNodes P c ns (below l vs)) (sym e) h.1)),
+  lent_children P c (child_values l ws) node lent new e size (more (subst (λ (ns : List Node). AreNodes P c ns (child_values l vs)) (sym e)
+      h.1)),
 )
 
 -- the layout of a column that has taken values
-pub taken_laid : (known : Numbering) (p : Purpose) (limits : Limits) (l : Layout) (vs : List Value) (column : Column)
+pub taken_laid : (known : Numbering) (p : Purpose) (limits : Limits) (l : Layout) (vs : List Value) (column : ColumnBuilder)
     → HasTaken known p limits l vs column
     → column.layout ≡ l
 taken_laid known purpose.Keep limits l vs column h = h.laid
@@ -138,7 +141,7 @@ taken_laid known purpose.Count limits l vs column h = h.laid
 
 -- ---- nodes that are made one after another
 
-made_more : (P : Layout → List Value → Column → Type 0) (xs : List (Layout × Shape)) (ns : List Node) (x : Layout × Shape) (n : Node)
+made_more : (P : Layout → List Value → ColumnBuilder → Type 0) (xs : List (Layout × Shape)) (ns : List Node) (x : Layout × Shape) (n : Node)
     → AreNodes P (shapes xs) ns (λ j. []) → IsNode P x.0 x.1 n [] → AreNodes P (shapes (xs ++ x ∷ [])) (ns ++ n ∷ []) (λ j. [])
 made_more P [] [] x n h one = (one, tt)
 made_more P [] (m ∷ ns) x n h one = absurd h
@@ -150,7 +153,7 @@ map_push f [] x = refl
 map_push f (y ∷ xs) x = ap (λ (zs : List _). f y ∷ zs) (map_push f xs x)
 
 -- one field more
-pub node_more : (P : Layout → List Value → Column → Type 0) (fs : List Field) (ns : List Node) (f : Field) (n : Node)
+pub node_more : (P : Layout → List Value → ColumnBuilder → Type 0) (fs : List Field) (ns : List Node) (f : Field) (n : Node)
     → AreNodes P (shape_of fs) ns (λ j. []) → IsNode P (field_shape f).0 (field_shape f).1 n []
     → AreNodes P (shape_of (fs ++ f ∷ [])) (ns ++ n ∷ []) (λ j. [])
 node_more P fs ns f n h one =
@@ -158,6 +161,6 @@ node_more P fs ns f n h one =
     (made_more P (map field_shape fs) ns (field_shape f) n h one)
 
 -- nodes of no values below one of none
-pub below_nothing : (P : Layout → List Value → Column → Type 0) (l : Layout) (c : Shape) (ns : List Node) → AreNodes P c ns (λ j. [])
-    → AreNodes P c ns (below l [])
+pub below_nothing : (P : Layout → List Value → ColumnBuilder → Type 0) (l : Layout) (c : Shape) (ns : List Node) → AreNodes P c ns (λ j. [])
+    → AreNodes P c ns (child_values l [])
 below_nothing P l c ns h = subst (λ (given : ℕ → List Value). AreNodes P c ns given) (λ d j. sym (below_none l j) d) h

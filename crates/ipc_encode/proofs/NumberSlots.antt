@@ -18,7 +18,7 @@ use Rattle.ipc_model.specs.declared.value.Value.TheVariants.{Null}
 use Rattle.ipc_model.specs.declared.layout.Layout.TheVariants as l
 use Rattle.ipc_model.specs.Layouts.{number_bytes}
 use Rattle.ipc_column.specs.declared.numbers.Numbers.{Numbers}
-use Rattle.ipc_column.specs.Lending.{AreNumbers, number_of}
+use Rattle.ipc_column.specs.Lending.{AreNumbers, lent_number}
 use Rattle.ipc_column.specs.Nested.{Nested, slot_values}
 use Rattle.ipc_column.specs.Values.{is_valid, own_value, signed_at}
 use Rattle.ipc_encode.specs.Cells.{bits_in, is_null, is_set, nulls, slot_bytes, slots}
@@ -64,8 +64,8 @@ own_bytes bits false values i small h =
     ∙ unsigned_bytes bits values (number_bytes bits * i) small h
 
 module _ (s : Nested) (n : Numbers) (h : AreNumbers s n) where
-  number_at : (i : ℕ) → i < length (slot_values s) → get_or (slot_values s) i Null ≡ number_of n i
-  number_at i m = get_or_from_slice_get (slot_values s) i (number_of n i) Null (h.each i m)
+  number_at : (i : ℕ) → i < length (slot_values s) → get_or (slot_values s) i Null ≡ lent_number n i
+  number_at i m = get_or_from_slice_get (slot_values s) i (lent_number n i) Null (h.each i m)
 
   -- the bitmap says which are null
   pub numbers_marked : MarksNulls n.validity.now (slot_values s)
@@ -80,7 +80,7 @@ module _ (s : Nested) (n : Numbers) (h : AreNumbers s n) where
   pub null_slot : (i : ℕ) → i < length (slot_values s) → is_valid n.validity.now i ≡ false
       → slot_bytes (Number n.bits) (get_or (slot_values s) i Null) ≡ bytes_low_first 0 (number_bytes n.bits) 0
   null_slot i m e =
-      let own : number_of n i ≡ Null = rw e refl in
+      let own : lent_number n i ≡ Null = rw e refl in
       ap (slot_bytes (Number n.bits)) (number_at i m ∙ own)
       ∙ ap (λ (f : Value-F Value). bytes_low_first 0 (number_bytes n.bits) (bits_in f)) null_out
 
@@ -95,7 +95,7 @@ module _ (s : Nested) (n : Numbers) (h : AreNumbers s n) where
       → slot_bytes (Number n.bits) (get_or (slot_values s) i Null)
       ≡ take (number_bytes n.bits) (drop (number_bytes n.bits * i) n.values.now)
   valid_slot small i m e =
-      let own : number_of n i ≡ own_value (l.Numbers n.bits n.signed) [] (λ _. []) [] n.values.now i = rw e refl in
+      let own : lent_number n i ≡ own_value (l.Numbers n.bits n.signed) [] (λ _. []) [] n.values.now i = rw e refl in
       ap (slot_bytes (Number n.bits)) (number_at i m ∙ own) ∙ own_bytes n.bits n.signed n.values.now i small (inside i m)
 
 -- where no value is null each is valid

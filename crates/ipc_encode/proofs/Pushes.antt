@@ -13,7 +13,7 @@ use Rattle.ipc_encode.specs.Cells.{is_set, flags, nulls}
 use Rattle.ipc_encode.specs.Columns.{validity_bytes, validity_in, values_in, indices_in}
 use Rattle.ipc_encode.specs.Numbers.{Numbering}
 use Rattle.ipc_encode.specs.Writing.{AreStored}
-use Rattle.ipc_encode.specs.declared.column.Column.{Column}
+use Rattle.ipc_encode.specs.declared.column_builder.ColumnBuilder.{ColumnBuilder}
 use Rattle.ipc_encode.specs.Built.{IsColumn}
 use Rattle.ipc_encode.proofs.Steps.{flags_push, nulls_push}
 
@@ -82,7 +82,7 @@ no_bitmap l.Structs vs none = absurd (omega arith)
 no_bitmap (l.FixedLists size) vs none = absurd (omega arith)
 
 -- a column of one layout is one of the same layout
-pub laid_as : {column : Column} → (known : Numbering) (limits : Limits) (lay layout : Layout) (vs : List Value) → lay ≡ layout
+pub laid_as : {column : ColumnBuilder} → (known : Numbering) (limits : Limits) (lay layout : Layout) (vs : List Value) → lay ≡ layout
     → IsColumn known limits lay vs column
     → IsColumn known limits layout vs column
 laid_as {column} known limits lay layout vs e h = subst (λ (x : Layout). IsColumn known limits x vs column) e h

@@ -5,9 +5,9 @@ use Rattle.std.specs.Prelude.{ℤ, pos, unsigned_abs}
 use Rattle.std.specs.List.{AllByRecursion}
 use Rattle.std.proofs.Math.Seq.{drop-append_seam, take-append_seam}
 use Rattle.std.proofs.lemmas.Int.{ints}
-use Rattle.ipc_column.specs.Columns.{bytes_of}
-use Rattle.ipc_column.specs.Rules.{LiesIn}
-use Rattle.ipc_encode.specs.Buffers.{padded_buffer, padded, ranges_from}
+use Rattle.ipc_column.specs.Columns.{body_range}
+use Rattle.ipc_column.specs.Rules.{IsWithinBody}
+use Rattle.ipc_encode.specs.Buffers.{padded_buffer, padded_bytes, ranges_from}
 
 -- what stands behind a front
 pub cut_behind : (front b more : List ℕ) → take (length front + length b - length front) (drop (length front) (front ++ (b ++ more))) ≡ b
@@ -15,8 +15,8 @@ cut_behind front b more =
     let size : length front + length b - length front ≡ length b = omega arith in
     rw (drop-append_seam front (b ++ more), size) (take-append_seam b more)
 
-bytes_behind : (front b more : List ℕ) → bytes_of (front ++ (b ++ more)) (length front) (length b) ≡ b
-unfolding bytes_of
+bytes_behind : (front b more : List ℕ) → body_range (front ++ (b ++ more)) (length front) (length b) ≡ b
+unfolding body_range
 bytes_behind front b more =
     let inside : length front + length b ≤ length (front ++ (b ++ more)) =
     omega (arith, length-append front (b ++ more), length-append b more) in
@@ -28,29 +28,29 @@ ranges_length [] start = refl
 ranges_length (b ∷ bs) start = ap (λ (k : ℕ). suc k) (ranges_length bs (start + length (padded_buffer b)))
 
 abbrev range_bytes : List ℕ → ℤ × ℤ → List ℕ
-range_bytes body range = bytes_of body (unsigned_abs range.0) (unsigned_abs range.1)
+range_bytes body range = body_range body (unsigned_abs range.0) (unsigned_abs range.1)
 
 -- buffer k of those behind a front
 pub buffer_back : (bs : List (List ℕ)) (front : List ℕ) (k : ℕ) → k < length bs
-    → range_bytes (front ++ padded bs) (get_or (ranges_from (length front) bs) k (pos 0, pos 0)) ≡ get_or bs k []
+    → range_bytes (front ++ padded_bytes bs) (get_or (ranges_from (length front) bs) k (pos 0, pos 0)) ≡ get_or bs k []
 buffer_back [] front k l = absurd (omega arith)
 buffer_back (b ∷ bs) front zero l =
     let zeros = replicate {A = ℕ} ((8 - length b % 8) % 8) 0 in
-    ap (λ (xs : List ℕ). bytes_of (front ++ xs) (length front) (length b)) (append_assoc b zeros (padded bs))
-    ∙ bytes_behind front b (zeros ++ padded bs)
+    ap (λ (xs : List ℕ). body_range (front ++ xs) (length front) (length b)) (append_assoc b zeros (padded_bytes bs))
+    ∙ bytes_behind front b (zeros ++ padded_bytes bs)
 buffer_back (b ∷ bs) front (suc k) l =
     ap (λ (xs : List ℕ). range_bytes xs (get_or (ranges_from (length front + length (padded_buffer b)) bs) k (pos 0, pos 0)))
-    (sym (append_assoc front (padded_buffer b) (padded bs)))
-    ∙ (ap (λ (n : ℕ). range_bytes ((front ++ padded_buffer b) ++ padded bs) (get_or (ranges_from n bs) k (pos 0, pos 0)))
+    (sym (append_assoc front (padded_buffer b) (padded_bytes bs)))
+    ∙ (ap (λ (n : ℕ). range_bytes ((front ++ padded_buffer b) ++ padded_bytes bs) (get_or (ranges_from n bs) k (pos 0, pos 0)))
     (sym (length-append front (padded_buffer b)))
     ∙ buffer_back bs (front ++ padded_buffer b) k (omega arith))
 
 -- the ranges of buffers lie within a body that has room for all of them
-pub ranges_inside : (bs : List (List ℕ)) (start size : ℕ) → start + length (padded bs) ≤ size
-    → AllByRecursion (LiesIn size) (ranges_from start bs)
+pub ranges_inside : (bs : List (List ℕ)) (start size : ℕ) → start + length (padded_bytes bs) ≤ size
+    → AllByRecursion (IsWithinBody size) (ranges_from start bs)
 ranges_inside [] start size h = tt
 ranges_inside (b ∷ bs) start size h =
-    let whole = length-append (padded_buffer b) (padded bs) in
+    let whole = length-append (padded_buffer b) (padded_bytes bs) in
     let own = length-append b (replicate {A = ℕ} ((8 - length b % 8) % 8) 0) in
     let within : start + length b ≤ size = omega (arith, h, whole, own) in (
       record { offset = omega (arith, ints); bytes = omega (arith, ints); within = λ some. omega (arith, ints, within) },

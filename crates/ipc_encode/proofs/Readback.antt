@@ -11,19 +11,19 @@ use Rattle.ipc_model.specs.declared.value.Value.TheVariants as v
 use Rattle.ipc_model.specs.declared.layout.Layout.{Layout}
 use Rattle.ipc_model.specs.declared.layout.Layout.TheVariants as l
 use Rattle.ipc_model.specs.Layouts.{number_bytes}
-use Rattle.ipc_column.specs.Values.{is_valid, place, first_of, own_value, value_of}
+use Rattle.ipc_column.specs.Values.{is_valid, offset_position, first_of, own_value, value_of}
 use Rattle.ipc_column.specs.Dictionaries.{Dictionaries}
 use Rattle.ipc_column.specs.Shapes.{dictionary_at}
 use Rattle.ipc_column.specs.Values.{items as slots_from}
 use Rattle.ipc_encode.specs.Pieces.{True}
 use Rattle.ipc_encode.specs.Numbers.{Numbering}
-use Rattle.ipc_encode.specs.Indices.{InColumn, Finds}
+use Rattle.ipc_encode.specs.Indices.{InColumn, FindsIndex}
 use Rattle.ipc_encode.specs.Pieces.{Number}
 use Rattle.ipc_encode.specs.Pieces as p
 use Rattle.ipc_encode.specs.Cells.{is_null, is_true, bits_in, bytes_in, fixed_in}
-use Rattle.ipc_encode.specs.Cells.{slots, offsets, items, items_in, all_items, part, part_in, all_parts}
+use Rattle.ipc_encode.specs.Cells.{slots, offsets, items, items_in, all_items, struct_member, part_in, all_parts}
 use Rattle.ipc_encode.specs.Cells.{fixed_items, fixed_items_in, all_fixed_items}
-use Rattle.ipc_encode.specs.Buffers.{below}
+use Rattle.ipc_encode.specs.Buffers.{child_values}
 use Rattle.ipc_encode.specs.Columns.{validity_bytes, validity_in, offsets_in}
 use Rattle.ipc_encode.proofs.Bits.{bit_of}
 use Rattle.ipc_encode.proofs.ReadbackParts.{column_of, written_values, Holds, AllHeld, held_at}
@@ -70,7 +70,7 @@ parts_length j [] = refl
 parts_length j (v ∷ vs) = ap (λ (k : ℕ). suc k) (parts_length j vs)
 
 -- slot i of a column of parts is a part of struct i
-part_at : (j : ℕ) (vs : List Value) (i : ℕ) → i < length vs → get_or (all_parts j vs) i v.Null ≡ part j (get_or vs i v.Null)
+part_at : (j : ℕ) (vs : List Value) (i : ℕ) → i < length vs → get_or (all_parts j vs) i v.Null ≡ struct_member j (get_or vs i v.Null)
 part_at j [] i k = absurd (omega arith)
 part_at j (v ∷ vs) zero k = refl
 part_at j (v ∷ vs) (suc i) k = part_at j vs i (omega arith)
@@ -124,16 +124,18 @@ listed value (x ∷ xs) start same =
 -- the items of a list are the values between its offsets
 list_is : (vs : List Value) (i n : ℕ) (xs : List Value) (rows : ℕ → List Value) → i < length vs
     → out-Value (get_or vs i v.Null) ≡ Value-F.List xs → n ≡ 1 → reach p.Items vs ≤ 2 ^ 31 - 1 → ArePicked rows n (λ j. all_items vs)
-    → slots_from (λ j. first_of (rows j)) (place (offsets p.Items vs) i)
-    (place (offsets p.Items vs) (i + 1) - place (offsets p.Items vs) i) ≡ xs
+    → slots_from (λ j. first_of (rows j)) (offset_position (offsets p.Items vs) i)
+    (offset_position (offsets p.Items vs) (i + 1) - offset_position (offsets p.Items vs) i) ≡ xs
 list_is vs i n xs rows k e one short picks =
     let start = reach p.Items (take i vs) in
     let own : items (get_or vs i v.Null) ≡ xs = ap items_in e in
-    let from : place (offsets p.Items vs) i ≡ start = place_is p.Items vs i (omega arith) short in
+    let from : offset_position (offsets p.Items vs) i ≡ start = place_is p.Items vs i (omega arith) short in
     let to = place_next p.Items vs i v.Null k short in
     let size : length (items (get_or vs i v.Null)) ≡ length xs = ap (λ (ws : List Value). length ws) own in
-    let count : place (offsets p.Items vs) (i + 1) - place (offsets p.Items vs) i ≡ length xs = omega (arith, from, to, size) in
-    ap (λ (at : ℕ). slots_from (λ j. first_of (rows j)) at (place (offsets p.Items vs) (i + 1) - place (offsets p.Items vs) i)) from
+    let count : offset_position (offsets p.Items vs) (i + 1) - offset_position (offsets p.Items vs) i ≡ length xs =
+    omega (arith, from, to, size) in
+    ap (λ (at : ℕ). slots_from (λ j. first_of (rows j)) at (offset_position (offsets p.Items vs) (i + 1) - offset_position
+    (offsets p.Items vs) i)) from
     ∙ (ap (λ (many : ℕ). slots_from (λ j. first_of (rows j)) start many) count
     ∙ listed (λ j. first_of (rows j)) xs start (λ m inside.
     let here = item_at vs i m k (omega (arith, inside, size)) in
@@ -205,8 +207,8 @@ fixed_list_is size vs i n xs rows k all e count one picks =
 
 -- what a slot holds is the value, unless it is null
 own_is : (ds : Dictionaries) (known : Numbering) (rows : ℕ → List Value) (l : Layout) (n : ℕ) (vs : List Value) (i : ℕ) (w : Value-F Value)
-    → i < length vs → AllHeld l n vs → IsShort l vs → ArePicked rows n (below l vs)
-    → out-Value (get_or vs i v.Null) ≡ w → Holds l n w → is_null w ≡ false → InColumn (Finds ds known) l vs
+    → i < length vs → AllHeld l n vs → IsShort l vs → ArePicked rows n (child_values l vs)
+    → out-Value (get_or vs i v.Null) ≡ w → Holds l n w → is_null w ≡ false → InColumn (FindsIndex ds known) l vs
     → own_value l (dictionary_at ds l) rows (offsets_in l vs) (written_values known l vs) i ≡ get_or vs i v.Null
 own_is ds known rows _ n vs i Value-F.Null k all short picks e h valid found = absurd (cc)
 own_is ds known rows l.Bits n vs i (Value-F.Bool truth) k all short picks e h valid found =
@@ -240,7 +242,7 @@ own_is ds known rows l.Structs n vs i (Value-F.Struct parts) k all short picks e
     ∙ (sym (v.rolls-Struct parts) ∙ back_to (get_or vs i v.Null) (Value-F.Struct parts) e)
 own_is ds known rows l.Null n vs i _ k all short picks e h valid found = absurd h
 own_is ds known rows (l.Indices bits signed id) n vs i w k all short picks e h valid found =
-    index_back ds known bits signed id vs i w k e valid (found_at (Finds ds known) bits signed id vs i k found)
+    index_back ds known bits signed id vs i w k e valid (found_at (FindsIndex ds known) bits signed id vs i k found)
 own_is ds known rows l.Lists n vs i _ k all short picks e h valid found = absurd h
 own_is ds known rows (l.FixedLists size) n vs i _ k all short picks e h valid found = absurd h
 own_is ds known rows l.Structs n vs i _ k all short picks e h valid found = absurd h
@@ -253,7 +255,8 @@ own_is ds known rows (l.VariableBytes true) n vs i _ k all short picks e h valid
 
 -- slot i holds value i
 slot_is : (ds : Dictionaries) (known : Numbering) (rows : ℕ → List Value) (l : Layout) (n : ℕ) (vs : List Value) (i : ℕ) → i < length vs
-    → AllHeld l n vs → IsShort l vs → ArePicked rows n (below l vs) → InColumn (Finds ds known) l vs → validity_in l vs ≡ validity_bytes vs
+    → AllHeld l n vs → IsShort l vs → ArePicked rows n (child_values l vs) → InColumn (FindsIndex ds known) l vs → validity_in l vs
+    ≡ validity_bytes vs
     → value_of rows (column_of ds known l vs) i ≡ get_or vs i v.Null
 slot_is ds known rows lay n vs i k all short picks found same =
     let own = own_value lay (dictionary_at ds lay) rows (offsets_in lay vs) (written_values known lay vs) i in
@@ -274,7 +277,7 @@ null_held n value _ e h = absurd h
 
 -- slot i of a column that was written has the i-th of its values
 pub value_is : (ds : Dictionaries) (known : Numbering) (rows : ℕ → List Value) (l : Layout) (n : ℕ) (vs : List Value) (i : ℕ)
-    → i < length vs → AllHeld l n vs → IsShort l vs → ArePicked rows n (below l vs) → InColumn (Finds ds known) l vs
+    → i < length vs → AllHeld l n vs → IsShort l vs → ArePicked rows n (child_values l vs) → InColumn (FindsIndex ds known) l vs
     → value_of rows (column_of ds known l vs) i ≡ get_or vs i v.Null
 value_is ds known rows l.Null n vs i k all short picks found =
     null_held n (get_or vs i v.Null) (out-Value (get_or vs i v.Null)) refl (held_at l.Null n vs i v.Null all k)

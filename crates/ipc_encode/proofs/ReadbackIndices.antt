@@ -18,8 +18,8 @@ use Rattle.ipc_model.specs.Layouts.{number_bytes}
 use Rattle.ipc_column.specs.Values.{signed_at, value_at, number_in}
 use Rattle.ipc_column.specs.Dictionaries.{Dictionaries, values_for}
 use Rattle.ipc_encode.specs.Pieces.{Valid}
-use Rattle.ipc_encode.specs.Numbers.{Numbering, index_in, as_number, numbers_of}
-use Rattle.ipc_encode.specs.Indices.{InColumn, Finds, IsIndexWithin}
+use Rattle.ipc_encode.specs.Numbers.{Numbering, index_unless_null, as_number, numbers_of}
+use Rattle.ipc_encode.specs.Indices.{InColumn, FindsIndex, IsIndexWithin}
 use Rattle.ipc_encode.proofs.Indexed.{number_out, number_at, numbers_length}
 use Rattle.ipc_encode.specs.Pieces.{Number}
 use Rattle.ipc_encode.specs.Cells.{is_null, is_set, number_bits}
@@ -82,13 +82,14 @@ pub number_of_slot : (f : Value → ℕ) (vs : List Value) (i : ℕ) (w : Value-
     → out-Value (get_or vs i v.Null) ≡ w → is_null w ≡ false
     → number_bits (get_or (numbers_of f vs) i v.Null) ≡ f (get_or vs i v.Null)
 number_of_slot f vs i w k e valid =
-    ap number_bits (number_at f vs i k ∙ ap (λ (x : Value-F Value). as_number (index_in (f (get_or vs i v.Null)) x)) e) ∙ by w valid
+    ap number_bits (number_at f vs i k ∙ ap (λ (x : Value-F Value). as_number (index_unless_null (f (get_or vs i v.Null)) x)) e)
+    ∙ by w valid
   where
     some : number_bits (v.UInt (f (get_or vs i v.Null))) ≡ f (get_or vs i v.Null)
     some = rw (number_out (f (get_or vs i v.Null))) refl
 
     by : (x : Value-F Value) → is_null x ≡ false
-        → number_bits (as_number (index_in (f (get_or vs i v.Null)) x)) ≡ f (get_or vs i v.Null)
+        → number_bits (as_number (index_unless_null (f (get_or vs i v.Null)) x)) ≡ f (get_or vs i v.Null)
     by Value-F.Null h = absurd (cc)
     by (Value-F.Bool truth) h = some
     by (Value-F.Int z) h = some
@@ -122,7 +123,7 @@ flag_from value w e h = ap (λ (x : Value-F Value). not (is_null x)) e ∙ ap no
 -- the index in a slot finds the value
 pub index_back : (ds : Dictionaries) (known : Numbering) (bits : IntBits) (signed : Bool) (id : ℤ) (vs : List Value) (i : ℕ)
     (w : Value-F Value) → i < length vs → out-Value (get_or vs i v.Null) ≡ w → is_null w ≡ false
-    → (is_set Valid (get_or vs i v.Null) ≡ true → Finds ds known bits signed id (get_or vs i v.Null))
+    → (is_set Valid (get_or vs i v.Null) ≡ true → FindsIndex ds known bits signed id (get_or vs i v.Null))
     → value_at (values_for ds id) (number_in bits signed (slots (Number bits) (numbers_of (known id) vs)) i) ≡ get_or vs i v.Null
 index_back ds known bits signed id vs i w k e valid found =
     let here = found (flag_from (get_or vs i v.Null) w e valid) in

@@ -23,13 +23,13 @@ use Rattle.ipc_column.specs.Columns.{Column}
 use Rattle.ipc_column.specs.Dictionaries.{Dictionaries}
 use Rattle.ipc_column.specs.Shapes.{dictionary_at}
 use Rattle.ipc_column.specs.Rules.{AreOffsets}
-use Rattle.ipc_column.specs.Values.{is_valid, offset, place, between}
+use Rattle.ipc_column.specs.Values.{is_valid, offset, offset_position, between}
 use Rattle.ipc_encode.specs.Pieces.{Valid, True}
 use Rattle.ipc_encode.specs.Pieces.{Run, ValueSlot}
 use Rattle.ipc_encode.specs.Pieces.{Number, Fixed, Content}
 use Rattle.ipc_encode.specs.Pieces as p
 use Rattle.ipc_encode.specs.Bitmaps.{bitmap}
-use Rattle.ipc_encode.specs.Cells.{is_set, flags, nulls, number_bits, content, fixed, SpellsOut}
+use Rattle.ipc_encode.specs.Cells.{is_set, flags, nulls, number_bits, content, fixed_bytes, SpellsOut}
 use Rattle.ipc_encode.specs.Cells.{slot_bytes, slots, extent, ends, offsets, items, all_items}
 use Rattle.ipc_encode.specs.Buffers.{piece_bytes}
 use Rattle.ipc_encode.specs.Columns.{validity_bytes, validity_in, offsets_in}
@@ -176,7 +176,7 @@ numbers_wide bits (v ∷ vs) = (length_low_bytes 0 (number_bytes bits) (number_b
 
 -- a value of fixed-size binary has as many bytes as its width
 pub fixed_length : (width n : ℕ) (v : Value) (w : Value-F Value) → out-Value v ≡ w → Holds (l.FixedBytes width) n w
-    → length (fixed width v) ≡ width
+    → length (fixed_bytes width v) ≡ width
 fixed_length width n v Value-F.Null e h = rw e (length-replicate width 0)
 fixed_length width n v (Value-F.Bytes bytes) e h = rw e h
 fixed_length width n v _ e h = absurd h
@@ -198,10 +198,10 @@ number_back bits vs i d k =
 
 -- the bytes of slot i, of one width
 pub fixed_back : (width n : ℕ) (vs : List Value) (i : ℕ) (d : Value) → AllHeld (l.FixedBytes width) n vs → i < length vs
-    → slice_range (slots (Fixed width) vs) (width * i) (width * i + width) ≡ fixed width (get_or vs i d)
+    → slice_range (slots (Fixed width) vs) (width * i) (width * i + width) ≡ fixed_bytes width (get_or vs i d)
 fixed_back width n vs i d h k =
     let front = slots (Fixed width) (take i vs) in
-    let own = fixed width (get_or vs i d) in
+    let own = fixed_bytes width (get_or vs i d) in
     let start : width * i ≡ length front = sym (wide_front (Fixed width) width vs i (fixed_wide width n vs h) (omega arith)) in
     let size : width ≡ length own = sym (fixed_length width n (get_or vs i d) (out-Value (get_or vs i d)) refl
     (held_at (l.FixedBytes width) n vs i d h k)) in
@@ -249,10 +249,10 @@ ends_back run (v ∷ vs) front start (suc i) k =
     let next = start + extent run v in
     let later = ends_back run vs (front ++ own) next i (omega arith) in
     let size = length-append front own in
-    let place : length front + 4 * suc i ≡ length (front ++ own) + 4 * i = omega (arith, size) in
+    let offset_position : length front + 4 * suc i ≡ length (front ++ own) + 4 * i = omega (arith, size) in
     let sum : next + reach run (take i vs) ≡ start + (extent run v + reach run (take i vs)) = omega arith in
     ap (λ (bs : List ℕ). num bs (length front + 4 * suc i) 4) (sym (append_assoc front own (bytes_low_first 0 4 next ++ ends run next vs)))
-    ∙ (ap (λ (m : ℕ). num ((front ++ own) ++ (bytes_low_first 0 4 next ++ ends run next vs)) m 4) place
+    ∙ (ap (λ (m : ℕ). num ((front ++ own) ++ (bytes_low_first 0 4 next ++ ends run next vs)) m 4) offset_position
     ∙ (later ∙ ap (λ (m : ℕ). m % 2 ^ 32) sum))
 
 -- the runs before slot i reach no further than all
@@ -281,12 +281,12 @@ offset_is run vs i k short =
 
 -- slot i begins where the runs before it reach
 pub place_is : (run : Run) (vs : List Value) (i : ℕ) → i ≤ length vs → reach run vs ≤ 2 ^ 31 - 1
-    → place (offsets run vs) i ≡ reach run (take i vs)
+    → offset_position (offsets run vs) i ≡ reach run (take i vs)
 place_is run vs i k short = ap unsigned_abs (offset_is run vs i k short)
 
 -- slot i ends behind its run
 pub place_next : (run : Run) (vs : List Value) (i : ℕ) (d : Value) → i < length vs → reach run vs ≤ 2 ^ 31 - 1
-    → place (offsets run vs) (i + 1) ≡ reach run (take i vs) + extent run (get_or vs i d)
+    → offset_position (offsets run vs) (i + 1) ≡ reach run (take i vs) + extent run (get_or vs i d)
 place_next run vs i d k short =
     let more : i + 1 ≡ suc i = omega arith in
     place_is run vs (i + 1) (omega arith) short ∙ (ap (λ (n : ℕ). reach run (take n vs)) more ∙ front_more run vs i d k)
@@ -298,11 +298,12 @@ between_is vs i d k short =
     let front = slots Content (take i vs) in
     let own = content (get_or vs i d) in
     let before : reach p.Bytes (take i vs) ≡ length front = reach_bytes (take i vs) in
-    let start : place (offsets p.Bytes vs) i ≡ length front = place_is p.Bytes vs i (omega arith) short ∙ before in
-    let end : place (offsets p.Bytes vs) (i + 1) ≡ length front + length own =
+    let start : offset_position (offsets p.Bytes vs) i ≡ length front = place_is p.Bytes vs i (omega arith) short ∙ before in
+    let end : offset_position (offsets p.Bytes vs) (i + 1) ≡ length front + length own =
     place_next p.Bytes vs i d k short ∙ ap (λ (n : ℕ). n + length own) before in
-    ap (λ (bs : List ℕ). slice_range bs (place (offsets p.Bytes vs) i) (place (offsets p.Bytes vs) (i + 1))) (slots_split Content vs i d k)
-    ∙ (ap (λ (m : ℕ). slice_range (front ++ (own ++ slots Content (drop (suc i) vs))) (place (offsets p.Bytes vs) i) m) end
+    ap (λ (bs : List ℕ). slice_range bs (offset_position (offsets p.Bytes vs) i) (offset_position (offsets p.Bytes vs) (i + 1)))
+    (slots_split Content vs i d k)
+    ∙ (ap (λ (m : ℕ). slice_range (front ++ (own ++ slots Content (drop (suc i) vs))) (offset_position (offsets p.Bytes vs) i) m) end
     ∙ (ap (λ (m : ℕ). slice_range (front ++ (own ++ slots Content (drop (suc i) vs))) m (length front + length own)) start
     ∙ cut_behind front own (slots Content (drop (suc i) vs))))
 

@@ -21,19 +21,19 @@ use Rattle.ipc_model.specs.declared.layout.Layout.{Layout}
 use Rattle.ipc_model.specs.declared.layout.Layout.TheVariants as l
 use Rattle.ipc_meta.specs.declared.head.BatchHead.{BatchHead}
 use Rattle.ipc_column.specs.Columns.{Column, Columns, Each, EachTop}
-use Rattle.ipc_column.specs.Shapes.{Shape, bare, field, shape_of, node_at, buffer_at, columns_of, dictionary_at}
-use Rattle.ipc_column.specs.Rules.{IsFieldNode, LiesIn, IsLongEnough, CountsNulls, HasOffsets, HasLongChildren, IsText, SpellsTexts}
+use Rattle.ipc_column.specs.Shapes.{Shape, bare, field, shape_of, node_at, buffer_at, field_columns, dictionary_at}
+use Rattle.ipc_column.specs.Rules.{IsFieldNode, IsWithinBody, IsLongEnough, CountsNulls, HasOffsets, HasLongChildren, IsText, SpellsTexts}
 use Rattle.ipc_column.specs.Rules.{HasIndex}
 use Rattle.ipc_column.specs.Rules.{HoldsIndices, IsIndex}
 use Rattle.ipc_column.specs.Dictionaries.{Dictionaries, values_for}
-use Rattle.ipc_column.specs.Values.{is_valid, place, row}
+use Rattle.ipc_column.specs.Values.{is_valid, offset_position, row}
 use Rattle.ipc_column.specs.Rows.{Rows}
 use Rattle.ipc_encode.specs.Pieces.{Valid, Content}
 use Rattle.ipc_encode.specs.Pieces as p
 use Rattle.ipc_encode.specs.Cells.{is_null, is_set, cell, cells, slots, extent, all_items, HasUtf8}
 use Rattle.ipc_encode.specs.Numbers.{Numbering}
-use Rattle.ipc_encode.specs.Indices.{InColumn, InColumns, Finds, FindsRows}
-use Rattle.ipc_encode.specs.Buffers.{below, nodes_of, columns, row_nodes, row_buffers_with, ranges_from, body_with}
+use Rattle.ipc_encode.specs.Indices.{InColumn, InColumns, FindsIndex, FindsRows}
+use Rattle.ipc_encode.specs.Buffers.{child_values, nodes_of, row_columns, row_nodes, row_buffers_with, ranges_from, body_with}
 use Rattle.ipc_encode.specs.Columns.{validity_in, offsets_in}
 use Rattle.ipc_encode.specs.Limits.{HasLongData, HasLongNode, SomeColumn, IsWithin}
 use Rattle.ipc_encode.specs.Writing.{AreStored, AllStored}
@@ -59,13 +59,13 @@ record IsGood (ds : Dictionaries) (known : Numbering) (most : ℕ) (l : Layout) 
   pub short : IsShort l vs
   pub few : length vs ≤ most
   pub stored : AreStored l vs
-  pub found : InColumn (Finds ds known) l vs
+  pub found : InColumn (FindsIndex ds known) l vs
 
 -- the same of each column, and of each below it
 abbrev AllGood : Dictionaries → Numbering → ℕ → Shape → (ℕ → List Value) → Type 0
 AllGood ds known most bare given = ⊤
 AllGood ds known most (field l children rest) given = IsGood ds known most l (across children) (given 0)
-    × (AllGood ds known most children (below l (given 0)) × AllGood ds known most rest (λ j. given (suc j)))
+    × (AllGood ds known most children (child_values l (given 0)) × AllGood ds known most rest (λ j. given (suc j)))
 
 not_above : (n most : ℕ) → ((most < n) → ⊥) → n ≤ most
 not_above n most h = elim (cases_lt most n) as (λ _. n ≤ most) [ inl x ↦ absurd (h x) | inr g ↦ omega (arith, g) ]
@@ -84,7 +84,7 @@ no_items (value ∷ vs) h =
     none_in x _ e h = absurd h
 
 short_is : (most : ℕ) (l : Layout) (children : Shape) (vs : List Value) → most ≤ 2 ^ 31 - 1 → AllHeld l (across children) vs
-    → ¬ HasLongData l vs → ¬ HasLongNode most children (below l vs) → IsShort l vs
+    → ¬ HasLongData l vs → ¬ HasLongNode most children (child_values l vs) → IsShort l vs
 short_is most (l.VariableBytes utf8) children vs m held short few =
     let size = reach_bytes vs in
     let within : length (slots Content vs) ≤ 2 ^ 31 - 1 = not_above (length (slots Content vs)) (2 ^ 31 - 1) short in
@@ -103,7 +103,7 @@ short_is most l.Structs children vs m held short few = tt
 short_is most (l.FixedLists size) children vs m held short few = tt
 
 goods : (ds : Dictionaries) (known : Numbering) (most : ℕ) (s : Shape) (given : ℕ → List Value) → most ≤ 2 ^ 31 - 1 → ColumnsHeld s given
-    → AllStored s given → InColumns (Finds ds known) s given
+    → AllStored s given → InColumns (FindsIndex ds known) s given
     → ¬ SomeColumn HasLongData s given → ¬ HasLongNode most s given → AllGood ds known most s given
 goods ds known most bare given m held stored found short few = tt
 goods ds known most (field l children rest) given m held stored found short few = (
@@ -116,7 +116,8 @@ goods ds known most (field l children rest) given m held stored found short few 
     found = found.0;
   },
   (
-    goods ds known most children (below l (given 0)) m held.1.0 stored.1.0 found.1.0 (λ x. short (inr (inl x))) (λ x. few (inr (inl x))),
+    goods ds known most children (child_values l (given 0)) m held.1.0 stored.1.0 found.1.0 (λ x. short (inr (inl x)))
+        (λ x. few (inr (inl x))),
     goods ds known most rest (λ j. given (suc j)) m held.1.1 stored.1.1 found.1.1 (λ x. short (inr (inr x))) (λ x. few (inr (inr x))),
   ),
 )
@@ -126,7 +127,7 @@ goods ds known most (field l children rest) given m held stored found short few 
 -- what holds of a column and the columns of its children, where good values are written
 abbrev OfGood : Dictionaries → Numbering → ℕ → (Column → Columns → Type 0) → Type 0
 OfGood ds known most P = (l : Layout) (children : Shape) (vs : List Value) → IsGood ds known most l (across children) vs
-    → P (column_of ds known l vs) (written ds known children (below l vs))
+    → P (column_of ds known l vs) (written ds known children (child_values l vs))
 
 each_written : (ds : Dictionaries) (known : Numbering) (most : ℕ) (P : Column → Columns → Type 0) → OfGood ds known most P
     → (s : Shape) (given : ℕ → List Value) → AllGood ds known most s given
@@ -134,19 +135,23 @@ each_written : (ds : Dictionaries) (known : Numbering) (most : ℕ) (P : Column 
 each_written ds known most P p bare given g = tt
 each_written ds known most P p (field l children rest) given g = (
   p l children (given 0) g.0,
-  (each_written ds known most P p children (below l (given 0)) g.1.0, each_written ds known most P p rest (λ j. given (suc j)) g.1.1),
+  (
+    each_written ds known most P p children (child_values l (given 0)) g.1.0,
+    each_written ds known most P p rest (λ j. given (suc j))
+        g.1.1,
+  ),
 )
 
 long_children : (ds : Dictionaries) (known : Numbering) (l : Layout) (children : Shape) (vs : List Value)
     → HasItsChild l (across children) → AllHeld l (across children) vs
-    → HasLongChildren l (length vs) (written ds known children (below l vs))
+    → HasLongChildren l (length vs) (written ds known children (child_values l vs))
 long_children ds known l.Structs children vs child held =
-    slots_written ds known (λ n. length vs ≤ n) children (below l.Structs vs) (λ j. omega (arith, parts_length j vs))
+    slots_written ds known (λ n. length vs ≤ n) children (child_values l.Structs vs) (λ j. omega (arith, parts_length j vs))
 long_children ds known (l.FixedLists size) bare vs child held = absurd (omega (arith, child))
 long_children ds known (l.FixedLists size) (field first inner rest) vs child held =
     let children = field first inner rest in
     let many = all_fixed_length size (across children) vs held in
-    slots_written ds known (λ n. size * length vs ≤ n) children (below (l.FixedLists size) vs) (λ j. omega (arith, many))
+    slots_written ds known (λ n. size * length vs ≤ n) children (child_values (l.FixedLists size) vs) (λ j. omega (arith, many))
 long_children ds known l.Lists children vs child held = tt
 long_children ds known l.Null children vs child held = tt
 long_children ds known l.Bits children vs child held = tt
@@ -156,12 +161,13 @@ long_children ds known (l.VariableBytes utf8) children vs child held = tt
 long_children ds known (l.Indices bits signed id) children vs child held = tt
 
 ordered : (ds : Dictionaries) (known : Numbering) (l : Layout) (children : Shape) (vs : List Value) → IsShort l vs
-    → HasOffsets l (length vs) (offsets_in l vs) (length (written_values known l vs)) (written ds known children (below l vs))
+    → HasOffsets l (length vs) (offsets_in l vs) (length (written_values known l vs)) (written ds known children (child_values l vs))
 ordered ds known (l.VariableBytes utf8) children vs short = λ some there.
     in_order p.Bytes vs (λ end. end ≤ℤ pos (length (slots Content vs))) short (omega (arith, ints, reach_bytes vs))
 ordered ds known l.Lists children vs short = λ some there.
-    in_order p.Items vs (λ end. EachTop (λ c. end ≤ℤ pos c.slots) (written ds known children (below l.Lists vs))) short
-    (slots_written ds known (λ n. pos (reach p.Items vs) ≤ℤ pos n) children (below l.Lists vs) (λ j. omega (arith, ints, reach_items vs)))
+    in_order p.Items vs (λ end. EachTop (λ c. end ≤ℤ pos c.slots) (written ds known children (child_values l.Lists vs))) short
+    (slots_written ds known (λ n. pos (reach p.Items vs) ≤ℤ pos n) children (child_values l.Lists vs)
+    (λ j. omega (arith, ints, reach_items vs)))
 ordered ds known l.Structs children vs short = tt
 ordered ds known (l.FixedLists size) children vs short = tt
 ordered ds known l.Null children vs short = tt
@@ -175,7 +181,7 @@ ordered ds known (l.Indices bits signed id) children vs short = tt
 -- what a slot holds is UTF-8 where it is valid, and where what its children hold is
 text_is : (ds : Dictionaries) (known : Numbering) (most : ℕ) (l : Layout) (n : ℕ) (vs : List Value) (i : ℕ) (under : ℕ → Type 0)
     → IsGood ds known most l n vs → i < length vs
-    → is_valid (validity_in l vs) i ≡ true → ((k : ℕ) → ((j : ℕ) → k < length (below l vs j)) → under k)
+    → is_valid (validity_in l vs) i ≡ true → ((k : ℕ) → ((j : ℕ) → k < length (child_values l vs j)) → under k)
     → IsText l under (offsets_in l vs) (written_values known l vs) i
 text_is ds known most (l.VariableBytes true) n vs i under g k valid more =
     let value = get_or vs i v.Null in
@@ -186,7 +192,7 @@ text_is ds known most (l.VariableBytes true) n vs i under g k valid more =
 text_is ds known most (l.VariableBytes false) n vs i under g k valid more = tt
 text_is ds known most l.Lists n vs i under g k valid more = λ j from to.
     let next = place_next p.Items vs i v.Null k g.short in
-    let within : place (offsets_in l.Lists vs) (i + 1) ≤ reach p.Items vs =
+    let within : offset_position (offsets_in l.Lists vs) (i + 1) ≤ reach p.Items vs =
     let most = front_most p.Items vs (suc i) in let sum = front_more p.Items vs i v.Null k in omega (arith, next, most, sum) in
     more j (λ c. omega (arith, to, within, reach_items vs))
 text_is ds known most (l.FixedLists size) n vs i under g k valid more = λ j from to.
@@ -205,9 +211,9 @@ spelled_written : (ds : Dictionaries) (known : Numbering) (most : ℕ) (s : Shap
     → SpellsTexts (written ds known s given) i
 spelled_written ds known most bare given g i k = tt
 spelled_written ds known most (field l children rest) given g i k = (
-  λ valid. text_is ds known most l (across children) (given 0) i (SpellsTexts (written ds known children (below l (given 0)))) g.0
+  λ valid. text_is ds known most l (across children) (given 0) i (SpellsTexts (written ds known children (child_values l (given 0)))) g.0
       (k 0) valid
-      (λ m inside. spelled_written ds known most children (below l (given 0)) g.1.0 m inside),
+      (λ m inside. spelled_written ds known most children (child_values l (given 0)) g.1.0 m inside),
   spelled_written ds known most rest (λ j. given (suc j)) g.1.1 i (λ j. k (suc j)),
 )
 
@@ -221,19 +227,19 @@ not_null false h = refl
 -- what a slot holds is an index of a value where it is valid, and where what its children hold is
 index_is : (ds : Dictionaries) (known : Numbering) (most : ℕ) (l : Layout) (n : ℕ) (vs : List Value) (i : ℕ) (under : ℕ → Type 0)
     → IsGood ds known most l n vs → i < length vs
-    → is_valid (validity_in l vs) i ≡ true → ((k : ℕ) → ((j : ℕ) → k < length (below l vs j)) → under k)
+    → is_valid (validity_in l vs) i ≡ true → ((k : ℕ) → ((j : ℕ) → k < length (child_values l vs j)) → under k)
     → HasIndex l (dictionary_at ds l) under (offsets_in l vs) (written_values known l vs) i
 index_is ds known most (l.Indices bits signed id) n vs i under g k valid more =
     let value = get_or vs i v.Null in
     let flag : is_set Valid value ≡ true = sym (valid_is vs i v.Null k) ∙ valid in
-    let here = found_at (Finds ds known) bits signed id vs i k g.found flag in
+    let here = found_at (FindsIndex ds known) bits signed id vs i k g.found flag in
     let there = slice_get_within (values_for ds id) (known id value) value here.found in
     subst (λ (z : ℤ). IsIndex (values_for ds id) z)
     (sym (index_number (known id) bits signed vs i (out-Value value) k refl (not_null (is_null (out-Value value)) flag) here.within))
     (record { from = omega (arith, ints); to = omega (arith, ints, there) })
 index_is ds known most l.Lists n vs i under g k valid more = λ j from to.
     let next = place_next p.Items vs i v.Null k g.short in
-    let within : place (offsets_in l.Lists vs) (i + 1) ≤ reach p.Items vs =
+    let within : offset_position (offsets_in l.Lists vs) (i + 1) ≤ reach p.Items vs =
     let most = front_most p.Items vs (suc i) in let sum = front_more p.Items vs i v.Null k in omega (arith, next, most, sum) in
     more j (λ c. omega (arith, to, within, reach_items vs))
 index_is ds known most (l.FixedLists size) n vs i under g k valid more = λ j from to.
@@ -252,9 +258,9 @@ indices_written : (ds : Dictionaries) (known : Numbering) (most : ℕ) (s : Shap
     → HoldsIndices (written ds known s given) i
 indices_written ds known most bare given g i k = tt
 indices_written ds known most (field l children rest) given g i k = (
-  λ valid. index_is ds known most l (across children) (given 0) i (HoldsIndices (written ds known children (below l (given 0)))) g.0
+  λ valid. index_is ds known most l (across children) (given 0) i (HoldsIndices (written ds known children (child_values l (given 0)))) g.0
       (k 0) valid
-      (λ m inside. indices_written ds known most children (below l (given 0)) g.1.0 m inside),
+      (λ m inside. indices_written ds known most children (child_values l (given 0)) g.1.0 m inside),
   indices_written ds known most rest (λ j. given (suc j)) g.1.1 i (λ j. k (suc j)),
 )
 
@@ -272,8 +278,8 @@ are_nodes ds known limits (field l children rest) given g =
         nulls_from = omega (arith, ints);
         nulls_to = omega (arith, ints, most);
       },
-      all_both (IsFieldNode limits) (nodes_of children (below l (given 0))) (nodes_of rest (λ j. given (suc j)))
-          (are_nodes ds known limits children (below l (given 0)) g.1.0) (are_nodes ds known limits rest (λ j. given (suc j)) g.1.1),
+      all_both (IsFieldNode limits) (nodes_of children (child_values l (given 0))) (nodes_of rest (λ j. given (suc j)))
+          (are_nodes ds known limits children (child_values l (given 0)) g.1.0) (are_nodes ds known limits rest (λ j. given (suc j)) g.1.1),
     )
 
 -- ---- the rows
@@ -284,9 +290,9 @@ row_back : (ds : Dictionaries) (known : Numbering) (most : ℕ) (s : Shape) (giv
     → row (written ds known s given) i ≡ picked (across s) given i
 row_back ds known most bare given g i k = refl
 row_back ds known most (field l children rest) given g i k =
-    let here = value_is ds known (row (written ds known children (below l (given 0)))) l (across children) (given 0) i (k 0) g.0.held
+    let here = value_is ds known (row (written ds known children (child_values l (given 0)))) l (across children) (given 0) i (k 0) g.0.held
     g.0.short
-    (λ m inside. row_back ds known most children (below l (given 0)) g.1.0 m inside) g.0.found in
+    (λ m inside. row_back ds known most children (child_values l (given 0)) g.1.0 m inside) g.0.found in
     let others = row_back ds known most rest (λ j. given (suc j)) g.1.1 i (λ j. k (suc j)) in
     λ q. here q ∷ others q
 
@@ -302,10 +308,10 @@ width_at fs (row ∷ rows) zero h k = h.0.0
 width_at fs (row ∷ rows) (suc i) h k = width_at fs rows i h.1 (omega arith)
 
 rows_picked : (fs : List Field) (rows : List (List Value)) (i : ℕ) → AllByRecursion (RowFits fs) rows → i < length rows
-    → picked (across (shape_of fs)) (columns rows) i ≡ get_or rows i []
+    → picked (across (shape_of fs)) (row_columns rows) i ≡ get_or rows i []
 rows_picked fs rows i fits k =
-    ap (λ (n : ℕ). picked n (columns rows) i) (across_is fs ∙ sym (width_at fs rows i fits k))
-    ∙ picked_row (get_or rows i []) (columns rows) i (λ j. cell_at j rows i k)
+    ap (λ (n : ℕ). picked n (row_columns rows) i) (across_is fs ∙ sym (width_at fs rows i fits k))
+    ∙ picked_row (get_or rows i []) (row_columns rows) i (λ j. cell_at j rows i k)
 
 abbrev head_of : Numbering → List Field → List (List Value) → BatchHead
 head_of known fields rows = record {
@@ -317,37 +323,37 @@ head_of known fields rows = record {
 -- the parts that rows are written as give the rows
 pub rows_back : {limits : Limits} → (ds : Dictionaries) (known : Numbering) (fields : List Field) (rows : List (List Value))
     → AllByRecursion (IsFieldWellFormed limits) (entries fields) → AllByRecursion (RowFits fields) rows → IsWithin limits fields rows
-    → AllStored (shape_of fields) (columns rows) → FindsRows ds known fields rows
+    → AllStored (shape_of fields) (row_columns rows) → FindsRows ds known fields rows
     → Rows limits ds fields (head_of known fields rows) (body_with known fields rows) rows
 rows_back {limits} ds known fields rows fine fits within stored found =
     let head = head_of known fields rows in
     let body = body_with known fields rows in
     let s = shape_of fields in
-    let given = columns rows in
+    let given = row_columns rows in
     let most = limits.slots in
     let few : length rows ≤ limits.slots = not_above (length rows) limits.slots (λ x. within.few (inl x)) in
     let good = goods ds known most s given limits.slots_fit (rows_held limits fields rows fine fits) stored found
     (λ x. within.short (inl x))
     (λ x. within.few (inr (inl x))) in
-    let e : columns_of ds fields head body ≡ written ds known s given =
+    let e : field_columns ds fields head body ≡ written ds known s given =
     cut_back ds known s given head body 0 0
     (λ k h. ap (λ (q : ℕ). node_at head q) (let z : 0 + k ≡ k = omega arith in z))
     (λ k h. ap (λ (q : ℕ). buffer_at head body q) (let z : 0 + k ≡ k = omega arith in z)
     ∙ buffer_back (row_buffers_with known fields rows) [] k h) in
-    let inside : (i : ℕ) → i < length rows → (j : ℕ) → i < length (columns rows j) = λ i k j. omega (arith, k, cells_length j rows) in
+    let inside : (i : ℕ) → i < length rows → (j : ℕ) → i < length (row_columns rows j) = λ i k j. omega (arith, k, cells_length j rows) in
     record {
       nodes = nodes_length s given;
       buffers = ranges_length (row_buffers_with known fields rows) 0 ∙ buffers_length known s given;
       lengths = record {
         batch = record { from = omega (arith, ints); to = omega (arith, ints, few) };
         nodes = All-from_recursion (IsFieldNode limits) (row_nodes fields rows) (are_nodes ds known limits s given good);
-        columns = subst (λ (cs : Columns). EachTop (λ c. pos c.slots ≡ pos (length rows)) cs) (sym e)
+        row_columns = subst (λ (cs : Columns). EachTop (λ c. pos c.slots ≡ pos (length rows)) cs) (sym e)
             (slots_written ds known (λ n. pos n ≡ pos (length rows)) s given (λ j. ap (λ (n : ℕ). pos n) (cells_length j rows)));
         children = subst (λ (cs : Columns). Each (λ c children. HasLongChildren c.layout c.slots children) cs) (sym e)
             (each_written ds known most (λ c children. HasLongChildren c.layout c.slots children)
             (λ l children vs g. long_children ds known l children vs g.child g.held) s given good);
       };
-      ranges = All-from_recursion (LiesIn (length body)) (ranges_from 0 (row_buffers_with known fields rows))
+      ranges = All-from_recursion (IsWithinBody (length body)) (ranges_from 0 (row_buffers_with known fields rows))
           (ranges_inside (row_buffers_with known fields rows) 0 (length body) (omega arith));
       bytes = subst (λ (cs : Columns). Each (λ c children. IsLongEnough c) cs) (sym e)
           (each_written ds known most (λ c children. IsLongEnough c)
@@ -371,7 +377,7 @@ pub rows_of_parts : {limits : Limits}
     (body : List ℕ)
     → AllByRecursion (IsFieldWellFormed limits) (entries fields) → AllByRecursion (RowFits fields) rows
     → IsWithin limits fields rows
-    → AllStored (shape_of fields) (columns rows) → FindsRows ds known fields rows → nodes ≡ row_nodes fields rows → buffers ≡
+    → AllStored (shape_of fields) (row_columns rows) → FindsRows ds known fields rows → nodes ≡ row_nodes fields rows → buffers ≡
     ranges_from 0 (row_buffers_with known fields rows)
     → body ≡ body_with known fields rows
     → Rows limits ds fields (record { length = pos (length rows); nodes = nodes; buffers = buffers }) body rows

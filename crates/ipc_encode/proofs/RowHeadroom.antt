@@ -4,8 +4,8 @@ use Rattle.ipc_model.specs.declared.limits.Limits.{Limits}
 use Rattle.ipc_model.specs.declared.schema.Field.{Field}
 use Rattle.ipc_model.specs.declared.value.Value.{Value}
 use Rattle.ipc_column.specs.Shapes.{shape_of}
-use Rattle.ipc_encode.specs.Buffers.{columns}
-use Rattle.ipc_encode.specs.Built.{AreWithin, HasHeadroom}
+use Rattle.ipc_encode.specs.Buffers.{row_columns}
+use Rattle.ipc_encode.specs.Built.{AreColumnsWithin, HasHeadroom}
 use Rattle.ipc_encode.specs.Cells.{cell}
 use Rattle.ipc_encode.specs.Weights.{capped, row_weight}
 use Rattle.ipc_encode.proofs.Held.{columns_push}
@@ -26,16 +26,16 @@ headroom_left limits fields rows row headroom weight small h most = λ added lig
     let less : weight < headroom = omega (arith, light) in
     let own = weighs (row_weight fields row) weight headroom most less small in
     let both = weight_more 0 (shape_of fields) (λ j. cell j row ∷ []) added in
-    subst (λ (given : ℕ → List Value). AreWithin limits (shape_of fields) given)
-    (λ d j. (sym (append_assoc (columns rows j) (cell j row ∷ []) (added j))
+    subst (λ (given : ℕ → List Value). AreColumnsWithin limits (shape_of fields) given)
+    (λ d j. (sym (append_assoc (row_columns rows j) (cell j row ∷ []) (added j))
     ∙ ap (λ (g : ℕ → List Value). g j ++ added j) (columns_push rows row)) d)
     (h (λ j. (cell j row ∷ []) ++ added j) (omega (arith, both, own, light)))
 
 -- a row that weighs less than the headroom is within the limits
 pub row_within : (limits : Limits) (fields : List Field) (rows : List (List Value)) (row : List Value) (headroom weight : ℕ)
     → headroom < 2 ^ 64 → HasHeadroom limits fields rows headroom → capped (row_weight fields row) ≤ weight → weight < headroom
-    → AreWithin limits (shape_of fields) (columns (rows ++ row ∷ []))
+    → AreColumnsWithin limits (shape_of fields) (row_columns (rows ++ row ∷ []))
 row_within limits fields rows row headroom weight small h most less =
     let own = weighs (row_weight fields row) weight headroom most less small in
-    subst (λ (given : ℕ → List Value). AreWithin limits (shape_of fields) given) (columns_push rows row)
+    subst (λ (given : ℕ → List Value). AreColumnsWithin limits (shape_of fields) given) (columns_push rows row)
     (h (λ j. cell j row ∷ []) (omega (arith, own, less)))

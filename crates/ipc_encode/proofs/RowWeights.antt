@@ -7,7 +7,7 @@ use Rattle.std.proofs.lemmas.Bool.{cases_lt}
 use Rattle.std.proofs.Math.Nat.{suc-mul, min-eq_left, min-eq_right}
 use Rattle.std.proofs.lemmas.List.{length-map}
 use Rattle.ipc_model.specs.Entries.{Listing, all_at, preorder, preorder_step}
-use Rattle.ipc_model.specs.Fits.{Fits, EachFits, InnerFit, IsOwn}
+use Rattle.ipc_model.specs.Fits.{Fits, EachFits, InnerFit, FitsOwnType}
 use Rattle.ipc_model.specs.WellFormed.{HasFittingChildren, IsFieldWellFormed, IsLeaf}
 use Rattle.ipc_model.specs.Layouts.{layout}
 use Rattle.ipc_model.specs.declared.layout.Layout.{Layout}
@@ -20,9 +20,9 @@ use Rattle.ipc_model.specs.declared.value.Value.TheOpen as o
 use Rattle.ipc_model.specs.declared.value.Value.TheOpen.{Value-F}
 use Rattle.ipc_model.specs.declared.value.Value.TheVariants as v
 use Rattle.ipc_column.specs.Shapes.{Shape, bare, field, field_children, field_layout, field_shape, field_step, shape_of}
-use Rattle.ipc_encode.specs.Buffers.{below, nulls_below}
+use Rattle.ipc_encode.specs.Buffers.{child_values, nulls_below}
 use Rattle.ipc_encode.specs.Cells.{cell}
-use Rattle.ipc_encode.specs.Columns.{datum}
+use Rattle.ipc_encode.specs.Columns.{value_len}
 use Rattle.ipc_encode.specs.Weights.{capped, field_weight, row_weight, weight_of}
 use Rattle.ipc_encode.proofs.Below.{null_gives}
 use Rattle.ipc_encode.proofs.HeldValues.{all_left, all_right}
@@ -117,47 +117,47 @@ nulls_weigh c (suc n) =
 
 -- the nulls that a null of this layout gives to the children
 pub inner_nulls : (own : Layout) (c : Shape) (one count all : ℕ) → one ≡ capped (weight_of 0 c (λ j. v.Null ∷ []))
-    → count ≡ nulls_below own → all ≡ min (count * one) (2 ^ 64 - 1) → all ≡ capped (weight_of 0 c (below own (v.Null ∷ [])))
+    → count ≡ nulls_below own → all ≡ min (count * one) (2 ^ 64 - 1) → all ≡ capped (weight_of 0 c (child_values own (v.Null ∷ [])))
 inner_nulls own c one count all e n h =
     let single = weight_of 0 c (λ j. v.Null ∷ []) in
-    let given : weight_of 0 c (below own (v.Null ∷ [])) ≡ nulls_below own * single =
+    let given : weight_of 0 c (child_values own (v.Null ∷ [])) ≡ nulls_below own * single =
     ap (λ (g : ℕ → List Value). weight_of 0 c g) (λ d j. null_gives own j d) ∙ nulls_weigh c (nulls_below own) in
     h ∙ (ap (λ (k : ℕ). min (k * one) (2 ^ 64 - 1)) n ∙ (ap (λ (k : ℕ). min (nulls_below own * k) (2 ^ 64 - 1)) e
     ∙ (min_mul (nulls_below own) single (2 ^ 64 - 1) ∙ ap capped (sym given))))
 
 -- a value's own slot, and what it gives to the children
 pub value_weighs : (f : Field) (own : Layout) (value : Value) (inner weight : ℕ) → own ≡ field_layout f
-    → inner ≡ capped (weight_of 0 (field_children f) (below (field_layout f) (value ∷ [])))
-    → weight ≡ min (6 + datum own value + inner) (2 ^ 64 - 1) → weight ≡ capped (field_weight f (value ∷ []))
+    → inner ≡ capped (weight_of 0 (field_children f) (child_values (field_layout f) (value ∷ [])))
+    → weight ≡ min (6 + value_len own value + inner) (2 ^ 64 - 1) → weight ≡ capped (field_weight f (value ∷ []))
 value_weighs f own value inner weight laid e h =
-    let rest = weight_of 0 (field_children f) (below (field_layout f) (value ∷ [])) in
-    let whole : 6 + datum (field_layout f) value + rest ≡ field_weight f (value ∷ []) = omega arith in
-    h ∙ (ap (λ (w : Layout). min (6 + datum w value + inner) (2 ^ 64 - 1)) laid
-    ∙ (ap (λ (n : ℕ). min (6 + datum (field_layout f) value + n) (2 ^ 64 - 1)) e
-    ∙ (min_rest (6 + datum (field_layout f) value) rest (2 ^ 64 - 1) ∙ ap capped whole)))
+    let rest = weight_of 0 (field_children f) (child_values (field_layout f) (value ∷ [])) in
+    let whole : 6 + value_len (field_layout f) value + rest ≡ field_weight f (value ∷ []) = omega arith in
+    h ∙ (ap (λ (w : Layout). min (6 + value_len w value + inner) (2 ^ 64 - 1)) laid
+    ∙ (ap (λ (n : ℕ). min (6 + value_len (field_layout f) value + n) (2 ^ 64 - 1)) e
+    ∙ (min_rest (6 + value_len (field_layout f) value) rest (2 ^ 64 - 1) ∙ ap capped whole)))
 
 -- ---- the values inside one of a field
 
 abbrev Owns : Field → Value → Type 0
-Owns f value = IsOwn (out-Field f).kind (out-Field f).nullable (length (out-Field f).children) (out-Value value)
+Owns f value = FitsOwnType (out-Field f).kind (out-Field f).nullable (length (out-Field f).children) (out-Value value)
 
 abbrev Inner : Field → Value → Type 0
 Inner f value = InnerFit Fits (out-Field f).kind (out-Field f).children (out-Value value)
 
 abbrev inner_weight : Field → Value → ℕ
-inner_weight f value = weight_of 0 (field_children f) (below (field_layout f) (value ∷ []))
+inner_weight f value = weight_of 0 (field_children f) (child_values (field_layout f) (value ∷ []))
 
 -- the weight of the values that are given to the children
 pub inner_weighs : (f : Field) (fs : List Field) (own : Layout) (vs : List Value) → fs ≡ (out-Field f).children → own ≡ field_layout f
-    → weight_of 0 (shape_of fs) (below own vs) ≡ weight_of 0 (field_children f) (below (field_layout f) vs)
+    → weight_of 0 (shape_of fs) (child_values own vs) ≡ weight_of 0 (field_children f) (child_values (field_layout f) vs)
 inner_weighs f fs own vs those laid =
-    ap (λ (gs : List Field). weight_of 0 (shape_of gs) (below own vs)) those
-    ∙ (ap (λ (s : Shape). weight_of 0 s (below own vs)) (sym (children_are f))
-    ∙ ap (λ (w : Layout). weight_of 0 (field_children f) (below w vs)) laid)
+    ap (λ (gs : List Field). weight_of 0 (shape_of gs) (child_values own vs)) those
+    ∙ (ap (λ (s : Shape). weight_of 0 s (child_values own vs)) (sym (children_are f))
+    ∙ ap (λ (w : Layout). weight_of 0 (field_children f) (child_values w vs)) laid)
 
 own_weighs : (f : Field) (vs : List Value)
-    → weight_of 0 (field_children f) (below (field_layout f) vs)
-    ≡ weight_of 0 (shape_of (out-Field f).children) (below (layout (out-Field f).kind (out-Field f).dictionary) vs)
+    → weight_of 0 (field_children f) (child_values (field_layout f) vs)
+    ≡ weight_of 0 (shape_of (out-Field f).children) (child_values (layout (out-Field f).kind (out-Field f).dictionary) vs)
 own_weighs f vs =
     sym (inner_weighs f (out-Field f).children (layout (out-Field f).kind (out-Field f).dictionary) vs refl (sym (layout_is f)))
 
@@ -183,7 +183,7 @@ items_hold f child fs value vs first those is own =
     let out = out_list value vs is in
     ap (λ (w : Value-F Value). InnerFit Fits kind (out-Field f).children w) out
     ∙ (ap (λ (gs : List Field). InnerFit Fits kind gs (o.List vs)) (sym those ∙ some.1)
-    ∙ list_inside kind n child some.0 vs (subst (λ (w : Value-F Value). IsOwn kind (out-Field f).nullable n w) out own))
+    ∙ list_inside kind n child some.0 vs (subst (λ (w : Value-F Value). FitsOwnType kind (out-Field f).nullable n w) out own))
 
 pub items_given : (limits : Limits) (f child : Field) (fs : List Field) (d : ℕ) (value : Value) (vs : List Value)
     → Some child ≡ slice_get fs 0 → fs ≡ (out-Field f).children → value ≡ v.List vs → Owns f value
@@ -195,12 +195,12 @@ items_given limits f child fs d value vs first those is own fine =
     let some = first_is fs child first in
     let parts = fine_parts limits f d fine in
     let all = sym those ∙ some.1 in
-    let owns = subst (λ (w : Value-F Value). IsOwn kind (out-Field f).nullable n w) (out_list value vs is) own in
+    let owns = subst (λ (w : Value-F Value). FitsOwnType kind (out-Field f).nullable n w) (out_list value vs is) own in
     let fitting = subst (λ (gs : List Field). HasFittingChildren kind (length gs)) all parts.0 in
     let each = subst (λ (gs : List Field). AllByRecursion (IsFieldWellFormed limits) (all_at (d + 1) (map preorder gs))) all parts.1.1 in (
       fine_at limits (child ∷ some.0) (d + 1) 0 child (omega arith) each,
       own_weighs f (value ∷ [])
-          ∙ (ap (λ (gs : List Field). weight_of 0 (shape_of gs) (below (layout kind (out-Field f).dictionary) (value ∷ []))) all
+          ∙ (ap (λ (gs : List Field). weight_of 0 (shape_of gs) (child_values (layout kind (out-Field f).dictionary) (value ∷ []))) all
           ∙ given_items kind (out-Field f).dictionary n child some.0 value vs owns fitting parts.1.0 is),
     )
 
@@ -214,7 +214,7 @@ pub no_items_given : (limits : Limits) (f : Field) (fs : List Field) (d : ℕ) (
     → ◌≡◌ {A = Option Field} None (slice_get fs 0) → fs ≡ (out-Field f).children → inner_weight f value ≡ 0
 no_items_given limits f fs d value first those =
     own_weighs f (value ∷ []) ∙ ap (λ (gs : List Field). weight_of 0 (shape_of gs)
-    (below (layout (out-Field f).kind (out-Field f).dictionary) (value ∷ []))) (sym those ∙ no_first fs first)
+    (child_values (layout (out-Field f).kind (out-Field f).dictionary) (value ∷ []))) (sym those ∙ no_first fs first)
 
 pub parts_hold : (f : Field) (fs : List Field) (value : Value) (vs : List Value) → fs ≡ (out-Field f).children → value ≡ v.Struct vs
     → Owns f value → Inner f value ≡ EachFits Fits fs vs
@@ -223,7 +223,7 @@ parts_hold f fs value vs those is own =
     let n = length (out-Field f).children in
     let out = out_struct value vs is in
     ap (λ (w : Value-F Value). InnerFit Fits kind (out-Field f).children w) out
-    ∙ (struct_inside kind n (out-Field f).children vs (subst (λ (w : Value-F Value). IsOwn kind (out-Field f).nullable n w) out own)
+    ∙ (struct_inside kind n (out-Field f).children vs (subst (λ (w : Value-F Value). FitsOwnType kind (out-Field f).nullable n w) out own)
     ∙ ap (λ (gs : List Field). EachFits Fits gs vs) (sym those))
 
 pub parts_given : (limits : Limits) (f : Field) (fs : List Field) (d : ℕ) (value : Value) (vs : List Value)
@@ -233,7 +233,7 @@ parts_given limits f fs d value vs those is own fine =
     let kind = (out-Field f).kind in
     let n = length (out-Field f).children in
     let parts = fine_parts limits f d fine in
-    let owns = subst (λ (w : Value-F Value). IsOwn kind (out-Field f).nullable n w) (out_struct value vs is) own in (
+    let owns = subst (λ (w : Value-F Value). FitsOwnType kind (out-Field f).nullable n w) (out_struct value vs is) own in (
       subst (λ (gs : List Field). AllByRecursion (IsFieldWellFormed limits) (all_at (d + 1) (map preorder gs))) (sym those) parts.1.1,
       own_weighs f (value ∷ [])
           ∙ (given_parts kind (out-Field f).dictionary n (out-Field f).children value vs owns parts.1.0 is

@@ -14,18 +14,18 @@ use Rattle.ipc_model.specs.declared.value.Value.{Value}
 use Rattle.ipc_model.specs.Layouts.{layout}
 use Rattle.ipc_column.specs.Nested.{Nested}
 use Rattle.ipc_column.specs.Shapes.{Shape, bare, field, field_children, field_layout, field_shape, field_step, shape_of}
-use Rattle.ipc_encode.specs.declared.column.Purpose.TheVariants as purpose
+use Rattle.ipc_encode.specs.declared.column_builder.Purpose.TheVariants as purpose
 use Rattle.ipc_encode.specs.declared.fault.PushFault.{PushFault}
 use Rattle.ipc_encode.specs.declared.fault.PushFault.TheVariants as push
 use Rattle.ipc_encode.specs.declared.node.Node.{Node}
 use Rattle.ipc_encode.specs.declared.segments.SegmentedDraft.{SegmentedDraft}
-use Rattle.ipc_encode.specs.Buffers.{below, buffers_with, column_buffers, columns, nodes_of, padded, stored}
+use Rattle.ipc_encode.specs.Buffers.{child_values, buffers_with, column_buffers, row_columns, nodes_of, padded_bytes, written_values}
 use Rattle.ipc_encode.specs.Built.{ArePushesRefused, IsColumn, IsNode}
 use Rattle.ipc_encode.specs.Cells.{nulls}
 use Rattle.ipc_encode.specs.Columns.{data_in}
 use Rattle.ipc_encode.specs.Faults.{write_fault}
-use Rattle.ipc_encode.specs.Limits.{HasLongData, HasLongItems, HasLongNode, IsPastOffsets, IsRefused, IsWithin, SomePastOffsets}
-use Rattle.ipc_encode.specs.Lying.{AreWhole}
+use Rattle.ipc_encode.specs.Limits.{HasLongData, HasLongItems, HasLongNode, HasExcessData, AreRowsRefused, IsWithin, SomeExcessData}
+use Rattle.ipc_encode.specs.WholeColumns.{AreFullColumns}
 use Rattle.ipc_encode.specs.Numbers.{Numbering}
 use Rattle.ipc_encode.specs.Segments.{AddsBuffers, AddsColumns, AreRefusedAfter, IsBodyRefused}
 use Rattle.ipc_encode.specs.Writing.{AllStored, AreStored}
@@ -41,14 +41,14 @@ use Rattle.ipc_encode.proofs.Sizes.{long_is}
 
 pub leaf_added : (limits : Limits) (known : Numbering) (lay : Layout) (vs : List Value) (bs : List (List ℕ)) (count none : ℕ)
     (d e : SegmentedDraft)
-    → length vs ≡ count → nulls vs ≡ none → column_buffers lay (stored known lay vs) ≡ bs
+    → length vs ≡ count → nulls vs ≡ none → column_buffers lay (written_values known lay vs) ≡ bs
     → e.nodes.items ≡ d.nodes.items ++ (pos count, pos none) ∷ [] → AddsBuffers d e bs → count ≤ limits.slots
-    → (IsPastOffsets lay vs → ⊥) → AreStored lay vs → e.len ≤ limits.body
+    → (HasExcessData lay vs → ⊥) → AreStored lay vs → e.len ≤ limits.body
     → AddsColumns limits known (field lay bare bare) (λ j. vs) d e
 leaf_added limits known lay vs bs count none d e size nil same nodes adds few short texts within = record {
   nodes = nodes ∙ (ap (λ (n : ℕ). d.nodes.items ++ (pos n, pos none) ∷ []) (sym size)
       ∙ ap (λ (n : ℕ). d.nodes.items ++ (pos (length vs), pos n) ∷ []) (sym nil));
-  buffers = adds_as d e _ _ (sym (append-nil (column_buffers lay (stored known lay vs)) ∙ same)) adds;
+  buffers = adds_as d e _ _ (sym (append-nil (column_buffers lay (written_values known lay vs)) ∙ same)) adds;
   few = few_leaf limits.slots lay vs (λ many. omega (arith, few, size, many));
   short = short_leaf lay vs short;
   stored = (texts, (tt, tt));
@@ -68,11 +68,11 @@ leaf_refused_as limits len own lay ch vs ws fault k c v h = rw (k, c, v) h
 
 -- its buffers are refused
 pub leaf_refused : (limits : Limits) (len : ℕ) (lay : Layout) (vs : List Value) (bs : List (List ℕ)) (fault : PushFault)
-    → column_buffers lay vs ≡ bs → IsBodyRefused limits (len + length (padded bs)) fault
+    → column_buffers lay vs ≡ bs → IsBodyRefused limits (len + length (padded_bytes bs)) fault
     → AreRefusedAfter limits len (field lay bare bare) (λ j. vs) fault
 leaf_refused limits len lay vs bs push.TooLong same h =
     let whole = parts_length lay bare bare (λ j. vs) in
-    let size = ap (λ (xs : List (List ℕ)). length (padded xs)) same in
+    let size = ap (λ (xs : List (List ℕ)). length (padded_bytes xs)) same in
     inr (omega (arith, whole, size, h))
 leaf_refused limits len lay vs bs push.TooMany same h = absurd h
 leaf_refused limits len lay vs bs push.OutOfMemory same h = h
@@ -93,13 +93,13 @@ lists_refused limits len vs fault (inr many) =
 
 -- a column, and then its children
 pub with_children : (limits : Limits) (known : Numbering) (lay : Layout) (c : Shape) (vs : List Value) (d mid e : SegmentedDraft)
-    → AddsColumns limits known (field lay bare bare) (λ j. vs) d mid → AddsColumns limits known c (below lay vs) mid e
+    → AddsColumns limits known (field lay bare bare) (λ j. vs) d mid → AddsColumns limits known c (child_values lay vs) mid e
     → AddsColumns limits known (field lay c bare) (λ j. vs) d e
 with_children limits known lay c vs d mid e own inner =
     let node : ℤ × ℤ = (pos (length vs), pos (nulls vs)) in
-    let nodes = nodes_of c (below lay vs) in
-    let buffers = column_buffers lay (stored known lay vs) in
-    let more = buffers_with known c (below lay vs) in
+    let nodes = nodes_of c (child_values lay vs) in
+    let buffers = column_buffers lay (written_values known lay vs) in
+    let more = buffers_with known c (child_values lay vs) in
     record {
       nodes = inner.nodes ∙ (ap (λ (ns : List (ℤ × ℤ)). ns ++ nodes) own.nodes
           ∙ (append_assoc d.nodes.items (node ∷ []) nodes
@@ -113,14 +113,14 @@ with_children limits known lay c vs d mid e own inner =
       body = inner.body;
     }
   where
-    long_either : (HasLongNode limits.slots (field lay bare bare) (λ j. vs) → ⊥) → (HasLongNode limits.slots c (below lay vs) → ⊥)
+    long_either : (HasLongNode limits.slots (field lay bare bare) (λ j. vs) → ⊥) → (HasLongNode limits.slots c (child_values lay vs) → ⊥)
         → HasLongNode limits.slots (field lay c bare) (λ j. vs) → ⊥
     long_either first second (inl long) = first (inl long)
     long_either first second (inr (inl child)) = second child
     long_either first second (inr (inr none)) = none
 
-    past_either : (SomePastOffsets (field lay bare bare) (λ j. vs) → ⊥) → (SomePastOffsets c (below lay vs) → ⊥)
-        → SomePastOffsets (field lay c bare) (λ j. vs) → ⊥
+    past_either : (SomeExcessData (field lay bare bare) (λ j. vs) → ⊥) → (SomeExcessData c (child_values lay vs) → ⊥)
+        → SomeExcessData (field lay c bare) (λ j. vs) → ⊥
     past_either first second (inl long) = first (inl long)
     past_either first second (inr (inl child)) = second child
     past_either first second (inr (inr none)) = none
@@ -148,7 +148,7 @@ own_refused_after limits len lay c vs push.Failed h = h
 -- its children are refused
 pub children_refused : (limits : Limits) (known : Numbering) (lay : Layout) (c : Shape) (vs : List Value) (d mid : SegmentedDraft)
     (fault : PushFault)
-    → AddsColumns limits known (field lay bare bare) (λ j. vs) d mid → AreRefusedAfter limits mid.len c (below lay vs) fault
+    → AddsColumns limits known (field lay bare bare) (λ j. vs) d mid → AreRefusedAfter limits mid.len c (child_values lay vs) fault
     → AreRefusedAfter limits d.len (field lay c bare) (λ j. vs) fault
 children_refused limits known lay c vs d mid push.TooLong own (inl long) = inl (inr (inl long))
 children_refused limits known lay c vs d mid push.TooLong own (inr more) =
@@ -191,7 +191,8 @@ pushes_refused limits len shape given push.Failed h = h
 
 -- the buffers of columns are refused
 pub buffers_refused : (limits : Limits) (known : Numbering) (len : ℕ) (shape : Shape) (given : ℕ → List Value) (fault : PushFault)
-    → IsBodyRefused limits (len + length (padded (buffers_with known shape given))) fault → AreRefusedAfter limits len shape given fault
+    → IsBodyRefused limits (len + length (padded_bytes (buffers_with known shape given))) fault
+    → AreRefusedAfter limits len shape given fault
 buffers_refused limits known len shape given push.TooLong h = let size = buffers_size known shape given in inr (omega (arith, size, h))
 buffers_refused limits known len shape given push.TooMany h = absurd h
 buffers_refused limits known len shape given push.OutOfMemory h = h
@@ -283,7 +284,7 @@ all_fields (g ∷ gs) (suc i) e =
     ap (λ (s : Shape). field (field_layout g) (field_children g) s) (all_fields gs i (omega (arith, e)))
 
 -- fields whose columns are whole are as many as these
-pub whole_fields : (fields : List Field) (views : List Nested) (given : ℕ → List Value) → AreWhole (shape_of fields) views given
+pub whole_fields : (fields : List Field) (views : List Nested) (given : ℕ → List Value) → AreFullColumns (shape_of fields) views given
     → length fields ≡ length views
 whole_fields [] [] given h = refl
 whole_fields [] (v ∷ vs) given h = absurd h
@@ -296,17 +297,18 @@ field_parts f = fold_out-Field (Layout × Shape) field_step f
 
 -- rows whose columns are added to an empty body are within the limits
 pub columns_within : (limits : Limits) (known : Numbering) (fields : List Field) (rows : List (List Value)) (d e : SegmentedDraft)
-    → d.len ≡ 0 → length rows ≤ limits.slots → AddsColumns limits known (shape_of fields) (columns rows) d e → IsWithin limits fields rows
+    → d.len ≡ 0 → length rows ≤ limits.slots → AddsColumns limits known (shape_of fields) (row_columns rows) d e
+    → IsWithin limits fields rows
 columns_within limits known fields rows d e none few h =
     let len = h.buffers.len in
-    let size = buffers_size known (shape_of fields) (columns rows) in
+    let size = buffers_size known (shape_of fields) (row_columns rows) in
     let within = h.body in
     rows_within limits fields rows few
     (record { few = h.few; short = h.short; body = omega (arith, none, len, size, within) })
 
 -- why their columns are refused is why the rows are
 pub rows_refused_after : (limits : Limits) (fields : List Field) (rows : List (List Value)) (len : ℕ) (fault : PushFault) → len ≡ 0
-    → AreRefusedAfter limits len (shape_of fields) (columns rows) fault → IsRefused limits fields rows (write_fault fault)
+    → AreRefusedAfter limits len (shape_of fields) (row_columns rows) fault → AreRowsRefused limits fields rows (write_fault fault)
 rows_refused_after limits fields rows len push.TooLong none (inl long) = inl long
 rows_refused_after limits fields rows len push.TooLong none (inr more) = inr (omega (arith, none, more))
 rows_refused_after limits fields rows len push.TooMany none h = inr h

@@ -4,7 +4,7 @@ use Rattle.std.proofs.Common.{append_assoc, arith, Some, slice_get, length-appen
 use Rattle.std.proofs.Common.{ℤ, pos, ◌+ℤ◌}
 use Rattle.std.proofs.lemmas.List.{take_more}
 use Rattle.std.proofs.lemmas.Option.{get_or_from_slice_get}
-use Rattle.ipc_encode.specs.Buffers.{padded, padded_buffer, ranges_from}
+use Rattle.ipc_encode.specs.Buffers.{padded_bytes, padded_buffer, ranges_from}
 use Rattle.ipc_encode.proofs.Ranges.{ranges_length}
 
 -- a range of buffers that begin `base` bytes later
@@ -18,17 +18,17 @@ shifted_at (b ∷ bs) s base (suc i) d m =
 
 -- a range begins within the buffers
 start_at : (bs : List (List ℕ)) (s i : ℕ) (d : ℤ × ℤ) → i < length bs
-    → (n : ℕ) × ((get_or (ranges_from s bs) i d).0 ≡ pos n) × (n ≤ s + length (padded bs))
+    → (n : ℕ) × ((get_or (ranges_from s bs) i d).0 ≡ pos n) × (n ≤ s + length (padded_bytes bs))
 start_at [] s i d m = absurd (omega (arith, m))
 start_at (b ∷ bs) s zero d m = (s, refl, omega arith)
 start_at (b ∷ bs) s (suc i) d m =
-    let size = length-append (padded_buffer b) (padded bs) in
+    let size = length-append (padded_buffer b) (padded_bytes bs) in
     let more = start_at bs (s + length (padded_buffer b)) i d (omega (arith, m)) in
     let within = more.2 in
     (more.0, more.1, omega (arith, size, within))
 
 pub range_start : (bs : List (List ℕ)) (ranges : List (ℤ × ℤ)) (i : ℕ) (range : ℤ × ℤ) → ranges ≡ ranges_from 0 bs
-    → i < length ranges → slice_get ranges i ≡ Some range → (n : ℕ) × (range.0 ≡ pos n) × (n ≤ length (padded bs))
+    → i < length ranges → slice_get ranges i ≡ Some range → (n : ℕ) × (range.0 ≡ pos n) × (n ≤ length (padded_bytes bs))
 range_start bs ranges i range e m at =
     let d : ℤ × ℤ = (pos 0, pos 0) in
     let size = ap (λ (rs : List (ℤ × ℤ)). length rs) e ∙ ranges_length bs 0 in

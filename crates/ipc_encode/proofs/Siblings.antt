@@ -7,13 +7,13 @@ use Rattle.ipc_model.specs.declared.limits.Limits.{Limits}
 use Rattle.ipc_model.specs.declared.layout.Layout.{Layout}
 use Rattle.ipc_model.specs.declared.value.Value.{Value}
 use Rattle.ipc_column.specs.Shapes.{Shape, bare, field}
-use Rattle.ipc_encode.specs.declared.column.Column.{Column}
-use Rattle.ipc_encode.specs.declared.column.Purpose.{Purpose}
-use Rattle.ipc_encode.specs.declared.column.Purpose.TheVariants as purpose
+use Rattle.ipc_encode.specs.declared.column_builder.ColumnBuilder.{ColumnBuilder}
+use Rattle.ipc_encode.specs.declared.column_builder.Purpose.{Purpose}
+use Rattle.ipc_encode.specs.declared.column_builder.Purpose.TheVariants as purpose
 use Rattle.ipc_encode.specs.declared.node.Node.{Node}
 use Rattle.ipc_encode.specs.Cells.{nulls}
-use Rattle.ipc_encode.specs.Buffers.{below, column_buffers, padded, nodes_of, buffers_of}
-use Rattle.ipc_encode.specs.Limits.{HasLongNode, IsPastOffsets, SomeColumn, SomePastOffsets}
+use Rattle.ipc_encode.specs.Buffers.{child_values, column_buffers, padded_bytes, nodes_of, buffers_of}
+use Rattle.ipc_encode.specs.Limits.{HasLongNode, HasExcessData, SomeColumn, SomeExcessData}
 use Rattle.ipc_encode.specs.Built.{AreNodes, IsNode, HasTaken}
 use Rattle.ipc_encode.specs.Numbers.{Numbering}
 use Rattle.ipc_encode.proofs.Adding.{joined_append}
@@ -32,7 +32,8 @@ IsAt zero (field k d rest) l c = (k ≡ l) × (d ≡ c)
 IsAt (suc i) (field k d rest) l c = IsAt i rest l c
 
 -- node i is that of field i
-pub at_node : (P : Layout → List Value → Column → Type 0) (i : ℕ) (shape : Shape) (nodes : List Node) (given : ℕ → List Value) (d : Node)
+pub at_node : (P : Layout → List Value → ColumnBuilder → Type 0) (i : ℕ) (shape : Shape) (nodes : List Node) (given : ℕ → List Value)
+    (d : Node)
     → i < length nodes → AreNodes P shape nodes given
     → (l : Layout) × (c : Shape) × IsAt i shape l c × IsNode P l c (get_or nodes i d) (given i)
 at_node P i bare [] given d l h = absurd (omega arith)
@@ -42,7 +43,7 @@ at_node P zero (field k c rest) (m ∷ ms) given d l h = (k, c, (refl, refl), h.
 at_node P (suc i) (field k c rest) (m ∷ ms) given d l h = at_node P i rest ms (λ j. given (suc j)) d (omega arith) h.1
 
 -- the first of all fields are all
-pub first_all : (P : Layout → List Value → Column → Type 0) (i : ℕ) (shape : Shape) (nodes : List Node) (given : ℕ → List Value)
+pub first_all : (P : Layout → List Value → ColumnBuilder → Type 0) (i : ℕ) (shape : Shape) (nodes : List Node) (given : ℕ → List Value)
     → i ≡ length nodes → AreNodes P shape nodes given → first i shape ≡ shape
 first_all P zero bare [] given e h = refl
 first_all P (suc i) bare [] given e h = refl
@@ -53,7 +54,7 @@ first_all P (suc i) (field k c rest) (m ∷ ms) given e h =
     ap (λ (s : Shape). field k c s) (first_all P i rest ms (λ j. given (suc j)) (omega arith) h.1)
 
 -- it has whatever values are given to its children
-pub leaf_has : (P : Layout → List Value → Column → Type 0) (c : Shape) (nodes : List Node) (given other : ℕ → List Value)
+pub leaf_has : (P : Layout → List Value → ColumnBuilder → Type 0) (c : Shape) (nodes : List Node) (given other : ℕ → List Value)
     → length nodes ≡ 0
     → AreNodes P c nodes given → AreNodes P c nodes other
 leaf_has P bare [] given other e h = tt
@@ -70,7 +71,7 @@ buffers_next i bare given l c h = absurd h
 buffers_next zero (field k d rest) given l c h = rw (h.0, h.1) refl
 buffers_next (suc i) (field k d rest) given l c h =
     let own = column_buffers k (given 0) in
-    let inner = buffers_of d (below k (given 0)) in
+    let inner = buffers_of d (child_values k (given 0)) in
     let later = buffers_of (first i rest) (λ j. given (suc j)) in
     let one = buffers_of (field l c bare) (λ j. given (suc i)) in
     ap (λ (bs : List (List ℕ)). own ++ (inner ++ bs)) (buffers_next i rest (λ j. given (suc j)) l c h)
@@ -82,7 +83,7 @@ pub nodes_next : (i : ℕ) (shape : Shape) (given : ℕ → List Value) (l : Lay
 nodes_next i bare given l c h = absurd h
 nodes_next zero (field k d rest) given l c h = rw (h.0, h.1) refl
 nodes_next (suc i) (field k d rest) given l c h =
-    let inner = nodes_of d (below k (given 0)) in
+    let inner = nodes_of d (child_values k (given 0)) in
     let later = nodes_of (first i rest) (λ j. given (suc j)) in
     let one = nodes_of (field l c bare) (λ j. given (suc i)) in
     ap (λ (ns : List (ℤ × ℤ)). (pos (length (given 0)), pos (nulls (given 0))) ∷ (inner ++ ns))
@@ -91,17 +92,17 @@ nodes_next (suc i) (field k d rest) given l c h =
 
 -- the bytes of one field more
 pub bytes_next : (i : ℕ) (shape : Shape) (given : ℕ → List Value) (l : Layout) (c : Shape) → IsAt i shape l c
-    → length (padded (buffers_of (first (suc i) shape) given))
-    ≡ length (padded (buffers_of (first i shape) given)) + length (padded (buffers_of (field l c bare) (λ j. given i)))
+    → length (padded_bytes (buffers_of (first (suc i) shape) given))
+    ≡ length (padded_bytes (buffers_of (first i shape) given)) + length (padded_bytes (buffers_of (field l c bare) (λ j. given i)))
 bytes_next i shape given l c h =
     let so_far = buffers_of (first i shape) given in
     let one = buffers_of (field l c bare) (λ j. given i) in
-    ap (λ (bs : List (List ℕ)). length (padded bs)) (buffers_next i shape given l c h)
-    ∙ (ap (λ (bs : List ℕ). length bs) (joined_append so_far one) ∙ length-append (padded so_far) (padded one))
+    ap (λ (bs : List (List ℕ)). length (padded_bytes bs)) (buffers_next i shape given l c h)
+    ∙ (ap (λ (bs : List ℕ). length bs) (joined_append so_far one) ∙ length-append (padded_bytes so_far) (padded_bytes one))
 
 -- the first fields have no more bytes than all
 pub first_within : (i : ℕ) (shape : Shape) (given : ℕ → List Value)
-    → length (padded (buffers_of (first i shape) given)) ≤ length (padded (buffers_of shape given))
+    → length (padded_bytes (buffers_of (first i shape) given)) ≤ length (padded_bytes (buffers_of shape given))
 first_within zero shape given = omega arith
 first_within (suc i) bare given = omega arith
 first_within (suc i) (field k c rest) given =
@@ -126,12 +127,12 @@ few_next most (suc i) (field k d rest) given l c at so one (inr (inr later)) =
     few_next most i rest (λ j. given (suc j)) l c at (λ x. so (inr (inr x))) one later
 
 pub short_next : (i : ℕ) (shape : Shape) (given : ℕ → List Value) (l : Layout) (c : Shape) → IsAt i shape l c
-    → (SomePastOffsets (first i shape) given → ⊥) → (SomePastOffsets (field l c bare) (λ j. given i) → ⊥)
-    → SomePastOffsets (first (suc i) shape) given → ⊥
+    → (SomeExcessData (first i shape) given → ⊥) → (SomeExcessData (field l c bare) (λ j. given i) → ⊥)
+    → SomeExcessData (first (suc i) shape) given → ⊥
 short_next i bare given l c at so one h = absurd at
 short_next zero (field k d rest) given l c at so one h =
-    one (subst (λ (s : Shape). SomePastOffsets (field l s bare) (λ j. given 0)) at.1
-    (subst (λ (m : Layout). SomePastOffsets (field m d bare) (λ j. given 0)) at.0 h))
+    one (subst (λ (s : Shape). SomeExcessData (field l s bare) (λ j. given 0)) at.1
+    (subst (λ (m : Layout). SomeExcessData (field m d bare) (λ j. given 0)) at.0 h))
 short_next (suc i) (field k d rest) given l c at so one (inl own) = so (inl own)
 short_next (suc i) (field k d rest) given l c at so one (inr (inl child)) = so (inr (inl child))
 short_next (suc i) (field k d rest) given l c at so one (inr (inr later)) =
@@ -144,8 +145,8 @@ pub long_node_at : (most i : ℕ) (shape : Shape) (given : ℕ → List Value) (
 long_node_at most i bare given l c at h = absurd at
 long_node_at most zero (field k d rest) given l c at (inl own) = inl own
 long_node_at most zero (field k d rest) given l c at (inr (inl child)) =
-    inr (inl (subst (λ (m : Layout). HasLongNode most d (below m (given 0))) (sym at.0)
-    (subst (λ (s : Shape). HasLongNode most s (below l (given 0))) (sym at.1) child)))
+    inr (inl (subst (λ (m : Layout). HasLongNode most d (child_values m (given 0))) (sym at.0)
+    (subst (λ (s : Shape). HasLongNode most s (child_values l (given 0))) (sym at.1) child)))
 long_node_at most zero (field k d rest) given l c at (inr (inr none)) = absurd none
 long_node_at most (suc i) (field k d rest) given l c at h = inr (inr (long_node_at most i rest (λ j. given (suc j)) l c at h))
 
@@ -156,15 +157,15 @@ some_at P i bare given l c at h = absurd at
 some_at P zero (field k d rest) given l c at (inl own) =
     inl (subst (λ (m : Layout). P m (given 0)) (sym at.0) own)
 some_at P zero (field k d rest) given l c at (inr (inl child)) =
-    inr (inl (subst (λ (m : Layout). SomeColumn P d (below m (given 0))) (sym at.0)
-    (subst (λ (s : Shape). SomeColumn P s (below l (given 0))) (sym at.1) child)))
+    inr (inl (subst (λ (m : Layout). SomeColumn P d (child_values m (given 0))) (sym at.0)
+    (subst (λ (s : Shape). SomeColumn P s (child_values l (given 0))) (sym at.1) child)))
 some_at P zero (field k d rest) given l c at (inr (inr none)) = absurd none
 some_at P (suc i) (field k d rest) given l c at h = inr (inr (some_at P i rest (λ j. given (suc j)) l c at h))
 
 -- where the first fields leave too little for the next, all are too much
 pub past_next : (i : ℕ) (shape : Shape) (given : ℕ → List Value) (l : Layout) (c : Shape) (bytes left : ℕ) → IsAt i shape l c
-    → length (padded (buffers_of (first i shape) given)) + left ≡ bytes
-    → left < length (padded (buffers_of (field l c bare) (λ j. given i))) → bytes < length (padded (buffers_of shape given))
+    → length (padded_bytes (buffers_of (first i shape) given)) + left ≡ bytes
+    → left < length (padded_bytes (buffers_of (field l c bare) (λ j. given i))) → bytes < length (padded_bytes (buffers_of shape given))
 past_next i shape given l c bytes left at so more =
     let size = bytes_next i shape given l c at in
     let within = first_within (suc i) shape given in
@@ -172,9 +173,9 @@ past_next i shape given l c bytes left at so more =
 
 -- ---- columns that have taken values are within the limits
 
-counted_of : (known : Numbering) (p : Purpose) (limits : Limits) (l : Layout) (vs : List Value) (column : Column)
+counted_of : (known : Numbering) (p : Purpose) (limits : Limits) (l : Layout) (vs : List Value) (column : ColumnBuilder)
     → HasTaken known p limits l vs column
-    → (limits.slots < length vs → ⊥) × (IsPastOffsets l vs → ⊥)
+    → (limits.slots < length vs → ⊥) × (HasExcessData l vs → ⊥)
 counted_of known purpose.Keep limits l vs column h = (h.counted.few, h.counted.short)
 counted_of known purpose.Count limits l vs column h = (h.counted.few, h.counted.short)
 
@@ -183,16 +184,17 @@ pub taken_few : (known : Numbering) (p : Purpose) (limits : Limits) (shape : Sha
 taken_few known p limits bare nodes given h x = x
 taken_few known p limits (field l c rest) [] given h x = absurd h
 taken_few known p limits (field l c rest) (m ∷ ms) given h (inl own) = (counted_of known p limits l (given 0) _ h.0.0).0 own
-taken_few known p limits (field l c rest) (m ∷ ms) given h (inr (inl child)) = taken_few known p limits c _ (below l (given 0)) h.0.1 child
+taken_few known p limits (field l c rest) (m ∷ ms) given h (inr (inl child)) =
+    taken_few known p limits c _ (child_values l (given 0)) h.0.1 child
 taken_few known p limits (field l c rest) (m ∷ ms) given h (inr (inr later)) = taken_few known p limits rest ms (λ j. given (suc j))
     h.1 later
 
 pub taken_short : (known : Numbering) (p : Purpose) (limits : Limits) (shape : Shape) (nodes : List Node) (given : ℕ → List Value)
-    → AreNodes (HasTaken known p limits) shape nodes given → SomePastOffsets shape given → ⊥
+    → AreNodes (HasTaken known p limits) shape nodes given → SomeExcessData shape given → ⊥
 taken_short known p limits bare nodes given h x = x
 taken_short known p limits (field l c rest) [] given h x = absurd h
 taken_short known p limits (field l c rest) (m ∷ ms) given h (inl own) = (counted_of known p limits l (given 0) _ h.0.0).1 own
-taken_short known p limits (field l c rest) (m ∷ ms) given h (inr (inl child)) = taken_short known p limits c _ (below l (given 0))
+taken_short known p limits (field l c rest) (m ∷ ms) given h (inr (inl child)) = taken_short known p limits c _ (child_values l (given 0))
     h.0.1 child
 taken_short known p limits (field l c rest) (m ∷ ms) given h (inr (inr later)) = taken_short known p limits rest ms
     (λ j. given (suc j)) h.1 later
@@ -204,7 +206,7 @@ few_leaf most l vs few (inl own) = few own
 few_leaf most l vs few (inr (inl none)) = none
 few_leaf most l vs few (inr (inr none)) = none
 
-pub short_leaf : (l : Layout) (vs : List Value) → (IsPastOffsets l vs → ⊥) → SomePastOffsets (field l bare bare) (λ j. vs) → ⊥
+pub short_leaf : (l : Layout) (vs : List Value) → (HasExcessData l vs → ⊥) → SomeExcessData (field l bare bare) (λ j. vs) → ⊥
 short_leaf l vs short (inl own) = short own
 short_leaf l vs short (inr (inl none)) = none
 short_leaf l vs short (inr (inr none)) = none

@@ -11,39 +11,40 @@ use Rattle.ipc_model.specs.Layouts.{number_bytes}
 use Rattle.ipc_model.specs.declared.value.Value.{Value}
 use Rattle.ipc_model.specs.declared.layout.Layout.{Layout}
 use Rattle.ipc_model.specs.declared.layout.Layout.TheVariants as l
-use Rattle.ipc_encode.specs.declared.counts.Counts.{Counts}
+use Rattle.ipc_encode.specs.declared.counts.ColumnCounts.{ColumnCounts}
 use Rattle.ipc_encode.specs.Pieces.{Valid, True, Number, Fixed, Content}
 use Rattle.ipc_encode.specs.Pieces as p
 use Rattle.ipc_encode.specs.Bitmaps.{bitmap}
-use Rattle.ipc_encode.specs.Cells.{flags, nulls, content, fixed, items, slot_bytes, slots, ends, offsets, extent, number_bits, all_items}
-use Rattle.ipc_encode.specs.Buffers.{padded_buffer, padded, piece_bytes, column_buffers}
+use Rattle.ipc_encode.specs.Cells.{flags, nulls, content, fixed_bytes, items, slot_bytes, slots, ends, offsets, extent, number_bits}
+use Rattle.ipc_encode.specs.Cells.{all_items}
+use Rattle.ipc_encode.specs.Buffers.{padded_buffer, padded_bytes, piece_bytes, column_buffers}
 use Rattle.ipc_encode.specs.Columns.{validity_bytes, values_in, bits_length, padded_length, data_in, values_length}
-use Rattle.ipc_encode.specs.Columns.{column_length, PassesOffsets}
-use Rattle.ipc_encode.specs.Limits.{IsPastOffsets}
-use Rattle.ipc_encode.specs.Built.{IsCounted}
+use Rattle.ipc_encode.specs.Columns.{column_length, ExceedsOffsets}
+use Rattle.ipc_encode.specs.Limits.{HasExcessData}
+use Rattle.ipc_encode.specs.Built.{AreCountsOf}
 use Rattle.ipc_encode.proofs.Bits.{length_bytes, flags_length}
 
 pub padded_is : (b : List ℕ) → length (padded_buffer b) ≡ padded_length (length b)
 padded_is b = length-append b (replicate {A = ℕ} ((8 - length b % 8) % 8) 0)
     ∙ ap (λ (n : ℕ). length b + n) (length-replicate ((8 - length b % 8) % 8) 0)
 
-joined_one : (a : List ℕ) → length (padded (a ∷ [])) ≡ padded_length (length a) + padded_length 0 + padded_length 0
+joined_one : (a : List ℕ) → length (padded_bytes (a ∷ [])) ≡ padded_length (length a) + padded_length 0 + padded_length 0
 joined_one a = let size = length-append (padded_buffer a) [] in omega (arith, size, padded_is a)
 
-joined_run : (a b : List ℕ) → length (padded (a ∷ b ∷ [])) ≡ padded_length (length a) + padded_length (length b) + padded_length 0
+joined_run : (a b : List ℕ) → length (padded_bytes (a ∷ b ∷ [])) ≡ padded_length (length a) + padded_length (length b) + padded_length 0
 joined_run a b =
     let size = length-append (padded_buffer a) (padded_buffer b ++ []) in
     let last = length-append (padded_buffer b) [] in
     omega (arith, size, last, padded_is a, padded_is b)
 
-joined_two : (a b : List ℕ) → length (padded (a ∷ b ∷ [])) ≡ padded_length (length a) + padded_length 0 + padded_length (length b)
+joined_two : (a b : List ℕ) → length (padded_bytes (a ∷ b ∷ [])) ≡ padded_length (length a) + padded_length 0 + padded_length (length b)
 joined_two a b =
     let size = length-append (padded_buffer a) (padded_buffer b ++ []) in
     let last = length-append (padded_buffer b) [] in
     omega (arith, size, last, padded_is a, padded_is b)
 
 joined_three : (a b c : List ℕ)
-    → length (padded (a ∷ b ∷ c ∷ [])) ≡ padded_length (length a) + padded_length (length b) + padded_length (length c)
+    → length (padded_bytes (a ∷ b ∷ c ∷ [])) ≡ padded_length (length a) + padded_length (length b) + padded_length (length c)
 joined_three a b c =
     let size = length-append (padded_buffer a) (padded_buffer b ++ (padded_buffer c ++ [])) in
     let more = length-append (padded_buffer b) (padded_buffer c ++ []) in
@@ -85,7 +86,7 @@ pub fixed_data : (width : ℕ) (vs : List Value) → length (slots (Fixed width)
 fixed_data width [] = refl
 fixed_data width (v ∷ vs) =
     let more = fixed_data width vs in
-    let size = length-append (fixed width v) (slots (Fixed width) vs) in
+    let size = length-append (fixed_bytes width v) (slots (Fixed width) vs) in
     omega (arith, more, size)
 
 pub content_data : (utf8 : Bool) (vs : List Value) → length (slots Content vs) ≡ data_in (l.VariableBytes utf8) vs
@@ -117,7 +118,7 @@ no_data layout (v ∷ vs) none = let more = no_data layout vs none in let here =
 
 -- the buffers of a column have the length that its counts give
 pub column_size : (layout : Layout) (vs : List Value)
-    → length (padded (column_buffers layout vs)) ≡ column_length layout (length vs) (nulls vs) (values_length layout (length vs)
+    → length (padded_bytes (column_buffers layout vs)) ≡ column_length layout (length vs) (nulls vs) (values_length layout (length vs)
     (data_in layout vs))
 column_size l.Null vs = refl
 column_size l.Lists vs = joined_run (validity_bytes vs) (offsets p.Items vs)
@@ -156,11 +157,11 @@ column_size (l.VariableBytes utf8) vs =
 
 -- a buffer of values is among the others
 last_within : (layout : Layout) (vs : List Value) → values_length layout (length vs) (data_in layout vs) ≡ data_in layout vs
-    → data_in layout vs ≤ length (padded (column_buffers layout vs))
+    → data_in layout vs ≤ length (padded_bytes (column_buffers layout vs))
 last_within layout vs e = let size = column_size layout vs in omega (arith, size, e)
 
 -- the bytes of data are among those of the buffers
-pub data_within : (layout : Layout) (vs : List Value) → (layout ≡ l.Lists → ⊥) → data_in layout vs ≤ length (padded
+pub data_within : (layout : Layout) (vs : List Value) → (layout ≡ l.Lists → ⊥) → data_in layout vs ≤ length (padded_bytes
     (column_buffers layout vs))
 data_within l.Null vs other = let none = no_data l.Null vs (λ v. refl) in omega (arith, none)
 data_within (l.Indices bits signed id) vs other = last_within (l.Indices bits signed id) vs refl
@@ -173,7 +174,7 @@ data_within (l.FixedBytes width) vs other = last_within (l.FixedBytes width) vs 
 data_within (l.VariableBytes utf8) vs other = last_within (l.VariableBytes utf8) vs refl
 
 -- data is long exactly where it passes its offsets
-pub long_is : (layout : Layout) (vs : List Value) → PassesOffsets layout (data_in layout vs) → IsPastOffsets layout vs
+pub long_is : (layout : Layout) (vs : List Value) → ExceedsOffsets layout (data_in layout vs) → HasExcessData layout vs
 long_is l.Null vs h = h
 long_is (l.Indices bits signed id) vs h = h
 long_is l.Lists vs h = let size = items_data vs in omega (arith, size, h)
@@ -184,7 +185,7 @@ long_is (l.Numbers bits signed) vs h = h
 long_is (l.FixedBytes width) vs h = h
 long_is (l.VariableBytes utf8) vs h = let size = content_data utf8 vs in omega (arith, size, h)
 
-pub long_from : (layout : Layout) (vs : List Value) → IsPastOffsets layout vs → PassesOffsets layout (data_in layout vs)
+pub long_from : (layout : Layout) (vs : List Value) → HasExcessData layout vs → ExceedsOffsets layout (data_in layout vs)
 long_from l.Null vs h = h
 long_from (l.Indices bits signed id) vs h = h
 long_from l.Lists vs h = let size = items_data vs in omega (arith, size, h)
@@ -196,7 +197,7 @@ long_from (l.FixedBytes width) vs h = h
 long_from (l.VariableBytes utf8) vs h = let size = content_data utf8 vs in omega (arith, size, h)
 
 -- the numbers of a column give the length of its buffers
-pub counted_size : (limits : Limits) (layout : Layout) (vs : List Value) (counts : Counts) → IsCounted limits layout vs counts
+pub counted_size : (limits : Limits) (layout : Layout) (vs : List Value) (counts : ColumnCounts) → AreCountsOf limits layout vs counts
     → column_length layout counts.slots counts.nulls (values_length layout counts.slots counts.amount)
-    ≡ length (padded (column_buffers layout vs))
+    ≡ length (padded_bytes (column_buffers layout vs))
 counted_size limits layout vs counts h = rw (h.slots_are, h.nulls_are, h.amount_is) (sym (column_size layout vs))

@@ -4,12 +4,12 @@ use Rattle.std.specs.Prelude.{not}
 use Rattle.ipc_model.specs.declared.value.Value.{Value, out-Value, out-roll-Value}
 use Rattle.ipc_model.specs.declared.value.Value.TheOpen.{Value-F}
 use Rattle.ipc_model.specs.declared.value.Value.TheVariants as v
-use Rattle.ipc_column.specs.Slots.{shown}
+use Rattle.ipc_column.specs.Slots.{value_in_slot}
 use Rattle.ipc_column.specs.Values.{first_of}
 use Rattle.ipc_column.specs.Values as values
 use Rattle.ipc_column.specs.declared.slot_view.Slot.{Slot}
 use Rattle.ipc_column.specs.declared.slot_view.Slot.TheVariants as slot
-use Rattle.ipc_encode.specs.Cells.{bytes_in, content, fixed, fixed_in, is_null, is_set, is_true, items, items_in}
+use Rattle.ipc_encode.specs.Cells.{bytes_in, content, fixed_bytes, fixed_in, is_null, is_set, is_true, items, items_in}
 use Rattle.ipc_encode.specs.Pieces.{True, Valid}
 
 module _ (under : ℕ → List Value) (i : ℕ) where
@@ -24,7 +24,7 @@ module _ (under : ℕ → List Value) (i : ℕ) where
   opened (slot.List from to) = Value-F.List (values.items (λ j. first_of (under j)) from (to - from))
   opened slot.Struct = Value-F.Struct (under i)
 
-  pub shown_out : (x : Slot) → out-Value (shown under i x) ≡ opened x
+  pub shown_out : (x : Slot) → out-Value (value_in_slot under i x) ≡ opened x
   shown_out slot.Null = ap out-Value (sym v.rolls-Null) ∙ out-roll-Value Value-F.Null
   shown_out (slot.Bool truth) = ap out-Value (sym (v.rolls-Bool truth)) ∙ out-roll-Value (Value-F.Bool truth)
   shown_out (slot.Int number) = ap out-Value (sym (v.rolls-Int number)) ∙ out-roll-Value (Value-F.Int number)
@@ -37,20 +37,20 @@ module _ (under : ℕ → List Value) (i : ℕ) where
   shown_out slot.Struct = ap out-Value (sym (v.rolls-Struct (under i))) ∙ out-roll-Value (Value-F.Struct (under i))
 
   -- a flag of a slot
-  pub valid_is : (x : Slot) → is_set Valid (shown under i x) ≡ not (is_null (opened x))
+  pub valid_is : (x : Slot) → is_set Valid (value_in_slot under i x) ≡ not (is_null (opened x))
   valid_is x = ap (λ (f : Value-F Value). not (is_null f)) (shown_out x)
 
-  pub true_is : (x : Slot) → is_set True (shown under i x) ≡ is_true (opened x)
+  pub true_is : (x : Slot) → is_set True (value_in_slot under i x) ≡ is_true (opened x)
   true_is x = ap is_true (shown_out x)
 
-  pub content_is : (x : Slot) → content (shown under i x) ≡ bytes_in (opened x)
+  pub content_is : (x : Slot) → content (value_in_slot under i x) ≡ bytes_in (opened x)
   content_is x = ap bytes_in (shown_out x)
 
-  pub items_are : (x : Slot) → items (shown under i x) ≡ items_in (opened x)
+  pub items_are : (x : Slot) → items (value_in_slot under i x) ≡ items_in (opened x)
   items_are x = ap items_in (shown_out x)
 
   -- where a slot isn't null
-  pub some_value : (x : Slot) → (x ≡ slot.Null → ⊥) → is_set Valid (shown under i x) ≡ true
+  pub some_value : (x : Slot) → (x ≡ slot.Null → ⊥) → is_set Valid (value_in_slot under i x) ≡ true
   some_value slot.Null h = absurd (h refl)
   some_value (slot.Bool truth) h = valid_is (slot.Bool truth)
   some_value (slot.Int number) h = valid_is (slot.Int number)
@@ -61,7 +61,7 @@ module _ (under : ℕ → List Value) (i : ℕ) where
   some_value slot.Struct h = valid_is slot.Struct
 
   -- where it isn't a truth
-  pub no_truth : (x : Slot) → ((truth : Bool) → x ≡ slot.Bool truth → ⊥) → is_set True (shown under i x) ≡ false
+  pub no_truth : (x : Slot) → ((truth : Bool) → x ≡ slot.Bool truth → ⊥) → is_set True (value_in_slot under i x) ≡ false
   no_truth (slot.Bool truth) h = absurd (h truth refl)
   no_truth slot.Null h = true_is slot.Null
   no_truth (slot.Int number) h = true_is (slot.Int number)
@@ -73,7 +73,7 @@ module _ (under : ℕ → List Value) (i : ℕ) where
 
   -- where it has no bytes
   pub no_content : (x : Slot) → ((bytes : _) → x ≡ slot.Bytes bytes → ⊥) → ((bytes : _) → x ≡ slot.Text bytes → ⊥)
-      → [] ≡ content (shown under i x)
+      → [] ≡ content (value_in_slot under i x)
   no_content (slot.Bytes bytes) h g = absurd (h bytes refl)
   no_content (slot.Text bytes) h g = absurd (g bytes refl)
   no_content slot.Null h g = sym (content_is slot.Null)
@@ -84,7 +84,7 @@ module _ (under : ℕ → List Value) (i : ℕ) where
   no_content slot.Struct h g = sym (content_is slot.Struct)
 
   -- where it isn't a list
-  pub no_items : (x : Slot) → ((from to : ℕ) → x ≡ slot.List from to → ⊥) → items (shown under i x) ≡ []
+  pub no_items : (x : Slot) → ((from to : ℕ) → x ≡ slot.List from to → ⊥) → items (value_in_slot under i x) ≡ []
   no_items (slot.List from to) h = absurd (h from to refl)
   no_items slot.Null h = items_are slot.Null
   no_items (slot.Bool truth) h = items_are (slot.Bool truth)
@@ -95,10 +95,11 @@ module _ (under : ℕ → List Value) (i : ℕ) where
   no_items slot.Struct h = items_are slot.Struct
 
   -- the bytes of a fixed width
-  pub fixed_is : (width : ℕ) (x : Slot) → fixed width (shown under i x) ≡ fixed_in width (opened x)
+  pub fixed_is : (width : ℕ) (x : Slot) → fixed_bytes width (value_in_slot under i x) ≡ fixed_in width (opened x)
   fixed_is width x = ap (fixed_in width) (shown_out x)
 
-  pub no_bytes : (width : ℕ) (x : Slot) → ((bytes : _) → x ≡ slot.Bytes bytes → ⊥) → fixed width (shown under i x) ≡ replicate width 0
+  pub no_bytes : (width : ℕ) (x : Slot) → ((bytes : _) → x ≡ slot.Bytes bytes → ⊥) → fixed_bytes width (value_in_slot under i x)
+      ≡ replicate width 0
   no_bytes width (slot.Bytes bytes) h = absurd (h bytes refl)
   no_bytes width slot.Null h = fixed_is width slot.Null
   no_bytes width (slot.Bool truth) h = fixed_is width (slot.Bool truth)

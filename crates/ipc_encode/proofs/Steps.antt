@@ -9,11 +9,12 @@ use Rattle.ipc_model.specs.declared.layout.Layout.{Layout}
 use Rattle.ipc_model.specs.declared.layout.Layout.TheVariants as l
 use Rattle.ipc_encode.specs.Pieces.{Flag, Run, Valid, ValueSlot}
 use Rattle.ipc_encode.specs.Pieces as p
-use Rattle.ipc_encode.specs.Cells.{cell, cells, is_set, flags, nulls, content, slot_bytes, slots, extent, ends, offsets, items, part}
+use Rattle.ipc_encode.specs.Cells.{cell, cells, is_set, flags, nulls, content, slot_bytes, slots, extent, ends, offsets, items}
+use Rattle.ipc_encode.specs.Cells.{struct_member}
 use Rattle.ipc_encode.specs.Cells.{fixed_items, all_fixed_items}
 use Rattle.ipc_encode.specs.Cells.{all_items, all_parts}
-use Rattle.ipc_encode.specs.Buffers.{below}
-use Rattle.ipc_encode.specs.Columns.{datum, data_in, offsets_in}
+use Rattle.ipc_encode.specs.Buffers.{child_values}
+use Rattle.ipc_encode.specs.Columns.{value_len, data_in, offsets_in}
 
 -- a column has a cell for each row
 pub cells_length : (j : ℕ) (rows : List (List Value)) → length (cells j rows) ≡ length rows
@@ -38,12 +39,13 @@ slots_push which [] v = append-nil (slot_bytes which v)
 slots_push which (w ∷ vs) v = ap (λ (bs : List ℕ). slot_bytes which w ++ bs) (slots_push which vs v)
     ∙ sym (append_assoc (slot_bytes which w) (slots which vs) (slot_bytes which v))
 
-pub data_push : (layout : Layout) (vs : List Value) (v : Value) → data_in layout (vs ++ v ∷ []) ≡ data_in layout vs + datum layout v
+pub data_push : (layout : Layout) (vs : List Value) (v : Value) → data_in layout (vs ++ v ∷ []) ≡ data_in layout vs + value_len layout v
 data_push layout [] v = omega arith
 data_push layout (w ∷ vs) v = let more = data_push layout vs v in omega (arith, more)
 
 -- the data with one value more
-pub amount_more : (layout : Layout) (vs : List Value) (v : Value) (amount added : ℕ) → amount ≡ data_in layout vs → added ≡ datum layout v
+pub amount_more : (layout : Layout) (vs : List Value) (v : Value) (amount added : ℕ) → amount ≡ data_in layout vs → added
+    ≡ value_len layout v
     → amount + added ≡ data_in layout (vs ++ v ∷ [])
 amount_more layout vs v amount added a b = let more = data_push layout vs v in omega (arith, more, a, b)
 
@@ -98,10 +100,11 @@ fixed_append size (v ∷ vs) ws = ap (λ (is : List Value). fixed_items size v +
 
 parts_append : (j : ℕ) (vs ws : List Value) → all_parts j (vs ++ ws) ≡ all_parts j vs ++ all_parts j ws
 parts_append j [] ws = refl
-parts_append j (v ∷ vs) ws = ap (λ (ps : List Value). part j v ∷ ps) (parts_append j vs ws)
+parts_append j (v ∷ vs) ws = ap (λ (ps : List Value). struct_member j v ∷ ps) (parts_append j vs ws)
 
 -- what values and then others give to child j
-pub below_append : (layout : Layout) (vs ws : List Value) (j : ℕ) → below layout (vs ++ ws) j ≡ below layout vs j ++ below layout ws j
+pub below_append : (layout : Layout) (vs ws : List Value) (j : ℕ) → child_values layout (vs ++ ws) j ≡ child_values layout vs j
+    ++ child_values layout ws j
 below_append l.Lists vs ws j = items_append vs ws
 below_append (l.FixedLists size) vs ws j = fixed_append size vs ws
 below_append l.Structs vs ws j = parts_append j vs ws
@@ -113,7 +116,7 @@ below_append (l.VariableBytes utf8) vs ws j = refl
 below_append (l.Indices bits signed id) vs ws j = refl
 
 -- no values give none
-pub below_none : (layout : Layout) (j : ℕ) → below layout [] j ≡ []
+pub below_none : (layout : Layout) (j : ℕ) → child_values layout [] j ≡ []
 below_none l.Lists j = refl
 below_none l.Structs j = refl
 below_none (l.FixedLists size) j = refl

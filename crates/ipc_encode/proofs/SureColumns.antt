@@ -20,7 +20,7 @@ use Rattle.ipc_column.specs.Plain.{IsShownBy}
 use Rattle.ipc_column.specs.Slots.{is_null}
 use Rattle.ipc_encode.specs.Cells.{cell, cells}
 use Rattle.ipc_encode.specs.Columns.{data_in}
-use Rattle.ipc_encode.specs.PlainColumns.{is_plain}
+use Rattle.ipc_encode.specs.PlainColumns.{layout_implies_type}
 use Rattle.ipc_encode.proofs.SurelyFit.{FirstFit, first_fit_all, first_fit_next}
 
 -- ---- what plain slots show
@@ -82,7 +82,7 @@ length_shows unit children (v.Int number) shown some = shown
 length_shows unit children value shown some = absurd shown
 
 -- slots of a plain type's layout show its values
-pub plain_shows : (kind : DataType) → is_plain kind ≡ true → ShowsKind (type_layout kind) kind
+pub plain_shows : (kind : DataType) → layout_implies_type kind ≡ true → ShowsKind (type_layout kind) kind
 plain_shows t.Bool plain = bool_shows
 plain_shows (t.Int bits signed) plain = int_shows bits signed
 plain_shows t.Binary plain = binary_shows

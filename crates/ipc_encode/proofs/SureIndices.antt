@@ -7,7 +7,7 @@ use Rattle.ipc_model.specs.declared.layout.Layout.TheVariants as l
 use Rattle.ipc_model.specs.declared.schema.IntBits.{IntBits}
 use Rattle.ipc_model.specs.declared.value.Value.{Value}
 use Rattle.ipc_model.specs.declared.value.Value.TheVariants as v
-use Rattle.ipc_column.specs.Nested.{Nested, below, slot_values}
+use Rattle.ipc_column.specs.Nested.{Nested, child_columns, slot_values}
 use Rattle.ipc_column.specs.Plain.{IsShownBy}
 use Rattle.ipc_column.specs.Values.{is_valid, own_value, row, value_at, value_of}
 use Rattle.ipc_column.proofs.Plain.{items_each, null_shown}
@@ -27,10 +27,10 @@ value_shown layout dictionary (pos n) h = at dictionary n h
 pub indexed_shown : (n : Nested) (layout : Layout) (bits : IntBits) (signed : Bool) (id : ℤ) → n.column.layout ≡ l.Indices bits signed id
     → AllByRecursion (IsShownBy layout) n.column.dictionary → AllByRecursion (IsShownBy layout) (slot_values n)
 indexed_shown n layout bits signed id e h =
-    items_each (IsShownBy layout) (value_of (row (below n)) n.column) 0 n.column.slots (λ k from to. either k
+    items_each (IsShownBy layout) (value_of (row (child_columns n)) n.column) 0 n.column.slots (λ k from to. either k
     (is_valid n.column.validity k))
   where
     either : (k : ℕ) (valid : Bool) → IsShownBy layout
-        (cond valid (own_value n.column.layout n.column.dictionary (row (below n)) n.column.offsets n.column.values k) v.Null)
+        (cond valid (own_value n.column.layout n.column.dictionary (row (child_columns n)) n.column.offsets n.column.values k) v.Null)
     either k true = rw e (value_shown layout n.column.dictionary _ h)
     either k false = null_shown layout

@@ -10,13 +10,13 @@ use Rattle.ipc_model.specs.declared.schema.DataType.TheVariants as t
 use Rattle.ipc_model.specs.declared.schema.Field.{Field, out-Field}
 use Rattle.ipc_model.specs.declared.value.Value.{Value, out-Value}
 use Rattle.ipc_model.specs.declared.value.Value.TheOpen.{Value-F}
-use Rattle.ipc_model.specs.Fits.{Fits, EachFits, InnerFit, IsOwn}
+use Rattle.ipc_model.specs.Fits.{Fits, EachFits, InnerFit, FitsOwnType}
 use Rattle.ipc_model.proofs.FitsLemmas.{fits_parts}
 use Rattle.ipc_column.specs.Shapes.{Shape}
-use Rattle.ipc_encode.specs.Buffers.{padded, column_buffers}
+use Rattle.ipc_encode.specs.Buffers.{padded_bytes, column_buffers}
 use Rattle.ipc_encode.specs.Cells.{nulls}
 use Rattle.ipc_encode.specs.Columns.{data_in, bits_length, padded_length, offsets_length, validity_length, values_length}
-use Rattle.ipc_encode.specs.Built.{AreWithin, TakeAtMost}
+use Rattle.ipc_encode.specs.Built.{AreColumnsWithin, TakeAtMost}
 use Rattle.ipc_encode.proofs.Sizes.{column_size}
 
 -- ---- buffers
@@ -63,7 +63,7 @@ values_few (l.Indices bits signed id) n amount = omega arith
 
 -- the buffers of a column take no more than so much for each slot, and their data
 pub buffers_few : (layout : Layout) (vs : List Value)
-    → length (padded (column_buffers layout vs)) ≤ 6 * length vs + 25 + data_in layout vs
+    → length (padded_bytes (column_buffers layout vs)) ≤ 6 * length vs + 25 + data_in layout vs
 buffers_few layout vs =
     let size = column_size layout vs in
     let v = validity_few layout (length vs) (nulls vs) in
@@ -76,7 +76,7 @@ buffers_few layout vs =
 
 -- columns that take no more than a body has are within the limits
 pub takes_within : (limits : Limits) (shape : Shape) (given : ℕ → List Value) (all : ℕ) → TakeAtMost limits all shape given
-    → all ≤ limits.body → AreWithin limits shape given
+    → all ≤ limits.body → AreColumnsWithin limits shape given
 takes_within limits shape given all h most =
     record { few = h.few; short = h.short; body = let bytes = h.bytes in omega (arith, bytes, most) }
 
@@ -100,7 +100,7 @@ nothing_inside (t.Duration unit) v = tt
 
 -- one of the field's own fits a field without children
 pub own_fits : (f : Field) (v : Value) → length (out-Field f).children ≡ 0
-    → IsOwn (out-Field f).kind (out-Field f).nullable (length (out-Field f).children) (out-Value v) → Fits f v
+    → FitsOwnType (out-Field f).kind (out-Field f).nullable (length (out-Field f).children) (out-Value v) → Fits f v
 own_fits f v none own =
     subst (λ (T : Type 0). T) (sym (fits_parts f v)) (own, inside (out-Field f).children none)
   where

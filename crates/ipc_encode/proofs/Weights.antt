@@ -15,13 +15,13 @@ use Rattle.ipc_model.specs.declared.value.Value.TheOpen as o
 use Rattle.ipc_model.specs.declared.value.Value.TheOpen.{Value-F}
 use Rattle.ipc_model.specs.declared.value.Value.TheVariants as v
 use Rattle.ipc_model.specs.declared.value.Value.TheViews.{out-Value, roll-Value, out-roll-Value}
-use Rattle.ipc_model.specs.Fits.{Fits, EachFits, InnerFit, IsOwn}
+use Rattle.ipc_model.specs.Fits.{Fits, EachFits, InnerFit, FitsOwnType}
 use Rattle.ipc_model.proofs.FitsLemmas.{fits_parts}
 use Rattle.ipc_column.specs.Shapes.{Shape, bare, field}
-use Rattle.ipc_encode.specs.Buffers.{below, padded, buffers_of}
+use Rattle.ipc_encode.specs.Buffers.{child_values, padded_bytes, buffers_of}
 use Rattle.ipc_encode.specs.Cells.{cell, items, items_in, fixed_items}
-use Rattle.ipc_encode.specs.Columns.{data_in, PassesOffsets}
-use Rattle.ipc_encode.specs.Limits.{HasLongNode, SomePastOffsets}
+use Rattle.ipc_encode.specs.Columns.{data_in, ExceedsOffsets}
+use Rattle.ipc_encode.specs.Limits.{HasLongNode, SomeExcessData}
 use Rattle.ipc_encode.specs.Built.{TakeAtMost}
 use Rattle.ipc_encode.specs.Weights.{weight_of}
 use Rattle.ipc_encode.proofs.Below.{fixed_are, parts_are}
@@ -44,8 +44,9 @@ weight_more each bare given more = omega arith
 weight_more each (field l c rest) given more =
     let size = length-append (given 0) (more 0) in
     let amount = data_append l (given 0) (more 0) in
-    let inner = subst (λ (g : ℕ → List Value). weight_of each c g ≡ weight_of each c (below l (given 0)) + weight_of 0 c (below l (more 0)))
-    (λ d j. sym (below_append l (given 0) (more 0) j) d) (weight_more each c (below l (given 0)) (below l (more 0))) in
+    let inner = subst (λ (g : ℕ → List Value). weight_of each c g ≡ weight_of each c (child_values l (given 0))
+    + weight_of 0 c (child_values l (more 0)))
+    (λ d j. sym (below_append l (given 0) (more 0) j) d) (weight_more each c (child_values l (given 0)) (child_values l (more 0))) in
     let later = weight_more each rest (λ j. given (suc j)) (λ j. more (suc j)) in
     omega (arith, size, amount, inner, later)
 
@@ -78,14 +79,15 @@ weight_at each (suc i) (field k d rest) given l c at =
 -- a column with room for so many slots more has few slots with values that weigh no more
 pub few_more : (most more : ℕ) (l : Layout) (c : Shape) (before added : List Value) → length before + more ≤ most
     → weight_of 0 (field l c bare) (λ j. added) ≤ more
-    → (HasLongNode most c (λ j. below l before j ++ below l added j) → ⊥) → HasLongNode most (field l c bare) (λ j. before ++ added) → ⊥
+    → (HasLongNode most c (λ j. child_values l before j ++ child_values l added j) → ⊥)
+    → HasLongNode most (field l c bare) (λ j. before ++ added) → ⊥
 few_more most more l c before added room light inner (inl own) =
     let size = length-append before added in omega (arith, size, room, light, own)
 few_more most more l c before added room light inner (inr (inl child)) =
     inner (subst (λ (g : ℕ → List Value). HasLongNode most c g) (λ d j. below_append l before added j d) child)
 few_more most more l c before added room light inner (inr (inr none)) = none
 
-passes : (layout : Layout) (n : ℕ) → PassesOffsets layout n → max_data < n
+passes : (layout : Layout) (n : ℕ) → ExceedsOffsets layout n → max_data < n
 passes (l.VariableBytes utf8) n h = h
 passes l.Lists n h = h
 passes l.Null n h = absurd h
@@ -97,22 +99,22 @@ passes (l.FixedLists size) n h = absurd h
 passes (l.Indices bits signed id) n h = absurd h
 
 -- more data than offsets reach weigh more
-short_weight : (each : ℕ) (shape : Shape) (given : ℕ → List Value) → SomePastOffsets shape given → max_data < weight_of each shape given
+short_weight : (each : ℕ) (shape : Shape) (given : ℕ → List Value) → SomeExcessData shape given → max_data < weight_of each shape given
 short_weight each bare given h = absurd h
 short_weight each (field l c rest) given (inl own) =
     let long = passes l (data_in l (given 0)) (long_from l (given 0) own) in omega (arith, long)
 short_weight each (field l c rest) given (inr (inl child)) =
-    let long = short_weight each c (below l (given 0)) child in omega (arith, long)
+    let long = short_weight each c (child_values l (given 0)) child in omega (arith, long)
 short_weight each (field l c rest) given (inr (inr later)) =
     let long = short_weight each rest (λ j. given (suc j)) later in omega (arith, long)
 
 -- buffers take no more bytes than their columns weigh
-bytes_weight : (shape : Shape) (given : ℕ → List Value) → length (padded (buffers_of shape given)) ≤ weight_of 25 shape given
+bytes_weight : (shape : Shape) (given : ℕ → List Value) → length (padded_bytes (buffers_of shape given)) ≤ weight_of 25 shape given
 bytes_weight bare given = omega arith
 bytes_weight (field l c rest) given =
     let whole = parts_length l c rest given in
     let own = buffers_few l (given 0) in
-    let inner = bytes_weight c (below l (given 0)) in
+    let inner = bytes_weight c (child_values l (given 0)) in
     let later = bytes_weight rest (λ j. given (suc j)) in
     omega (arith, whole, own, inner, later)
 
@@ -180,7 +182,7 @@ struct_inside (t.Duration unit) fs vs h = tt
 
 -- a value that is one of the field's own fits it where what stands inside it fits the children
 inside_fits : (f : Field) (v : Value) (w : Value-F Value) → out-Value v ≡ w
-    → IsOwn (out-Field f).kind (out-Field f).nullable (length (out-Field f).children) (out-Value v)
+    → FitsOwnType (out-Field f).kind (out-Field f).nullable (length (out-Field f).children) (out-Value v)
     → InnerFit Fits (out-Field f).kind (out-Field f).children w → Fits f v
 inside_fits f v w e own inner =
     subst (λ (T : Type 0). T) (sym (fits_parts f v))
@@ -199,12 +201,12 @@ unfolding out-Value roll-Value Carrier.roll
 out_struct value vs e = ap out-Value e ∙ out-roll-Value (o.Struct vs)
 
 pub null_fits : (f : Field) (value : Value) → value ≡ v.Null
-    → IsOwn (out-Field f).kind (out-Field f).nullable (length (out-Field f).children) (out-Value value) → Fits f value
+    → FitsOwnType (out-Field f).kind (out-Field f).nullable (length (out-Field f).children) (out-Value value) → Fits f value
 null_fits f value e own =
     inside_fits f value o.Null (out_null value e) own (null_inside (out-Field f).kind (out-Field f).children)
 
 pub list_fits : (f : Field) (value : Value) (fs : List Field) (us vs : List Value) → fs ≡ (out-Field f).children → us ≡ vs
-    → value ≡ v.List vs → IsOwn (out-Field f).kind (out-Field f).nullable (length (out-Field f).children) (out-Value value)
+    → value ≡ v.List vs → FitsOwnType (out-Field f).kind (out-Field f).nullable (length (out-Field f).children) (out-Value value)
     → InnerFit Fits t.List fs (o.List us) → Fits f value
 list_fits f value fs us vs those same e own inner =
     inside_fits f value (o.List vs) (out_list value vs e) own (list_inside (out-Field f).kind (out-Field f).children vs
@@ -212,7 +214,7 @@ list_fits f value fs us vs those same e own inner =
     (subst (λ (ws : List Value). InnerFit Fits t.List fs (o.List ws)) same inner)))
 
 pub struct_fits : (f : Field) (value : Value) (fs : List Field) (us vs : List Value) → fs ≡ (out-Field f).children → us ≡ vs
-    → value ≡ v.Struct vs → IsOwn (out-Field f).kind (out-Field f).nullable (length (out-Field f).children) (out-Value value)
+    → value ≡ v.Struct vs → FitsOwnType (out-Field f).kind (out-Field f).nullable (length (out-Field f).children) (out-Value value)
     → EachFits Fits fs us → Fits f value
 struct_fits f value fs us vs those same e own inner =
     inside_fits f value (o.Struct vs) (out_struct value vs e) own (struct_inside (out-Field f).kind (out-Field f).children vs
@@ -222,16 +224,16 @@ struct_fits f value fs us vs those same e own inner =
 
 -- a list gives its items
 pub list_given : (layout : Layout) (value : Value) (us vs : List Value) → layout ≡ l.Lists → us ≡ vs → value ≡ v.List vs
-    → ◌≡◌ {A = ℕ → List Value} (λ j. us) (below layout (value ∷ []))
+    → ◌≡◌ {A = ℕ → List Value} (λ j. us) (child_values layout (value ∷ []))
 list_given layout value us vs e same is =
     rw (e, same) (λ d j. sym (append-nil (items value) ∙ ap (λ (w : Value-F Value). items_in w) (out_list value vs is)) d)
 
 pub fixed_given : (layout : Layout) (size : ℕ) (value : Value) (us vs : List Value) → layout ≡ l.FixedLists size → us ≡ vs
-    → value ≡ v.List vs → ◌≡◌ {A = ℕ → List Value} (λ j. us) (below layout (value ∷ []))
+    → value ≡ v.List vs → ◌≡◌ {A = ℕ → List Value} (λ j. us) (child_values layout (value ∷ []))
 fixed_given layout size value us vs e same is =
     rw (e, same) (λ d j. sym (append-nil (fixed_items size value) ∙ fixed_are size value vs is) d)
 
 -- a struct gives its parts
 pub struct_given : (layout : Layout) (value : Value) (us vs : List Value) → layout ≡ l.Structs → us ≡ vs → value ≡ v.Struct vs
-    → ◌≡◌ {A = ℕ → List Value} (λ j. cell j us ∷ []) (below layout (value ∷ []))
+    → ◌≡◌ {A = ℕ → List Value} (λ j. cell j us ∷ []) (child_values layout (value ∷ []))
 struct_given layout value us vs e same is = rw (e, same) (λ d j. ap (λ (w : Value). w ∷ []) (sym (parts_are value vs is j)) d)

@@ -7,15 +7,16 @@ use Rattle.ipc_model.specs.declared.layout.Layout.{Layout}
 use Rattle.ipc_model.specs.declared.value.Value.{Value}
 use Rattle.ipc_column.specs.Nested.{Nested}
 use Rattle.ipc_column.specs.Shapes.{Shape, bare, field}
-use Rattle.ipc_encode.specs.declared.column.Column.{Column}
+use Rattle.ipc_encode.specs.declared.column_builder.ColumnBuilder.{ColumnBuilder}
 use Rattle.ipc_encode.specs.declared.node.Node.{Node}
 use Rattle.ipc_encode.specs.Built.{AreNodes, IsNode}
-use Rattle.ipc_encode.specs.Lying.{AreWhole, IsWhole}
+use Rattle.ipc_encode.specs.WholeColumns.{AreFullColumns, IsFullColumn}
 use Rattle.ipc_encode.proofs.NestedSlots.{some_same}
 use Rattle.ipc_encode.proofs.Siblings.{IsAt}
 
 -- the node of a field
-pub node_at : (P : Layout → List Value → Column → Type 0) (i : ℕ) (shape : Shape) (nodes : List Node) (given : ℕ → List Value) (d : Node)
+pub node_at : (P : Layout → List Value → ColumnBuilder → Type 0) (i : ℕ) (shape : Shape) (nodes : List Node) (given : ℕ → List Value)
+    (d : Node)
     (l : Layout) (c : Shape)
     → IsAt i shape l c → AreNodes P shape nodes given → IsNode P l c (get_or nodes i d) (given i)
 node_at P i bare nodes given d l c at h = absurd at
@@ -26,21 +27,21 @@ node_at P (suc i) (field k e rest) (m ∷ ms) given d l c at h = node_at P i res
 
 -- the column that was read for a field
 pub whole_at : (i : ℕ) (shape : Shape) (views : List Nested) (given : ℕ → List Value) (l : Layout) (c : Shape) (v : Nested)
-    → IsAt i shape l c → slice_get views i ≡ Some v → AreWhole shape views given → IsWhole l c v (given i)
+    → IsAt i shape l c → slice_get views i ≡ Some v → AreFullColumns shape views given → IsFullColumn l c v (given i)
 whole_at i bare views given l c v at is h = absurd at
 whole_at i (field k e rest) [] given l c v at is h = absurd h
 whole_at zero (field k e rest) (w ∷ ws) given l c v at is h =
-    subst (λ (n : Nested). IsWhole l c n (given 0)) (some_same w v is)
-    (subst (λ (s : Shape). IsWhole l s w (given 0)) at.1 (subst (λ (x : Layout). IsWhole x e w (given 0)) at.0 h.0))
+    subst (λ (n : Nested). IsFullColumn l c n (given 0)) (some_same w v is)
+    (subst (λ (s : Shape). IsFullColumn l s w (given 0)) at.1 (subst (λ (x : Layout). IsFullColumn x e w (given 0)) at.0 h.0))
 whole_at (suc i) (field k e rest) (w ∷ ws) given l c v at is h = whole_at i rest ws (λ j. given (suc j)) l c v at is h.1
 
 -- columns are whole where each of them is, and there is one for each node
-pub whole_all : (P : Layout → List Value → Column → Type 0) (shape : Shape) (nodes : List Node) (views : List Nested)
+pub whole_all : (P : Layout → List Value → ColumnBuilder → Type 0) (shape : Shape) (nodes : List Node) (views : List Nested)
     (before given : ℕ → List Value)
     → AreNodes P shape nodes before → length nodes ≡ length views
     → ((i : ℕ) → i < length nodes → (l : Layout) (c : Shape) (v : Nested) → IsAt i shape l c → slice_get views i ≡ Some v
-    → IsWhole l c v (given i))
-    → AreWhole shape views given
+    → IsFullColumn l c v (given i))
+    → AreFullColumns shape views given
 whole_all P bare [] [] before given h size each = tt
 whole_all P bare [] (v ∷ vs) before given h size each = absurd (omega arith)
 whole_all P bare (m ∷ ms) views before given h size each = absurd h

@@ -42,24 +42,24 @@ piece_bytes (p.Slots which) values = slots which values
 piece_bytes (p.Offsets run) values = offsets run values
 
 -- the bytes of each buffer for these values
-abbrev pub buffers_in : List Piece → List Value → List (List ℕ)
-buffers_in [] values = []
-buffers_in (piece ∷ more) values = piece_bytes piece values ∷ buffers_in more values
+abbrev pub buffer_bytes : List Piece → List Value → List (List ℕ)
+buffer_bytes [] values = []
+buffer_bytes (piece ∷ more) values = piece_bytes piece values ∷ buffer_bytes more values
 
 -- the buffers of a column of this layout with these values, each without padding; for a column of
 -- indices, the values are the numbers of the indices
 abbrev pub column_buffers : Layout → List Value → List (List ℕ)
-column_buffers layout values = buffers_in (pieces layout (nulls values)) values
+column_buffers layout values = buffer_bytes (pieces layout (nulls values)) values
 
 -- the values of child j of a column (Arrow Columnar Format, "Variable-size List Layout",
 -- "Fixed-Size List Layout", "Struct Layout"). The child of lists has their items; a null list has
 -- none, or `size` nulls if the size is fixed. A child of structs has part j of each, null for a
 -- null struct
-abbrev pub below : Layout → List Value → ℕ → List Value
-below l.Lists values j = all_items values
-below (l.FixedLists size) values j = all_fixed_items size values
-below l.Structs values j = all_parts j values
-below _ values j = []
+abbrev pub child_values : Layout → List Value → ℕ → List Value
+child_values l.Lists values j = all_items values
+child_values (l.FixedLists size) values j = all_fixed_items size values
+child_values l.Structs values j = all_parts j values
+child_values _ values j = []
 
 -- how many nulls a null adds to each child
 abbrev pub nulls_below : Layout → ℕ
@@ -72,7 +72,7 @@ nulls_below _ = 0
 abbrev pub nodes_of : Shape → (ℕ → List Value) → List (ℤ × ℤ)
 nodes_of bare given = []
 nodes_of (field l children rest) given =
-    (pos (length (given 0)), pos (nulls (given 0))) ∷ (nodes_of children (below l (given 0))
+    (pos (length (given 0)), pos (nulls (given 0))) ∷ (nodes_of children (child_values l (given 0))
     ++ nodes_of rest (λ j. given (suc j)))
 
 -- the buffers of each field and each field below it, in pre-order; `given` has the values of each
@@ -80,7 +80,7 @@ nodes_of (field l children rest) given =
 abbrev pub buffers_of : Shape → (ℕ → List Value) → List (List ℕ)
 buffers_of bare given = []
 buffers_of (field l children rest) given =
-    column_buffers l (given 0) ++ (buffers_of children (below l (given 0))
+    column_buffers l (given 0) ++ (buffers_of children (child_values l (given 0))
     ++ buffers_of rest (λ j. given (suc j)))
 
 -- a buffer, followed by zero bytes up to a multiple of 8 (Arrow Columnar Format, "Buffer Alignment
@@ -89,9 +89,9 @@ abbrev pub padded_buffer : List ℕ → List ℕ
 padded_buffer b = b ++ replicate ((8 - length b % 8) % 8) 0
 
 -- buffers one after another, each padded
-abbrev pub padded : List (List ℕ) → List ℕ
-padded [] = []
-padded (b ∷ bs) = padded_buffer b ++ padded bs
+abbrev pub padded_bytes : List (List ℕ) → List ℕ
+padded_bytes [] = []
+padded_bytes (b ∷ bs) = padded_buffer b ++ padded_bytes bs
 
 -- the range of each buffer: where it begins, the first at `start`, and its length without padding
 -- (Schema.fbs, Buffer)
@@ -101,54 +101,54 @@ ranges_from start (b ∷ bs) =
     (pos start, pos (length b)) ∷ ranges_from (start + length (padded_buffer b)) bs
 
 -- the columns of rows
-abbrev pub columns : List (List Value) → ℕ → List Value
-columns rows j = cells j rows
+abbrev pub row_columns : List (List Value) → ℕ → List Value
+row_columns rows j = cells j rows
 
 -- the nodes that are written for these rows
 abbrev pub row_nodes : List Field → List (List Value) → List (ℤ × ℤ)
-row_nodes fields rows = nodes_of (shape_of fields) (columns rows)
+row_nodes fields rows = nodes_of (shape_of fields) (row_columns rows)
 
 -- the buffers of these rows; those of indices have the lengths of the written ones, but not their
 -- bytes
 abbrev pub row_buffers : List Field → List (List Value) → List (List ℕ)
-row_buffers fields rows = buffers_of (shape_of fields) (columns rows)
+row_buffers fields rows = buffers_of (shape_of fields) (row_columns rows)
 
 -- the body of these rows, all buffers padded (Arrow Columnar Format, "RecordBatch message"); it has
 -- the length of the written one, but not the bytes of its indices
-abbrev pub body_of : List Field → List (List Value) → List ℕ
-body_of fields rows = padded (row_buffers fields rows)
+abbrev pub rows_body : List Field → List (List Value) → List ℕ
+rows_body fields rows = padded_bytes (row_buffers fields rows)
 
 -- ---- the numbers of indices
 
 -- the values with which a column is written: a column of indices is written as their numbers
 -- (Arrow Columnar Format, "Dictionary-encoded Layout")
-abbrev pub stored : Numbering → Layout → List Value → List Value
-stored indices (l.Indices bits signed id) values = numbers_of (indices id) values
-stored indices l.Null values = values
-stored indices l.Bits values = values
-stored indices (l.Numbers bits signed) values = values
-stored indices (l.FixedBytes width) values = values
-stored indices (l.VariableBytes utf8) values = values
-stored indices l.Lists values = values
-stored indices l.Structs values = values
-stored indices (l.FixedLists size) values = values
+abbrev pub written_values : Numbering → Layout → List Value → List Value
+written_values indices (l.Indices bits signed id) values = numbers_of (indices id) values
+written_values indices l.Null values = values
+written_values indices l.Bits values = values
+written_values indices (l.Numbers bits signed) values = values
+written_values indices (l.FixedBytes width) values = values
+written_values indices (l.VariableBytes utf8) values = values
+written_values indices l.Lists values = values
+written_values indices l.Structs values = values
+written_values indices (l.FixedLists size) values = values
 
 -- the buffers of each field and each field below it; `indices` gives the index of each dictionary
 -- value
 abbrev pub buffers_with : Numbering → Shape → (ℕ → List Value) → List (List ℕ)
 buffers_with indices bare given = []
 buffers_with indices (field l children rest) given =
-    column_buffers l (stored indices l (given 0))
-    ++ (buffers_with indices children (below l (given 0))
+    column_buffers l (written_values indices l (given 0))
+    ++ (buffers_with indices children (child_values l (given 0))
     ++ buffers_with indices rest (λ j. given (suc j)))
 
 -- the buffers of these rows; `indices` gives the index of each dictionary value
 abbrev pub row_buffers_with : Numbering → List Field → List (List Value) → List (List ℕ)
-row_buffers_with indices fields rows = buffers_with indices (shape_of fields) (columns rows)
+row_buffers_with indices fields rows = buffers_with indices (shape_of fields) (row_columns rows)
 
 -- the body of these rows; `indices` gives the index of each dictionary value
 abbrev pub body_with : Numbering → List Field → List (List Value) → List ℕ
-body_with indices fields rows = padded (row_buffers_with indices fields rows)
+body_with indices fields rows = padded_bytes (row_buffers_with indices fields rows)
 
 -- the parts are exactly these nodes, buffers and body, so equal rows with equal indices give equal
 -- bytes

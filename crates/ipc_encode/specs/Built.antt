@@ -6,39 +6,40 @@ use Rattle.ipc_model.specs.declared.schema.Field.{Field}
 use Rattle.ipc_model.specs.declared.value.Value.{Value}
 use Rattle.ipc_model.specs.declared.layout.Layout.{Layout}
 use Rattle.ipc_encode.specs.declared.builder.Builder.{Builder}
-use Rattle.ipc_encode.specs.declared.column.Column.{Column}
-use Rattle.ipc_encode.specs.declared.counts.Counts.{Counts}
+use Rattle.ipc_encode.specs.declared.column_builder.ColumnBuilder.{ColumnBuilder}
+use Rattle.ipc_encode.specs.declared.counts.ColumnCounts.{ColumnCounts}
 use Rattle.ipc_encode.specs.declared.fault.PushFault.{PushFault}
 use Rattle.ipc_encode.specs.declared.fault.PushFault.TheVariants as fault
 use Rattle.ipc_encode.specs.declared.node.Node.{Node, out-Node}
-use Rattle.ipc_encode.specs.declared.column.Purpose.{Purpose}
-use Rattle.ipc_encode.specs.declared.column.Purpose.TheVariants as purpose
+use Rattle.ipc_encode.specs.declared.column_builder.Purpose.{Purpose}
+use Rattle.ipc_encode.specs.declared.column_builder.Purpose.TheVariants as purpose
 use Rattle.ipc_column.specs.Shapes.{Shape, bare, field, shape_of}
-use Rattle.ipc_encode.specs.Buffers.{below, columns, padded, column_buffers, buffers_of}
+use Rattle.ipc_encode.specs.Buffers.{child_values, row_columns, padded_bytes, column_buffers}
+use Rattle.ipc_encode.specs.Buffers.{buffers_of}
 use Rattle.ipc_encode.specs.Cells.{nulls}
 use Rattle.ipc_encode.specs.Columns.{validity_in, offsets_in, values_in, indices_in, data_in}
 use Rattle.ipc_encode.specs.Numbers.{Numbering}
 use Rattle.ipc_encode.specs.Indices.{AgreeOn}
-use Rattle.ipc_encode.specs.Limits.{HasLongData, HasLongItems, HasLongNode, IsPastOffsets}
-use Rattle.ipc_encode.specs.Limits.{IsWithin, SomeColumn, SomePastOffsets}
+use Rattle.ipc_encode.specs.Limits.{HasLongData, HasLongItems, HasLongNode, HasExcessData}
+use Rattle.ipc_encode.specs.Limits.{IsWithin, SomeColumn, SomeExcessData}
 use Rattle.ipc_encode.specs.Weights.{weight_of}
 use Rattle.ipc_encode.specs.Writing.{AreStored}
 
 -- the counts of a column of this layout with these values, which are within the limits
-pub record IsCounted (limits : Limits) (layout : Layout) (values : List Value)
-    (counts : Counts) : Type 0 where
+pub record AreCountsOf (limits : Limits) (layout : Layout) (values : List Value)
+    (counts : ColumnCounts) : Type 0 where
   pub slots_are : counts.slots ≡ length values
   pub nulls_are : counts.nulls ≡ nulls values
   pub amount_is : counts.amount ≡ data_in layout values
   pub few : ¬ (limits.slots < length values)
-  pub short : ¬ IsPastOffsets layout values
+  pub short : ¬ HasExcessData layout values
 
 -- the buffers of a column of this layout with these values; indices are stored as numbers until the
 -- column is written (Arrow Columnar Format, "Buffer Listing for Each Layout")
 pub record IsColumn (indices : Numbering) (limits : Limits) (layout : Layout) (values : List Value)
-    (column : Column) : Type 0 where
+    (column : ColumnBuilder) : Type 0 where
   pub laid : column.layout ≡ layout
-  pub counted : IsCounted limits layout values column.counts
+  pub counted : AreCountsOf limits layout values column.counts
   pub validity_are : column.validity.items ≡ validity_in layout values
   pub offsets_are : column.offsets.items ≡ offsets_in layout values
   pub values_are : column.values.items ≡ values_in layout values
@@ -47,60 +48,63 @@ pub record IsColumn (indices : Numbering) (limits : Limits) (layout : Layout) (v
 
 -- the column has this layout, and its counts with the next row are those of these values
 pub record IsNext (limits : Limits) (layout : Layout) (values : List Value)
-    (column : Column) : Type 0 where
+    (column : ColumnBuilder) : Type 0 where
   pub laid : column.layout ≡ layout
-  pub counted : IsCounted limits layout values column.next
+  pub counted : AreCountsOf limits layout values column.next
 
 -- the nodes have this shape, and the property holds for each column with its values, at every
 -- level; `given` has the values of each column by its number
-abbrev pub AreNodes : (Layout → List Value → Column → Type 0) → Shape → List Node
+abbrev pub AreNodes : (Layout → List Value → ColumnBuilder → Type 0) → Shape → List Node
     → (ℕ → List Value) → Type 0
 AreNodes Property bare [] given = ⊤
 AreNodes Property bare (node ∷ nodes) given = ⊥
 AreNodes Property (field l children rest) [] given = ⊥
 AreNodes Property (field l children rest) (node ∷ nodes) given =
     (Property l (given 0) (out-Node node).column
-    × AreNodes Property children (out-Node node).children.items (below l (given 0)))
+    × AreNodes Property children (out-Node node).children.items (child_values l (given 0)))
     × AreNodes Property rest nodes (λ j. given (suc j))
 
 -- the node has this layout and shape of children, and the property holds for its column and each
 -- column below it
-abbrev pub IsNode : (Layout → List Value → Column → Type 0) → Layout → Shape → Node → List Value
+abbrev pub IsNode : (Layout → List Value → ColumnBuilder → Type 0) → Layout → Shape → Node
+    → List Value
     → Type 0
 IsNode Property l children node values = Property l values (out-Node node).column
-    × AreNodes Property children (out-Node node).children.items (below l values)
+    × AreNodes Property children (out-Node node).children.items (child_values l values)
 
 -- the nodes hold columns of this shape; `given` has the values of each column by its number
-abbrev pub AreColumns : Numbering → Limits → Shape → List Node → (ℕ → List Value) → Type 0
-AreColumns indices limits = AreNodes (IsColumn indices limits)
+abbrev pub HoldColumns : Numbering → Limits → Shape → List Node → (ℕ → List Value) → Type 0
+HoldColumns indices limits = AreNodes (IsColumn indices limits)
 
 -- what a column has taken: the values into its buffers, or only their counts
-abbrev pub HasTaken : Numbering → Purpose → Limits → Layout → List Value → Column → Type 0
+abbrev pub HasTaken : Numbering → Purpose → Limits → Layout → List Value → ColumnBuilder → Type 0
 HasTaken indices purpose.Keep limits = IsColumn indices limits
 HasTaken indices purpose.Count limits = IsNext limits
 
 -- columns of this shape with these values are within the limits
-pub record AreWithin (limits : Limits) (shape : Shape) (given : ℕ → List Value) : Type 0 where
+pub record AreColumnsWithin (limits : Limits) (shape : Shape) (given : ℕ → List Value) : Type
+    0 where
   pub few : ¬ HasLongNode limits.slots shape given
-  pub short : ¬ SomePastOffsets shape given
-  pub body : length (padded (buffers_of shape given)) ≤ limits.body
+  pub short : ¬ SomeExcessData shape given
+  pub body : length (padded_bytes (buffers_of shape given)) ≤ limits.body
 
 -- values that weigh less than the headroom together, in any columns, are within the limits with
 -- these rows
 abbrev pub HasHeadroom : Limits → List Field → List (List Value) → ℕ → Type 0
 HasHeadroom limits fields rows headroom = (added : ℕ → List Value)
     → weight_of 0 (shape_of fields) added < headroom
-    → AreWithin limits (shape_of fields) (λ j. columns rows j ++ added j)
+    → AreColumnsWithin limits (shape_of fields) (λ j. row_columns rows j ++ added j)
 
 -- the builder stores exactly these rows of these fields, which are within the limits; `indices`
 -- gives the index of each dictionary value
-pub record HasRows (indices : Numbering) (limits : Limits) (fields : List Field) (rows : List
+pub record StoresRows (indices : Numbering) (limits : Limits) (fields : List Field) (rows : List
     (List Value))
     (builder : Builder) : Type 0 where
   pub limits_are : builder.limits ≡ limits
   pub works : builder.failed ≡ false
   pub count : builder.rows ≡ length rows
-  pub columns_are : AreColumns indices limits (shape_of fields) builder.nodes.items (columns rows)
+  pub columns_are : HoldColumns indices limits (shape_of fields) builder.nodes.items
+      (row_columns rows)
   pub within : IsWithin limits fields rows
   pub has_headroom : HasHeadroom limits fields rows builder.headroom
 
@@ -108,7 +112,7 @@ pub record HasRows (indices : Numbering) (limits : Limits) (fields : List Field)
 -- than its offsets can address, more than a body may have, or out of memory
 abbrev pub IsPushRefused : Limits → Layout → List Value → PushFault → Type 0
 IsPushRefused limits layout values fault.TooLong =
-    HasLongData layout values ⊎ (limits.body < length (padded (column_buffers layout values)))
+    HasLongData layout values ⊎ (limits.body < length (padded_bytes (column_buffers layout values)))
 IsPushRefused limits layout values fault.TooMany =
     (limits.slots < length values) ⊎ HasLongItems layout values
 IsPushRefused limits layout values fault.OutOfMemory = ⊤
@@ -119,7 +123,7 @@ IsPushRefused limits layout values fault.Failed = ⊥
 -- slots or items of lists, more bytes than offsets can address or a body may have, or out of memory
 abbrev pub ArePushesRefused : Limits → Shape → (ℕ → List Value) → PushFault → Type 0
 ArePushesRefused limits shape given fault.TooLong = SomeColumn HasLongData shape given
-    ⊎ (limits.body < length (padded (buffers_of shape given)))
+    ⊎ (limits.body < length (padded_bytes (buffers_of shape given)))
 ArePushesRefused limits shape given fault.TooMany =
     HasLongNode limits.slots shape given ⊎ SomeColumn HasLongItems shape given
 ArePushesRefused limits shape given fault.OutOfMemory = ⊤
@@ -131,8 +135,8 @@ ArePushesRefused limits shape given fault.Failed = ⊥
 pub record TakeAtMost (limits : Limits) (most : ℕ) (shape : Shape) (given : ℕ
     → List Value) : Type 0 where
   pub few : ¬ HasLongNode limits.slots shape given
-  pub short : ¬ SomePastOffsets shape given
-  pub bytes : length (padded (buffers_of shape given)) ≤ most
+  pub short : ¬ SomeExcessData shape given
+  pub bytes : length (padded_bytes (buffers_of shape given)) ≤ most
 
 -- a growth of the builder's memory was refused earlier
 abbrev pub HasFailed : Builder → Type 0
@@ -143,4 +147,4 @@ HasFailed builder = builder.failed ≡ true
 abbrev pub HoldsAgreeing : Type 0
 HoldsAgreeing = (known others : Numbering) (limits : Limits) (fields : List Field)
     (rows : List (List Value)) (builder : Builder) → AgreeOn known others fields rows
-    → HasRows known limits fields rows builder → HasRows others limits fields rows builder
+    → StoresRows known limits fields rows builder → StoresRows others limits fields rows builder

@@ -77,8 +77,8 @@ abbrev pub items : Value → List Value
 items value = items_in (out-Value value)
 
 -- part j of a struct; null if there is none
-abbrev pub part : ℕ → Value → Value
-part j value = part_in j (out-Value value)
+abbrev pub struct_member : ℕ → Value → Value
+struct_member j value = part_in j (out-Value value)
 
 -- the items of each list, one after another
 abbrev pub all_items : List Value → List Value
@@ -102,7 +102,7 @@ all_fixed_items size (value ∷ values) = fixed_items size value ++ all_fixed_it
 -- part j of each struct
 abbrev pub all_parts : ℕ → List Value → List Value
 all_parts j [] = []
-all_parts j (value ∷ values) = part j value ∷ all_parts j values
+all_parts j (value ∷ values) = struct_member j value ∷ all_parts j values
 
 -- the bits of a number, in two's complement if it is signed; 0 for any other value
 abbrev pub number_bits : Value → ℕ
@@ -113,14 +113,14 @@ abbrev pub content : Value → List ℕ
 content value = bytes_in (out-Value value)
 
 -- the bytes of a binary value; `width` zeros for any other value
-abbrev pub fixed : ℕ → Value → List ℕ
-fixed width value = fixed_in width (out-Value value)
+abbrev pub fixed_bytes : ℕ → Value → List ℕ
+fixed_bytes width value = fixed_in width (out-Value value)
 
 -- the bytes of one slot: a number's low bytes, lowest first (Arrow Columnar Format, "Byte Order"),
 -- the bytes of a fixed width, or those of any length
 abbrev pub slot_bytes : ValueSlot → Value → List ℕ
 slot_bytes (p.Number bits) value = bytes_low_first 0 (number_bytes bits) (number_bits value)
-slot_bytes (p.Fixed width) value = fixed width value
+slot_bytes (p.Fixed width) value = fixed_bytes width value
 slot_bytes p.Content value = content value
 
 -- the slots of values, one after another

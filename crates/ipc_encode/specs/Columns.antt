@@ -10,7 +10,7 @@ use Rattle.ipc_model.specs.Layouts.{number_bytes}
 use Rattle.ipc_encode.specs.Pieces.{True, Number, Fixed, Content}
 use Rattle.ipc_encode.specs.Pieces as p
 use Rattle.ipc_encode.specs.Bitmaps.{bitmap}
-use Rattle.ipc_encode.specs.Cells.{flags, nulls, content, fixed, items, slots, offsets}
+use Rattle.ipc_encode.specs.Cells.{flags, nulls, content, fixed_bytes, items, slots, offsets}
 use Rattle.ipc_encode.specs.Buffers.{validity, piece_bytes}
 use Rattle.ipc_encode.specs.Numbers.{Numbering, indices_of}
 
@@ -69,22 +69,22 @@ indices_in indices (l.FixedLists size) values = []
 -- ---- lengths
 
 -- how much one value adds to the data of a column: bytes, or items of a list
-abbrev pub datum : Layout → Value → ℕ
-datum (l.Numbers bits signed) value = number_bytes bits
-datum (l.FixedBytes width) value = length (fixed width value)
-datum (l.VariableBytes utf8) value = length (content value)
-datum l.Lists value = length (items value)
-datum l.Null value = 0
-datum l.Bits value = 0
-datum l.Structs value = 0
-datum (l.FixedLists size) value = 0
-datum (l.Indices bits signed id) value = number_bytes bits
+abbrev pub value_len : Layout → Value → ℕ
+value_len (l.Numbers bits signed) value = number_bytes bits
+value_len (l.FixedBytes width) value = length (fixed_bytes width value)
+value_len (l.VariableBytes utf8) value = length (content value)
+value_len l.Lists value = length (items value)
+value_len l.Null value = 0
+value_len l.Bits value = 0
+value_len l.Structs value = 0
+value_len (l.FixedLists size) value = 0
+value_len (l.Indices bits signed id) value = number_bytes bits
 
 -- how much data the values of a column are: bytes, or items of lists; bits and slots without data
 -- count as 0
 abbrev pub data_in : Layout → List Value → ℕ
 data_in layout [] = 0
-data_in layout (value ∷ values) = datum layout value + data_in layout values
+data_in layout (value ∷ values) = value_len layout value + data_in layout values
 
 -- how many bytes n packed bits take
 abbrev pub bits_length : ℕ → ℕ
@@ -125,7 +125,7 @@ values_length (l.FixedLists size) count amount = 0
 values_length (l.Indices bits signed id) count amount = amount
 
 -- this amount of data is more than 32-bit offsets can address
-abbrev pub PassesOffsets : Layout → ℕ → Type 0
-PassesOffsets (l.VariableBytes utf8) amount = max_data < amount
-PassesOffsets l.Lists amount = max_data < amount
-PassesOffsets _ amount = ⊥
+abbrev pub ExceedsOffsets : Layout → ℕ → Type 0
+ExceedsOffsets (l.VariableBytes utf8) amount = max_data < amount
+ExceedsOffsets l.Lists amount = max_data < amount
+ExceedsOffsets _ amount = ⊥

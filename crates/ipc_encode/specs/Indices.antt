@@ -11,10 +11,10 @@ use Rattle.ipc_column.specs.Dictionaries.{Dictionaries, values_for}
 use Rattle.ipc_column.specs.Shapes.{Shape, bare, field, shape_of}
 use Rattle.ipc_encode.specs.Pieces.{Valid}
 use Rattle.ipc_encode.specs.Cells.{is_set}
-use Rattle.ipc_encode.specs.Buffers.{below, columns}
+use Rattle.ipc_encode.specs.Buffers.{child_values, row_columns}
 use Rattle.ipc_encode.specs.Numbers.{Numbering}
 
--- `Asked` holds for each value other than null in a column of indices, with their width and sign
+-- `JobKind` holds for each value other than null in a column of indices, with their width and sign
 -- and the dictionary's id; nothing is stated for other columns
 abbrev pub InColumn : (IntBits → Bool → ℤ → Value → Type 0) → Layout → List Value → Type 0
 InColumn Asked (l.Indices bits signed id) values =
@@ -28,15 +28,16 @@ InColumn Asked l.Lists values = ⊤
 InColumn Asked (l.FixedLists size) values = ⊤
 InColumn Asked l.Structs values = ⊤
 
--- `Asked` holds for the indices of each column and each column below it (`InColumn`)
+-- `JobKind` holds for the indices of each column and each column below it (`InColumn`)
 abbrev pub InColumns : (IntBits → Bool → ℤ → Value → Type 0) → Shape → (ℕ → List Value) → Type 0
 InColumns Asked bare given = ⊤
 InColumns Asked (field l children rest) given = InColumn Asked l (given 0)
-    × (InColumns Asked children (below l (given 0)) × InColumns Asked rest (λ j. given (suc j)))
+    × (InColumns Asked children (child_values l (given 0))
+    × InColumns Asked rest (λ j. given (suc j)))
 
--- `Asked` holds for the indices of the columns of rows (`InColumn`)
+-- `JobKind` holds for the indices of the columns of rows (`InColumn`)
 abbrev pub InRows : (IntBits → Bool → ℤ → Value → Type 0) → List Field → List (List Value) → Type 0
-InRows Asked fields rows = InColumns Asked (shape_of fields) (columns rows)
+InRows Asked fields rows = InColumns Asked (shape_of fields) (row_columns rows)
 
 -- an index is one of its type (Schema.fbs, DictionaryEncoding, `indexType`)
 abbrev pub IsIndexWithin : IntBits → Bool → ℕ → Type 0
@@ -44,14 +45,15 @@ IsIndexWithin bits true i = IsSignedWithin (width bits) (pos i)
 IsIndexWithin bits false i = IsUnsignedWithin (width bits) i
 
 -- the index of a value fits its type, and the value is at this index of its dictionary
-pub record Finds (m : Dictionaries) (indices : Numbering) (bits : IntBits) (signed : Bool) (id : ℤ)
+pub record FindsIndex (m : Dictionaries) (indices : Numbering) (bits : IntBits) (signed : Bool)
+    (id : ℤ)
     (value : Value) : Type 0 where
   pub within : IsIndexWithin bits signed (indices id value)
   pub found : slice_get (values_for m id) (indices id value) ≡ Some value
 
 -- under these dictionaries, each dictionary value of the rows is at its index
 abbrev pub FindsRows : Dictionaries → Numbering → List Field → List (List Value) → Type 0
-FindsRows m indices = InRows (Finds m indices)
+FindsRows m indices = InRows (FindsIndex m indices)
 
 -- both numberings give each dictionary value of the rows the same index
 abbrev pub AgreeOn : Numbering → Numbering → List Field → List (List Value) → Type 0

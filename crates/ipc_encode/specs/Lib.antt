@@ -10,10 +10,10 @@ pub mod Built
 pub mod Numbers
 pub mod Indices
 pub mod Faults
-pub mod CountedColumns
+pub mod ColumnSizes
 pub mod Marks
-pub mod Lying
+pub mod WholeColumns
 pub mod PlainColumns
 pub mod EntryIndices
 pub mod Segments
-pub mod Misfits
+pub mod Mismatches

@@ -9,7 +9,7 @@ use Rattle.ipc_model.specs.declared.layout.Layout.TheVariants as l
 use Rattle.ipc_encode.specs.Pieces.{Content}
 use Rattle.ipc_column.specs.Shapes.{Shape, bare, field, shape_of}
 use Rattle.ipc_encode.specs.Cells.{slots, all_items}
-use Rattle.ipc_encode.specs.Buffers.{below, columns, body_of}
+use Rattle.ipc_encode.specs.Buffers.{child_values, row_columns, rows_body}
 use Rattle.ipc_model.specs.Limits.{max_data}
 use Rattle.ipc_model.specs.declared.limits.Limits.{Limits}
 
@@ -17,14 +17,14 @@ use Rattle.ipc_model.specs.declared.limits.Limits.{Limits}
 abbrev pub HasLongNode : ℕ → Shape → (ℕ → List Value) → Type 0
 HasLongNode most bare given = ⊥
 HasLongNode most (field l children rest) given =
-    (most < length (given 0)) ⊎ (HasLongNode most children (below l (given 0))
+    (most < length (given 0)) ⊎ (HasLongNode most children (child_values l (given 0))
     ⊎ HasLongNode most rest (λ j. given (suc j)))
 
 -- the property holds for one of the columns, or for a column below it, with its layout and values
 abbrev pub SomeColumn : (Layout → List Value → Type 0) → Shape → (ℕ → List Value) → Type 0
 SomeColumn Property bare given = ⊥
 SomeColumn Property (field l children rest) given =
-    Property l (given 0) ⊎ (SomeColumn Property children (below l (given 0))
+    Property l (given 0) ⊎ (SomeColumn Property children (child_values l (given 0))
     ⊎ SomeColumn Property rest (λ j. given (suc j)))
 
 -- there are more bytes of binary or UTF-8 data than a 32-bit offset can address (Arrow Columnar
@@ -43,44 +43,44 @@ HasLongItems _ values = ⊥
 -- of lists than a child can have slots (`HasLongItems`)
 abbrev pub IsTooMany : Limits → List Field → List (List Value) → Type 0
 IsTooMany limits fields rows = (limits.slots < length rows)
-    ⊎ (HasLongNode limits.slots (shape_of fields) (columns rows)
-    ⊎ SomeColumn HasLongItems (shape_of fields) (columns rows))
+    ⊎ (HasLongNode limits.slots (shape_of fields) (row_columns rows)
+    ⊎ SomeColumn HasLongItems (shape_of fields) (row_columns rows))
 
 -- a column of binary or UTF-8 data has more of it than offsets can address (`HasLongData`), or the
 -- body would be too long
-abbrev pub IsTooLong : Limits → List Field → List (List Value) → Type 0
-IsTooLong limits fields rows = SomeColumn HasLongData (shape_of fields) (columns rows)
-    ⊎ (limits.body < length (body_of fields rows))
+abbrev pub AreColumnsTooLong : Limits → List Field → List (List Value) → Type 0
+AreColumnsTooLong limits fields rows = SomeColumn HasLongData (shape_of fields) (row_columns rows)
+    ⊎ (limits.body < length (rows_body fields rows))
 
 -- there is more data than 32-bit offsets can address: bytes (`HasLongData`), or items of lists
 -- (`HasLongItems`)
-abbrev pub IsPastOffsets : Layout → List Value → Type 0
-IsPastOffsets (l.VariableBytes utf8) values = max_data < length (slots Content values)
-IsPastOffsets l.Null values = ⊥
-IsPastOffsets l.Bits values = ⊥
-IsPastOffsets (l.Numbers bits signed) values = ⊥
-IsPastOffsets (l.FixedBytes width) values = ⊥
-IsPastOffsets l.Lists values = max_data < length (all_items values)
-IsPastOffsets l.Structs values = ⊥
-IsPastOffsets (l.FixedLists size) values = ⊥
-IsPastOffsets (l.Indices bits signed id) values = ⊥
+abbrev pub HasExcessData : Layout → List Value → Type 0
+HasExcessData (l.VariableBytes utf8) values = max_data < length (slots Content values)
+HasExcessData l.Null values = ⊥
+HasExcessData l.Bits values = ⊥
+HasExcessData (l.Numbers bits signed) values = ⊥
+HasExcessData (l.FixedBytes width) values = ⊥
+HasExcessData l.Lists values = max_data < length (all_items values)
+HasExcessData l.Structs values = ⊥
+HasExcessData (l.FixedLists size) values = ⊥
+HasExcessData (l.Indices bits signed id) values = ⊥
 
 -- one of the columns, or a column below it, has more data than offsets can address
-abbrev pub SomePastOffsets : Shape → (ℕ → List Value) → Type 0
-SomePastOffsets bare given = ⊥
-SomePastOffsets (field l children rest) given =
-    IsPastOffsets l (given 0) ⊎ (SomePastOffsets children (below l (given 0))
-    ⊎ SomePastOffsets rest (λ j. given (suc j)))
+abbrev pub SomeExcessData : Shape → (ℕ → List Value) → Type 0
+SomeExcessData bare given = ⊥
+SomeExcessData (field l children rest) given =
+    HasExcessData l (given 0) ⊎ (SomeExcessData children (child_values l (given 0))
+    ⊎ SomeExcessData rest (λ j. given (suc j)))
 
 -- the rows are within the limits
 pub record IsWithin (limits : Limits) (fields : List Field) (rows : List
     (List Value)) : Type 0 where
   pub few : ¬ IsTooMany limits fields rows
-  pub short : ¬ IsTooLong limits fields rows
+  pub short : ¬ AreColumnsTooLong limits fields rows
 
 -- why rows are not written: W6 or W8 with its cause, or out of memory
-abbrev pub IsRefused : Limits → List Field → List (List Value) → WriteFault → Type 0
-IsRefused limits fields rows fault.TooLong = IsTooLong limits fields rows
-IsRefused limits fields rows fault.TooManyRows = IsTooMany limits fields rows
-IsRefused limits fields rows fault.OutOfMemory = ⊤
-IsRefused limits fields rows _ = ⊥
+abbrev pub AreRowsRefused : Limits → List Field → List (List Value) → WriteFault → Type 0
+AreRowsRefused limits fields rows fault.TooLong = AreColumnsTooLong limits fields rows
+AreRowsRefused limits fields rows fault.TooManyRows = IsTooMany limits fields rows
+AreRowsRefused limits fields rows fault.OutOfMemory = ⊤
+AreRowsRefused limits fields rows _ = ⊥

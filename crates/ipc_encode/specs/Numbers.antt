@@ -14,21 +14,21 @@ number_or (Some number) other = number
 number_or None other = other
 
 -- the index of each value, or 0 if it has none
-abbrev pub told : (ℤ → Value → Option ℕ) → Numbering
-told index id value = number_or (index id value) 0
+abbrev pub index_or_zero : (ℤ → Value → Option ℕ) → Numbering
+index_or_zero index id value = number_or (index id value) 0
 
 -- each index replaced by its new number, if it has one
-abbrev pub renumbered : (ℤ → ℕ → Option ℕ) → Numbering → Numbering
-renumbered number indices id value = number_or (number id (indices id value)) (indices id value)
+abbrev pub new_indices : (ℤ → ℕ → Option ℕ) → Numbering → Numbering
+new_indices number indices id value = number_or (number id (indices id value)) (indices id value)
 
 -- i, as the index of a value other than null; null has none
-abbrev pub index_in : ℕ → Value-F Value → Option ℕ
-index_in i Value-F.Null = None
-index_in i _ = Some i
+abbrev pub index_unless_null : ℕ → Value-F Value → Option ℕ
+index_unless_null i Value-F.Null = None
+index_unless_null i _ = Some i
 
 -- the index of a value; null has none
 abbrev pub index_of : (Value → ℕ) → Value → Option ℕ
-index_of indices value = index_in (indices value) (out-Value value)
+index_of indices value = index_unless_null (indices value) (out-Value value)
 
 -- the index of each value
 abbrev pub indices_of : (Value → ℕ) → List Value → List (Option ℕ)
@@ -44,9 +44,9 @@ abbrev pub numbers_of : (Value → ℕ) → List Value → List Value
 numbers_of indices values = map as_number (indices_of indices values)
 
 -- one index replaced by its new number, if it has one
-abbrev pub changed : (ℕ → Option ℕ) → Option ℕ → Option ℕ
-changed number (Some i) = Some (number_or (number i) i)
-changed number None = None
+abbrev pub new_index : (ℕ → Option ℕ) → Option ℕ → Option ℕ
+new_index number (Some i) = Some (number_or (number i) i)
+new_index number None = None
 
 -- the numbering with index 0 for every value
 abbrev pub no_indices : Numbering

@@ -7,18 +7,18 @@ use Rattle.ipc_model.specs.declared.schema.DateUnit.TheVariants.{Day, Millisecon
 -- every value that a slot of the type's layout can have is one of the type. This is not so for a
 -- date in milliseconds (a whole day) or a time (below 24 hours); the null type and types with
 -- children are not plain
-abbrev pub is_plain : DataType → Bool
-is_plain t.Bool = true
-is_plain (t.Int bits signed) = true
-is_plain t.Binary = true
-is_plain t.Utf8 = true
-is_plain (t.FixedSizeBinary size) = true
-is_plain (t.Date Day) = true
-is_plain (t.Date Millisecond) = false
-is_plain (t.Timestamp unit timezone) = true
-is_plain (t.Duration unit) = true
-is_plain (t.Time unit) = false
-is_plain t.Null = false
-is_plain t.List = false
-is_plain (t.FixedSizeList size) = false
-is_plain t.Struct = false
+abbrev pub layout_implies_type : DataType → Bool
+layout_implies_type t.Bool = true
+layout_implies_type (t.Int bits signed) = true
+layout_implies_type t.Binary = true
+layout_implies_type t.Utf8 = true
+layout_implies_type (t.FixedSizeBinary size) = true
+layout_implies_type (t.Date Day) = true
+layout_implies_type (t.Date Millisecond) = false
+layout_implies_type (t.Timestamp unit timezone) = true
+layout_implies_type (t.Duration unit) = true
+layout_implies_type (t.Time unit) = false
+layout_implies_type t.Null = false
+layout_implies_type t.List = false
+layout_implies_type (t.FixedSizeList size) = false
+layout_implies_type t.Struct = false

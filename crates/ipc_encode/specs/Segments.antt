@@ -10,10 +10,10 @@ use Rattle.ipc_encode.specs.declared.segments.Segment.{Segment}
 use Rattle.ipc_encode.specs.declared.segments.Segment.TheVariants as segment
 use Rattle.ipc_encode.specs.declared.segments.SegmentedParts.{SegmentedParts}
 use Rattle.ipc_encode.specs.declared.segments.SegmentedDraft.{SegmentedDraft}
-use Rattle.ipc_encode.specs.Buffers.{body_with, buffers_of, buffers_with, nodes_of, padded}
+use Rattle.ipc_encode.specs.Buffers.{body_with, buffers_of, buffers_with, nodes_of, padded_bytes}
 use Rattle.ipc_encode.specs.Buffers.{ranges_from, row_buffers_with, row_nodes}
 use Rattle.ipc_encode.specs.Limits.{HasLongData, HasLongItems, HasLongNode, SomeColumn}
-use Rattle.ipc_encode.specs.Limits.{SomePastOffsets}
+use Rattle.ipc_encode.specs.Limits.{SomeExcessData}
 use Rattle.ipc_encode.specs.Numbers.{Numbering}
 use Rattle.ipc_encode.specs.Writing.{AllStored}
 
@@ -24,15 +24,16 @@ segment_bytes (segment.Owned bytes) = bytes.items
 segment_bytes (segment.Zeros count) = replicate count 0
 
 -- the bytes of segments, one after another
-abbrev pub joined : List Segment → List ℕ
-joined [] = []
-joined (one ∷ more) = segment_bytes one ++ joined more
+abbrev pub bytes_of_segments : List Segment → List ℕ
+bytes_of_segments [] = []
+bytes_of_segments (one ∷ more) = segment_bytes one ++ bytes_of_segments more
 
 -- the draft has these buffers more, after those it had
 pub record AddsBuffers (old new : SegmentedDraft) (bs : List (List ℕ)) : Type 0 where
   pub buffers : new.buffers.items ≡ old.buffers.items ++ ranges_from old.len bs
-  pub body : joined new.segments.items ≡ joined old.segments.items ++ padded bs
-  pub len : new.len ≡ old.len + length (padded bs)
+  pub body : bytes_of_segments new.segments.items ≡ bytes_of_segments old.segments.items
+      ++ padded_bytes bs
+  pub len : new.len ≡ old.len + length (padded_bytes bs)
 
 -- the draft has the nodes and the buffers of columns of this shape with these values more; they are
 -- within the limits, and their texts are UTF-8
@@ -41,7 +42,7 @@ pub record AddsColumns (limits : Limits) (indices : Numbering) (shape : Shape)
   pub nodes : new.nodes.items ≡ old.nodes.items ++ nodes_of shape given
   pub buffers : AddsBuffers old new (buffers_with indices shape given)
   pub few : ¬ HasLongNode limits.slots shape given
-  pub short : ¬ SomePastOffsets shape given
+  pub short : ¬ SomeExcessData shape given
   pub stored : AllStored shape given
   pub body : new.len ≤ limits.body
 
@@ -57,7 +58,7 @@ IsBodyRefused limits len fault.Failed = ⊥
 -- slots or items of lists, more bytes than offsets can address or a body may have, or out of memory
 abbrev pub AreRefusedAfter : Limits → ℕ → Shape → (ℕ → List Value) → PushFault → Type 0
 AreRefusedAfter limits len shape given fault.TooLong = SomeColumn HasLongData shape given
-    ⊎ (limits.body < len + length (padded (buffers_of shape given)))
+    ⊎ (limits.body < len + length (padded_bytes (buffers_of shape given)))
 AreRefusedAfter limits len shape given fault.TooMany =
     HasLongNode limits.slots shape given ⊎ SomeColumn HasLongItems shape given
 AreRefusedAfter limits len shape given fault.OutOfMemory = ⊤
@@ -70,5 +71,5 @@ pub record AreSegmented (indices : Numbering) (fields : List Field) (rows : List
     (parts : SegmentedParts) : Type 0 where
   pub nodes : parts.nodes ≡ row_nodes fields rows
   pub buffers : parts.buffers ≡ ranges_from 0 (row_buffers_with indices fields rows)
-  pub body : joined parts.segments.items ≡ body_with indices fields rows
+  pub body : bytes_of_segments parts.segments.items ≡ body_with indices fields rows
   pub len : parts.len ≡ length (body_with indices fields rows)

@@ -4,7 +4,7 @@ use Rattle.std.specs.Prelude.{ℕ, suc, ◌+◌, ◌-◌, ◌*◌, ◌^◌, min,
 use Rattle.ipc_model.specs.declared.schema.Field.{Field}
 use Rattle.ipc_model.specs.declared.value.Value.{Value}
 use Rattle.ipc_column.specs.Shapes.{Shape, bare, field, field_children, field_layout, shape_of}
-use Rattle.ipc_encode.specs.Buffers.{below}
+use Rattle.ipc_encode.specs.Buffers.{child_values}
 use Rattle.ipc_encode.specs.Cells.{cell}
 use Rattle.ipc_encode.specs.Columns.{data_in}
 
@@ -13,7 +13,8 @@ use Rattle.ipc_encode.specs.Columns.{data_in}
 abbrev pub weight_of : ℕ → Shape → (ℕ → List Value) → ℕ
 weight_of each bare given = 0
 weight_of each (field l children rest) given =
-    each + 6 * length (given 0) + data_in l (given 0) + weight_of each children (below l (given 0))
+    each + 6 * length (given 0) + data_in l (given 0) + weight_of each children
+    (child_values l (given 0))
     + weight_of each rest (λ j. given (suc j))
 
 -- the weight of values of one field

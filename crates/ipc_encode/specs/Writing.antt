@@ -9,7 +9,7 @@ use Rattle.ipc_model.specs.declared.layout.Layout.TheVariants as l
 use Rattle.ipc_encode.specs.declared.parts.Draft.{Draft}
 use Rattle.ipc_column.specs.Shapes.{Shape, bare, field}
 use Rattle.ipc_encode.specs.Cells.{HasUtf8}
-use Rattle.ipc_encode.specs.Buffers.{below, padded, ranges_from, row_nodes}
+use Rattle.ipc_encode.specs.Buffers.{child_values, padded_bytes, ranges_from, row_nodes}
 use Rattle.ipc_encode.specs.Buffers.{row_buffers_with, body_with}
 use Rattle.ipc_encode.specs.Numbers.{Numbering}
 
@@ -29,13 +29,13 @@ AreStored (l.Indices bits signed id) values = ⊤
 abbrev pub AllStored : Shape → (ℕ → List Value) → Type 0
 AllStored bare given = ⊤
 AllStored (field l children rest) given =
-    AreStored l (given 0) × (AllStored children (below l (given 0))
+    AreStored l (given 0) × (AllStored children (child_values l (given 0))
     × AllStored rest (λ j. given (suc j)))
 
 -- the draft has these buffers more, after those it had
 pub record Adds (old new : Draft) (bs : List (List ℕ)) : Type 0 where
   pub buffers : new.buffers.items ≡ old.buffers.items ++ ranges_from (length old.body.items) bs
-  pub body : new.body.items ≡ old.body.items ++ padded bs
+  pub body : new.body.items ≡ old.body.items ++ padded_bytes bs
 
 -- the draft has the nodes, the buffers and the body of the rows with these indices
 pub record IsDrafted (indices : Numbering) (fields : List Field) (rows : List (List Value))

@@ -7,8 +7,8 @@ ghost use Rattle.ipc_column.specs.Dictionaries.{Dictionaries};
 ghost use Rattle.ipc_column.specs.Rows.{Rows};
 ghost use Rattle.ipc_encode.specs.Buffers.{AreLaidOut};
 ghost use Rattle.ipc_encode.specs.Indices.{FindsRows};
-ghost use Rattle.ipc_encode.specs.Limits.{IsWithin, IsRefused};
-ghost use Rattle.ipc_encode.specs.Numbers.{told};
+ghost use Rattle.ipc_encode.specs.Limits.{IsWithin, AreRowsRefused};
+ghost use Rattle.ipc_encode.specs.Numbers.{index_or_zero};
 
 use crate::builder::Builder;
 use crate::index::{IndexOf, SameNumbers};
@@ -46,7 +46,7 @@ pub fn encode<I: IndexOf>(
     requires conform { AllByRecursion (RowFits fields.now) rows.now }
     // The parts give these rows back under each map in which the indices find their values.
     ensures rows { (m : Dictionaries)
-        → FindsRows m (told (I.IndexOf.index indices.now)) fields.now rows.now
+        → FindsRows m (index_or_zero (I.IndexOf.index indices.now)) fields.now rows.now
         → IfOk result (λ parts. Rows limits.now m fields.now (record {
           length = pos (length rows.now);
           nodes = parts.nodes;
@@ -54,12 +54,12 @@ pub fn encode<I: IndexOf>(
         }) parts.body.items rows.now) }
     // They are one list of nodes, buffers and bytes.
     ensures laid_out { IfOk result
-        (AreLaidOut (told (I.IndexOf.index indices.now)) fields.now rows.now) }
+        (AreLaidOut (index_or_zero (I.IndexOf.index indices.now)) fields.now rows.now) }
     // What is written is within the limits.
     ensures within { IfOk result (λ parts. IsWithin limits.now fields.now rows.now) }
     ensures body { IfOk result (λ parts. length parts.body.items ≤ limits.now.body) }
     // A refusal is true of the rows.
-    ensures refused { IfErr result (IsRefused limits.now fields.now rows.now) }
+    ensures refused { IfErr result (AreRowsRefused limits.now fields.now rows.now) }
 {
     Builder::of_rows(alloc, fields, limits, rows, indices)?.finish(&SameNumbers)
 }

@@ -3,20 +3,20 @@ ghost use Rattle.std.specs.Prelude.{◌≡◌, ◌≤◌, ◌<◌, ◌+◌, ◌*
 ghost use Rattle.std.specs.Prelude.{slice_index, take};
 ghost use Rattle.std.specs.List.{AllByRecursion};
 ghost use Rattle.ipc_scalar.specs.Bytes.{num};
-ghost use Rattle.ipc_column.specs.Nested.{alone, slot_values};
+ghost use Rattle.ipc_column.specs.Nested.{only_column, slot_values};
 ghost use Rattle.ipc_column.specs.Rules.{SpellsTexts};
 ghost use Rattle.ipc_column.specs.Values.{is_valid};
 ghost use Rattle.ipc_encode.specs.Cells.{HasUtf8, ends, slots};
 ghost use Rattle.ipc_encode.specs.Marks.{HasBits, MarksNulls};
 ghost use Rattle.ipc_encode.specs.Pieces.{Bytes, Content, Fixed};
 
-use crate::marks::{count_nulls, is_marked_valid};
+use crate::bitmap_pushing::{count_nulls, is_valid_in_bitmap};
 use ipc_column::SlotView;
 use ipc_model::Layout;
 use ipc_scalar::get_u32;
 
 /// Returns the validity bitmap of a column, if it marks exactly the null slots.
-pub(crate) fn lent_marks<'a>(view: &SlotView<'a>) -> Option<&'a [u8]>
+pub(crate) fn borrowed_bitmap<'a>(view: &SlotView<'a>) -> Option<&'a [u8]>
     ensures marks { IfSome result (λ marks. MarksNulls marks.now (slot_values view.now)) }
     ensures bits { IfSome result (λ marks. HasBits marks.now (length (slot_values view.now))) }
 {
@@ -29,7 +29,7 @@ pub(crate) fn lent_marks<'a>(view: &SlotView<'a>) -> Option<&'a [u8]>
 
 /// The texts or binary values of a column, as they are laid out in the body.
 #[derive(Clone, Copy, Debug, Drop)]
-pub(crate) struct LentContents<'a> {
+pub(crate) struct BorrowedContents<'a> {
     /// The bytes of the values, one after another.
     pub(crate) bytes: &'a [u8],
     /// The offset at which the first value begins.
@@ -56,7 +56,7 @@ pub(crate) fn nulls_are_empty(marks: &[u8], offsets: &[u8], count: usize) -> boo
     ensures bytes { (i : ℕ) → slice_index offsets.now i < 256 }
 {
     for slot in 0..count {
-        if !is_marked_valid(marks, slot)
+        if !is_valid_in_bitmap(marks, slot)
             && offset_at(offsets, slot + 1) != offset_at(offsets, slot)
         {
             return false;
@@ -66,7 +66,7 @@ pub(crate) fn nulls_are_empty(marks: &[u8], offsets: &[u8], count: usize) -> boo
 }
 
 /// Returns the texts or binary values of a column, if null slots have no bytes.
-pub(crate) fn lent_contents<'a>(view: &SlotView<'a>) -> Option<LentContents<'a>>
+pub(crate) fn borrowed_contents<'a>(view: &SlotView<'a>) -> Option<BorrowedContents<'a>>
     ensures bytes { IfSome result
         (λ lent. lent.bytes.now ≡ slots Content (slot_values view.now)) }
     ensures ends { IfSome result
@@ -76,7 +76,8 @@ pub(crate) fn lent_contents<'a>(view: &SlotView<'a>) -> Option<LentContents<'a>>
         ≡ lent.start + length (slots Content (take (i + 1) (slot_values view.now)))) }
     ensures room { IfSome result
         (λ lent. length lent.ends.now ≡ 4 * length (slot_values view.now)) }
-    ensures texts { ((i : ℕ) → i < length (slot_values view.now) → SpellsTexts (alone view.now) i)
+    ensures texts { ((i : ℕ) → i < length (slot_values view.now)
+        → SpellsTexts (only_column view.now) i)
         → IfSome result (λ lent. AllByRecursion HasUtf8 (slot_values view.now)) }
 {
     let buffers = view.buffers();
@@ -89,7 +90,7 @@ pub(crate) fn lent_contents<'a>(view: &SlotView<'a>) -> Option<LentContents<'a>>
     }
     let start = offset_at(buffers.offsets, 0) as usize;
     let end = offset_at(buffers.offsets, count) as usize;
-    Some(LentContents {
+    Some(BorrowedContents {
         bytes: &buffers.values[start..end],
         start,
         ends: &buffers.offsets[4..4 * (count + 1)],
@@ -97,7 +98,7 @@ pub(crate) fn lent_contents<'a>(view: &SlotView<'a>) -> Option<LentContents<'a>>
 }
 
 /// Returns the bytes of slots of a fixed width, if none of them is null.
-pub(crate) fn lent_widths<'a>(view: &SlotView<'a>, width: u32) -> Option<&'a [u8]>
+pub(crate) fn borrowed_fixed_values<'a>(view: &SlotView<'a>, width: u32) -> Option<&'a [u8]>
     ensures { IfSome result
         (λ bytes. bytes.now ≡ slots (Fixed width) (slot_values view.now)) }
 {

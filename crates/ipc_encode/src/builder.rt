@@ -10,26 +10,27 @@ ghost use Rattle.ipc_model.specs.declared.value.Value.{Value};
 ghost use Rattle.ipc_column.specs.Dictionaries.{Dictionaries};
 ghost use Rattle.ipc_column.specs.Rows.{Rows};
 ghost use Rattle.ipc_column.specs.Shapes.{Shape, shape_of};
-ghost use Rattle.ipc_encode.specs.Buffers.{AreLaidOut, columns};
+ghost use Rattle.ipc_encode.specs.Buffers.{AreLaidOut, row_columns};
 ghost use Rattle.ipc_encode.specs.Writing.{IsDrafted};
-ghost use Rattle.ipc_encode.specs.Limits.{IsRefused, IsTooLong, IsWithin};
-ghost use Rattle.ipc_encode.specs.Built.{AreColumns, ArePushesRefused, AreWithin, HasFailed};
-ghost use Rattle.ipc_encode.specs.Built.{HasRows};
+ghost use Rattle.ipc_encode.specs.Limits.{AreRowsRefused, AreColumnsTooLong, IsWithin};
+ghost use Rattle.ipc_encode.specs.Built.{HoldColumns, ArePushesRefused, AreColumnsWithin};
+ghost use Rattle.ipc_encode.specs.Built.{HasFailed};
+ghost use Rattle.ipc_encode.specs.Built.{StoresRows};
 ghost use Rattle.ipc_encode.specs.Built.{HoldsAgreeing};
 ghost use Rattle.ipc_encode.specs.Indices.{FindsRows};
-ghost use Rattle.ipc_encode.specs.Numbers.{Numbering, renumbered, told};
+ghost use Rattle.ipc_encode.specs.Numbers.{Numbering, new_indices, index_or_zero};
 ghost use Rattle.ipc_encode.specs.Faults.{write_fault};
 ghost use Rattle.ipc_encode.specs.Weights.{capped, row_weight};
 
-use crate::column::Purpose;
+use crate::buffer_pool::BufferPool;
+use crate::column_builder::Purpose;
 use crate::fault::PushFault;
-use crate::fitting::{fit, remaining_all};
-use crate::fresh::new_nodes;
+use crate::fitting::{check_fit, remaining_all};
 use crate::headroom::headroom;
 use crate::index::{IndexOf, Renumber};
+use crate::new_nodes::new_nodes;
 use crate::node::Node;
 use crate::parts::{Draft, Parts, add_nodes};
-use crate::room::Room;
 use crate::tree::take_parts;
 use ipc_model::{Field, Items, Limits, Row, Value, WriteFault};
 use std::alloc::{AllocError, Global};
@@ -55,11 +56,12 @@ pub struct Builder {
 // Whether the buffers of the columns are within a body.
 fn check_len(nodes: &[Node], limits: &Limits) -> Result<(), WriteFault>
     ensures within { (known : Numbering) (fields : List Field) (rows : List (List Value))
-        → AreColumns known limits.now (shape_of fields) nodes.now (columns rows)
-        → OnOk result (¬ IsTooLong limits.now fields rows) }
+        → HoldColumns known limits.now (shape_of fields) nodes.now (row_columns rows)
+        → OnOk result (¬ AreColumnsTooLong limits.now fields rows) }
     ensures refused { (known : Numbering) (fields : List Field) (rows : List (List Value))
-        → AreColumns known limits.now (shape_of fields) nodes.now (columns rows)
-        → IfErr result (λ fault. (fault ≡ WriteFault.TooLong) × IsTooLong limits.now fields rows) }
+        → HoldColumns known limits.now (shape_of fields) nodes.now (row_columns rows)
+        → IfErr result (λ fault. (fault ≡ WriteFault.TooLong)
+        × AreColumnsTooLong limits.now fields rows) }
 {
     match remaining_all(nodes, Purpose::Keep, limits.body) {
         Some(_) => Ok(()),
@@ -75,12 +77,15 @@ fn push_rows<I: IndexOf>(
     indices: &I,
 ) -> Result<(), PushFault>
     ensures pushed { (shape : Shape)
-        → AreColumns (told (I.IndexOf.index indices.now)) limits.now shape nodes.old (λ j. [])
-        → OnOk result (AreColumns (told (I.IndexOf.index indices.now)) limits.now shape nodes.new
-        (columns rows.now)) }
+        → HoldColumns (index_or_zero (I.IndexOf.index indices.now)) limits.now shape nodes.old
+        (λ j. [])
+        → OnOk result (HoldColumns (index_or_zero (I.IndexOf.index indices.now)) limits.now shape
+        nodes.new
+        (row_columns rows.now)) }
     ensures refused { (shape : Shape)
-        → AreColumns (told (I.IndexOf.index indices.now)) limits.now shape nodes.old (λ j. [])
-        → IfErr result (ArePushesRefused limits.now shape (columns rows.now)) }
+        → HoldColumns (index_or_zero (I.IndexOf.index indices.now)) limits.now shape nodes.old
+        (λ j. [])
+        → IfErr result (ArePushesRefused limits.now shape (row_columns rows.now)) }
 {
     for row in rows {
         take_parts(row.as_slice(), nodes, Purpose::Keep, limits, indices)?;
@@ -97,8 +102,8 @@ fn join<N: Renumber>(
 ) -> Result<Draft, AllocError>
     ensures { (known : Numbering) (limits : Limits) (fields : List Field)
         (rows : List (List Value))
-        → AreColumns known limits (shape_of fields) nodes.now (columns rows)
-        → IfOk result (IsDrafted (renumbered (N.Renumber.number numbers.now) known) fields rows) }
+        → HoldColumns known limits (shape_of fields) nodes.now (row_columns rows)
+        → IfOk result (IsDrafted (new_indices (N.Renumber.number numbers.now) known) fields rows) }
 {
     body.clear();
     let mut draft = Draft {
@@ -117,26 +122,28 @@ impl Builder {
     /// Errors: W6 `TooLong` if the buffers of zero rows already have more than `limits.body` bytes;
     /// W11 `OutOfMemory` if memory for a list ran out.
     pub fn new(alloc: Global, fields: &[Field], limits: &Limits) -> Result<Builder, WriteFault>
-        ensures rows { (known : Numbering) → IfOk result (HasRows known limits.now fields.now []) }
-        ensures refused { IfErr result (IsRefused limits.now fields.now []) }
+        ensures rows { (known : Numbering) → IfOk result
+            (StoresRows known limits.now fields.now []) }
+        ensures refused { IfErr result (AreRowsRefused limits.now fields.now []) }
     {
-        Builder::with_room(alloc, fields, limits, Room::new(alloc))
+        Builder::with_pool(alloc, fields, limits, BufferPool::new(alloc))
     }
 
     /// Creates a builder without rows in the memory of a batch that was finished before. None of
     /// that batch's rows are in this one.
     ///
     /// The requirements and the errors are those of `Builder::new`.
-    pub fn with_room(
+    pub fn with_pool(
         alloc: Global,
         fields: &[Field],
         limits: &Limits,
-        room: Room,
+        room: BufferPool,
     ) -> Result<Builder, WriteFault>
-        ensures rows { (known : Numbering) → IfOk result (HasRows known limits.now fields.now []) }
-        ensures refused { IfErr result (IsRefused limits.now fields.now []) }
+        ensures rows { (known : Numbering) → IfOk result
+            (StoresRows known limits.now fields.now []) }
+        ensures refused { IfErr result (AreRowsRefused limits.now fields.now []) }
     {
-        let Room { nodes, body } = room;
+        let BufferPool { nodes, body } = room;
         let nodes = new_nodes(fields, nodes, alloc)?;
         check_len(&nodes, limits)?;
         Ok(Builder {
@@ -158,8 +165,9 @@ impl Builder {
         indices: &I,
     ) -> Result<Builder, WriteFault>
         ensures rows { IfOk result
-            (HasRows (told (I.IndexOf.index indices.now)) limits.now fields.now rows.now) }
-        ensures refused { IfErr result (IsRefused limits.now fields.now rows.now) }
+            (StoresRows (index_or_zero (I.IndexOf.index indices.now)) limits.now fields.now
+            rows.now) }
+        ensures refused { IfErr result (AreRowsRefused limits.now fields.now rows.now) }
     {
         if rows.len() > limits.slots as usize {
             return Err(WriteFault::TooManyRows);
@@ -181,7 +189,7 @@ impl Builder {
     pub fn row_count(&self) -> usize
         ensures { (known : Numbering) (limits : Limits) (fields : List Field)
             (rows : List (List Value))
-            → HasRows known limits fields rows self.now → result ≡ length rows }
+            → StoresRows known limits fields rows self.now → result ≡ length rows }
     {
         self.rows
     }
@@ -208,18 +216,18 @@ impl Builder {
     pub fn fits(&mut self, row: &[Value], weight: u64) -> Result<(), PushFault>
         ensures within { (known : Numbering) (limits : Limits) (fields : List Field)
             (rows : List (List Value))
-            → HasRows known limits fields rows self.old
+            → StoresRows known limits fields rows self.old
             → capped (row_weight fields row.now) ≤ weight
             → OnOk result (IsWithin limits fields (rows ++ row.now ∷ [])) }
         ensures refused { (known : Numbering) (limits : Limits) (fields : List Field)
             (rows : List (List Value))
-            → HasRows known limits fields rows self.old
-            → IfErr result (λ fault. IsRefused limits fields (rows ++ row.now ∷ [])
+            → StoresRows known limits fields rows self.old
+            → IfErr result (λ fault. AreRowsRefused limits fields (rows ++ row.now ∷ [])
             (write_fault fault) × ¬ (fault ≡ PushFault.OutOfMemory)) }
         ensures kept { (known : Numbering) (limits : Limits) (fields : List Field)
             (rows : List (List Value))
-            → HasRows known limits fields rows self.old
-            → HasRows known limits fields rows self.new }
+            → StoresRows known limits fields rows self.old
+            → StoresRows known limits fields rows self.new }
         ensures room { OnOk result (self.new.rows < self.new.limits.slots) }
         ensures failed { HasFailed self.old → result ≡ Err PushFault.Failed }
         ensures still_failed { HasFailed self.old → HasFailed self.new }
@@ -244,23 +252,23 @@ impl Builder {
         requires { self.old.rows < self.old.limits.slots }
         ensures within { (known : Numbering) (limits : Limits) (fields : List Field)
             (rows : List (List Value))
-            → HasRows known limits fields rows self.old
+            → StoresRows known limits fields rows self.old
             → OnOk result (IsWithin limits fields (rows ++ row.now ∷ [])) }
         ensures refused { (known : Numbering) (limits : Limits) (fields : List Field)
             (rows : List (List Value))
-            → HasRows known limits fields rows self.old
-            → IfErr result (λ fault. IsRefused limits fields (rows ++ row.now ∷ [])
+            → StoresRows known limits fields rows self.old
+            → IfErr result (λ fault. AreRowsRefused limits fields (rows ++ row.now ∷ [])
             (write_fault fault) × ¬ (fault ≡ PushFault.OutOfMemory)) }
         ensures kept { (known : Numbering) (limits : Limits) (fields : List Field)
             (rows : List (List Value))
-            → HasRows known limits fields rows self.old
-            → HasRows known limits fields rows self.new }
+            → StoresRows known limits fields rows self.old
+            → StoresRows known limits fields rows self.new }
         ensures rows { self.new.rows ≡ self.old.rows }
         ensures limits { self.new.limits ≡ self.old.limits }
         ensures failed { self.new.failed ≡ self.old.failed }
     {
         self.headroom = headroom(&self.nodes, &self.limits);
-        fit(&mut self.nodes, row, &self.limits)
+        check_fit(&mut self.nodes, row, &self.limits)
     }
 
     /// Adds one row. For each value other than null in a field with a dictionary it looks up the
@@ -279,21 +287,22 @@ impl Builder {
         indices: &I,
     ) -> Result<(), PushFault>
         ensures pushed { (limits : Limits) (fields : List Field) (rows : List (List Value))
-            → HasRows (told (I.IndexOf.index indices.now)) limits fields rows self.old
+            → StoresRows (index_or_zero (I.IndexOf.index indices.now)) limits fields rows self.old
             → capped (row_weight fields row.now) ≤ weight
-            → OnOk result (HasRows (told (I.IndexOf.index indices.now)) limits fields
+            → OnOk result (StoresRows (index_or_zero (I.IndexOf.index indices.now)) limits fields
             (rows ++ row.now ∷ []) self.new) }
         ensures refused { (limits : Limits) (fields : List Field) (rows : List (List Value))
-            → HasRows (told (I.IndexOf.index indices.now)) limits fields rows self.old
-            → IfErr result (λ fault. IsRefused limits fields (rows ++ row.now ∷ [])
+            → StoresRows (index_or_zero (I.IndexOf.index indices.now)) limits fields rows self.old
+            → IfErr result (λ fault. AreRowsRefused limits fields (rows ++ row.now ∷ [])
             (write_fault fault)) }
         ensures kept { (limits : Limits) (fields : List Field) (rows : List (List Value))
-            → HasRows (told (I.IndexOf.index indices.now)) limits fields rows self.old
+            → StoresRows (index_or_zero (I.IndexOf.index indices.now)) limits fields rows self.old
             → capped (row_weight fields row.now) ≤ weight
             → IfErr result (λ fault. ¬ (fault ≡ PushFault.OutOfMemory)
-            → HasRows (told (I.IndexOf.index indices.now)) limits fields rows self.new) }
+            → StoresRows (index_or_zero (I.IndexOf.index indices.now)) limits fields rows
+            self.new) }
         ensures fails { (limits : Limits) (fields : List Field) (rows : List (List Value))
-            → HasRows (told (I.IndexOf.index indices.now)) limits fields rows self.old
+            → StoresRows (index_or_zero (I.IndexOf.index indices.now)) limits fields rows self.old
             → IfErr result (λ fault. fault ≡ PushFault.OutOfMemory → HasFailed self.new) }
         ensures failed { HasFailed self.old → result ≡ Err PushFault.Failed }
     {
@@ -316,24 +325,24 @@ impl Builder {
         // The parts give the rows back under each map in which the numbers find their values.
         ensures rows { (known : Numbering) (limits : Limits) (fields : List Field)
             (rows : List (List Value)) (m : Dictionaries)
-            → HasRows known limits fields rows self
+            → StoresRows known limits fields rows self
             → AllByRecursion (IsFieldWellFormed limits) (entries fields)
             → AllByRecursion (RowFits fields) rows
-            → FindsRows m (renumbered (N.Renumber.number numbers.now) known) fields rows
+            → FindsRows m (new_indices (N.Renumber.number numbers.now) known) fields rows
             → IfOk result (λ parts. Rows limits m fields (record {
               length = pos (length rows);
               nodes = parts.nodes;
               buffers = parts.buffers;
             }) parts.body.items rows) }
         ensures laid_out { (known : Numbering) (limits : Limits) (fields : List Field)
-            (rows : List (List Value)) → HasRows known limits fields rows self
+            (rows : List (List Value)) → StoresRows known limits fields rows self
             → IfOk result
-            (AreLaidOut (renumbered (N.Renumber.number numbers.now) known) fields rows) }
+            (AreLaidOut (new_indices (N.Renumber.number numbers.now) known) fields rows) }
         ensures body { (known : Numbering) (limits : Limits) (fields : List Field)
-            (rows : List (List Value)) → HasRows known limits fields rows self
+            (rows : List (List Value)) → StoresRows known limits fields rows self
             → IfOk result (λ parts. length parts.body.items ≤ limits.body) }
         ensures refused { (known : Numbering) (limits : Limits) (fields : List Field)
-            (rows : List (List Value)) → HasRows known limits fields rows self
+            (rows : List (List Value)) → StoresRows known limits fields rows self
             → IfErr result (λ fault. fault ≡ WriteFault.OutOfMemory) }
         ensures failed { HasFailed self → result ≡ Err WriteFault.Failed }
     {
@@ -352,7 +361,7 @@ impl Builder {
             nodes: Items::from_vec(draft.nodes),
             buffers: Items::from_vec(draft.buffers),
             body: draft.body,
-            room: Room::of_nodes(alloc, nodes),
+            room: BufferPool::of_nodes(alloc, nodes),
         })
     }
 }

@@ -1,5 +1,5 @@
 ghost use Rattle.std.specs.Prelude.{◌≡◌, ◌≤◌, ◌<◌, ◌+◌, ◌^◌, length, if◌then◌else◌};
-ghost use Rattle.ipc_encode.specs.Cells.{is_set, number_bits, content, fixed, items};
+ghost use Rattle.ipc_encode.specs.Cells.{is_set, number_bits, content, fixed_bytes, items};
 ghost use Rattle.ipc_encode.specs.Cells.{HasUtf8};
 ghost use Rattle.ipc_encode.specs.Pieces.{Valid, True};
 
@@ -66,7 +66,7 @@ pub(crate) fn content(value: &Value) -> &[u8]
 /// Returns the number of bytes that a value takes in a column of fixed width.
 #[inline(always)]
 pub(crate) fn fixed_len(value: &Value, width: u32) -> usize
-    ensures len { result ≡ length (fixed width value.now) }
+    ensures len { result ≡ length (fixed_bytes width value.now) }
     ensures few { result < 2 ^ 63 }
 {
     match value {

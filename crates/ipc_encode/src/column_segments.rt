@@ -15,21 +15,21 @@ ghost use Rattle.ipc_encode.specs.Marks.{HasBits, MarksNulls};
 ghost use Rattle.ipc_encode.specs.Pieces.{Bytes, Content, Fixed, Items, Number, True};
 ghost use Rattle.ipc_encode.specs.Segments.{segment_bytes};
 
-use crate::buffers::{LentContents, lent_contents, lent_marks, lent_widths};
-use crate::column::MAX_DATA;
+use crate::bitmap_pushing::is_valid_in_bitmap;
+use crate::buffers::{BorrowedContents, borrowed_bitmap, borrowed_contents, borrowed_fixed_values};
+use crate::column_builder::MAX_DATA;
 use crate::fault::PushFault;
-use crate::lent::{push_each_content, push_ends, push_truths, push_widths};
-use crate::marks::is_marked_valid;
 use crate::nested_slots::push_list_ends;
 use crate::numbers::push_some;
 use crate::segments::Segment;
-use crate::{lent, marks};
+use crate::slot_pushing::{push_bools, push_each_content, push_ends, push_widths};
+use crate::{bitmap_pushing, slot_pushing};
 use ipc_column::{Numbers, SlotView};
 use std::alloc::{AllocError, Global};
 
 /// The buffers of binary values or texts, without the first offset, which is 0.
 #[derive(Debug, Drop)]
-pub(crate) struct RunSegments<'a> {
+pub(crate) struct VariableBinarySegments<'a> {
     /// The offset at which each value ends, in 32 bits.
     pub(crate) ends: Segment<'a>,
     /// The bytes of the values, one after another.
@@ -56,7 +56,9 @@ fn null_slots_are_zeros(marks: &[u8], bytes: &[u8], width: usize, count: usize) 
         → take width (drop (width * i) bytes.now) ≡ replicate width 0 }
 {
     for slot in 0..count {
-        if !is_marked_valid(marks, slot) && !are_zeros(&bytes[width * slot..width * slot + width]) {
+        if !is_valid_in_bitmap(marks, slot)
+            && !are_zeros(&bytes[width * slot..width * slot + width])
+        {
             return false;
         }
     }
@@ -98,7 +100,7 @@ pub(crate) fn marked_validity<'a>(
         return Ok(Segment::Borrowed(&marks[..count / 8]));
     }
     let mut validity = pooled_list(alloc, pool);
-    marks::push_marks(&mut validity, marks, count)?;
+    bitmap_pushing::push_bitmap(&mut validity, marks, count)?;
     Ok(Segment::Owned(validity))
 }
 
@@ -116,11 +118,11 @@ pub(crate) fn column_validity<'a>(
     if null_count == 0 {
         return Ok(Segment::Zeros(0));
     }
-    if let Some(marks) = lent_marks(view) {
+    if let Some(marks) = borrowed_bitmap(view) {
         return marked_validity(alloc, pool, marks, view.len(), null_count);
     }
     let mut validity = pooled_list(alloc, pool);
-    lent::push_marks(&mut validity, view)?;
+    slot_pushing::push_slot_validity(&mut validity, view)?;
     Ok(Segment::Owned(validity))
 }
 
@@ -188,7 +190,7 @@ pub(crate) fn fixed_values<'a>(
     ensures { IfOk result (λ segment. segment_bytes segment
         ≡ slots (Fixed width) (slot_values view.now)) }
 {
-    if let Some(bytes) = lent_widths(view, width) {
+    if let Some(bytes) = borrowed_fixed_values(view, width) {
         return Ok(Segment::Borrowed(bytes));
     }
     let mut values = pooled_list(alloc, pool);
@@ -206,15 +208,15 @@ pub(crate) fn bit_values<'a>(
         ≡ bitmap (flags True (slot_values view.now))) }
 {
     let mut values = pooled_list(alloc, pool);
-    push_truths(&mut values, view)?;
+    push_bools(&mut values, view)?;
     Ok(Segment::Owned(values))
 }
 
 // The offsets at which `count` values end, if the first begins at 0.
-fn run_ends<'a>(
+fn value_ends<'a>(
     alloc: Global,
     pool: &mut Vec<Vec<u8>>,
-    lent: &LentContents<'a>,
+    lent: &BorrowedContents<'a>,
     count: usize,
 ) -> Result<Segment<'a>, AllocError>
     requires room { length lent.now.ends.now ≡ 4 * count }
@@ -234,19 +236,19 @@ fn run_ends<'a>(
 
 /// Returns the buffers of binary values or texts: the bytes are borrowed if null slots are empty,
 /// and the offsets too if they begin at 0.
-pub(crate) fn run_segments<'a>(
+pub(crate) fn variable_binary_segments<'a>(
     alloc: Global,
     pool: &mut Vec<Vec<u8>>,
     view: &SlotView<'a>,
-) -> Result<RunSegments<'a>, AllocError>
+) -> Result<VariableBinarySegments<'a>, AllocError>
     ensures ends { IfOk result
         (λ run. segment_bytes run.ends ≡ ends Bytes 0 (slot_values view.now)) }
     ensures values { IfOk result
         (λ run. segment_bytes run.values ≡ slots Content (slot_values view.now)) }
 {
-    if let Some(lent) = lent_contents(view) {
-        let ends = run_ends(alloc, pool, &lent, view.len())?;
-        return Ok(RunSegments {
+    if let Some(lent) = borrowed_contents(view) {
+        let ends = value_ends(alloc, pool, &lent, view.len())?;
+        return Ok(VariableBinarySegments {
             ends,
             values: Segment::Borrowed(lent.bytes),
         });
@@ -254,7 +256,7 @@ pub(crate) fn run_segments<'a>(
     let mut values = pooled_list(alloc, pool);
     let mut offsets = pooled_list(alloc, pool);
     push_each_content(&mut values, &mut offsets, view)?;
-    Ok(RunSegments {
+    Ok(VariableBinarySegments {
         ends: Segment::Owned(offsets),
         values: Segment::Owned(values),
     })

@@ -2,7 +2,7 @@
 ghost use Rattle.std.specs.Prelude.{◌≡◌, ◌<◌, ◌⊎◌, ℕ, ℤ, Bool, List, [], true, false, length, take};
 ghost use Rattle.std.specs.Prelude.{IfErr, IsTrue, OnOk, slice_index_or};
 ghost use Rattle.std.specs.List.{AllByRecursion};
-ghost use Rattle.ipc_model.specs.Fits.{EachFits, Fits, InnerFit, IsOwn, RowFits};
+ghost use Rattle.ipc_model.specs.Fits.{EachFits, Fits, InnerFit, FitsOwnType, RowFits};
 ghost use Rattle.ipc_model.specs.Layouts.{type_layout};
 ghost use Rattle.ipc_model.specs.RowFaults.{HasShortPaths};
 ghost use Rattle.ipc_model.specs.declared.layout.Layout.TheVariants.{Indices};
@@ -12,20 +12,20 @@ ghost use Rattle.ipc_model.specs.declared.schema.IntBits.{IntBits};
 ghost use Rattle.ipc_model.specs.declared.value.Value.{Value, out-Value};
 ghost use Rattle.ipc_model.specs.declared.value.Value.TheOpen as values;
 ghost use Rattle.ipc_model.specs.declared.value.Value.TheVariants.{Null};
-ghost use Rattle.ipc_column.specs.Nested.{below, slot_values};
+ghost use Rattle.ipc_column.specs.Nested.{child_columns, slot_values};
 ghost use Rattle.ipc_column.specs.Plain.{IsShownBy};
-ghost use Rattle.ipc_column.specs.Slots.{shown};
+ghost use Rattle.ipc_column.specs.Slots.{value_in_slot};
 ghost use Rattle.ipc_column.specs.Values.{is_valid, row};
 ghost use Rattle.ipc_encode.specs.Cells.{all_items, is_set};
 ghost use Rattle.ipc_encode.specs.Marks.{HasBits};
-ghost use Rattle.ipc_encode.specs.Misfits.{Misfits};
+ghost use Rattle.ipc_encode.specs.Mismatches.{AreMismatches};
 ghost use Rattle.ipc_encode.specs.Pieces.{Valid};
-ghost use Rattle.ipc_encode.specs.PlainColumns.{is_plain};
+ghost use Rattle.ipc_encode.specs.PlainColumns.{layout_implies_type};
 
-use crate::buffers::lent_marks;
-use crate::lying::lists_have_all;
-use crate::marks::valid_are_among;
-use crate::plain::{is_plain, lie_alike};
+use crate::bitmap_pushing::valid_are_among;
+use crate::buffers::borrowed_bitmap;
+use crate::plain::{are_equal_layouts, layout_implies_type};
+use crate::whole_columns::lists_use_all_items;
 use ipc_column::{Batch, Slot, SlotView};
 use ipc_model::{DataType, Field, Layout, Schema, Value, WriteFault, conforms, layout_of};
 use std::alloc::Global;
@@ -55,7 +55,7 @@ fn nulls_fit(field: &Field, view: &SlotView<'_>, above: &[u8]) -> bool
     if field.nullable || matches!(field.kind, DataType::Null) {
         return true;
     }
-    match lent_marks(view) {
+    match borrowed_bitmap(view) {
         Some(marks) => valid_are_among(above, marks, view.len()),
         None => has_no_null(view),
     }
@@ -72,22 +72,22 @@ fn is_indexed(layout: Layout) -> bool
 // Fast accept: the layout of the slots, or that of their dictionary's values, holds only values of
 // the type.
 fn shows_type(kind: &DataType, view: &SlotView<'_>) -> bool
-    ensures plain { IsTrue result → is_plain kind.now ≡ true }
+    ensures plain { IsTrue result → layout_implies_type kind.now ≡ true }
     ensures shown { IsTrue result
         → AllByRecursion (IsShownBy (type_layout kind.now)) (slot_values view.now) }
 {
-    if !is_plain(kind) {
+    if !layout_implies_type(kind) {
         return false;
     }
     let layout = layout_of(kind, None);
-    if lie_alike(view.layout(), layout) {
+    if are_equal_layouts(view.layout(), layout) {
         return true;
     }
     if !is_indexed(view.layout()) {
         return false;
     }
     match view.entries() {
-        Some(entries) => lie_alike(entries.layout(), layout),
+        Some(entries) => are_equal_layouts(entries.layout(), layout),
         None => false,
     }
 }
@@ -95,13 +95,13 @@ fn shows_type(kind: &DataType, view: &SlotView<'_>) -> bool
 // Whether a slot is null or has a signed number of the field's type.
 fn is_own_number(field: &Field, held: &Slot<'_>) -> bool
     ensures { IsTrue result → (under : ℕ → List Value) (slot : ℕ)
-        → is_set Valid (shown under slot held.now) ≡ true
-        → IsOwn (out-Field field.now).kind (out-Field field.now).nullable
-        (length (out-Field field.now).children) (out-Value (shown under slot held.now)) }
+        → is_set Valid (value_in_slot under slot held.now) ≡ true
+        → FitsOwnType (out-Field field.now).kind (out-Field field.now).nullable
+        (length (out-Field field.now).children) (out-Value (value_in_slot under slot held.now)) }
 {
     match held {
         Slot::Null => true,
-        Slot::Int(number) => field.is_own(&Value::Int(*number)),
+        Slot::Int(number) => field.fits_own_type(&Value::Int(*number)),
         _ => false,
     }
 }
@@ -110,7 +110,7 @@ fn is_own_number(field: &Field, held: &Slot<'_>) -> bool
 fn are_own_numbers(field: &Field, view: &SlotView<'_>) -> bool
     ensures { IsTrue result → (i : ℕ) → i < length (slot_values view.now)
         → is_set Valid (slice_index_or (slot_values view.now) i Null) ≡ true
-        → IsOwn (out-Field field.now).kind (out-Field field.now).nullable
+        → FitsOwnType (out-Field field.now).kind (out-Field field.now).nullable
         (length (out-Field field.now).children)
         (out-Value (slice_index_or (slot_values view.now) i Null)) }
 {
@@ -165,7 +165,7 @@ fn items_fit(fields: &[Field], view: &SlotView<'_>) -> bool
     ensures { IsTrue result → InnerFit Fits kinds.List fields.now
         (values.List (all_items (slot_values view.now))) }
 {
-    if fields.len() != 1 || view.children() != 1 || !lists_have_all(view) {
+    if fields.len() != 1 || view.children() != 1 || !lists_use_all_items(view) {
         return false;
     }
     slots_fit(&fields[0], &view.child(0), &[])
@@ -177,7 +177,7 @@ fn parts_fit(fields: &[Field], view: &SlotView<'_>) -> bool
     ensures size { IsTrue result → length fields.now ≡ length view.now.children }
     ensures fits { IsTrue result → (i : ℕ) → i < length (slot_values view.now)
         → is_valid view.now.column.validity i ≡ true
-        → EachFits Fits fields.now (row (below view.now) i) }
+        → EachFits Fits fields.now (row (child_columns view.now) i) }
 {
     let count = view.children();
     if fields.len() != count {
@@ -216,7 +216,7 @@ fn check_row(schema: &Schema, row: &[Value], number: usize) -> Result<(), WriteF
     ensures misfit { (rows : List (List Value)) → number < length rows
         → row.now ≡ slice_index_or rows number []
         → AllByRecursion (RowFits schema.now.fields) (take number rows)
-        → IfErr result (Misfits schema.now.fields rows) }
+        → IfErr result (AreMismatches schema.now.fields rows) }
 {
     match conforms(schema, row) {
         Ok(()) => Ok(()),
@@ -238,7 +238,7 @@ pub fn check_rows(alloc: Global, schema: &Schema, batch: &Batch) -> Result<(), W
     ensures fit { OnOk result (AllByRecursion (RowFits schema.now.fields) batch.now.rows) }
     // A refusal is of the first row that does not fit, or memory ran out.
     ensures misfit { IfErr result (λ fault. (fault ≡ WriteFault.OutOfMemory)
-        ⊎ Misfits schema.now.fields batch.now.rows fault) }
+        ⊎ AreMismatches schema.now.fields batch.now.rows fault) }
 {
     if columns_fit(schema.fields.as_slice(), batch) {
         return Ok(());

@@ -5,9 +5,9 @@ ghost use Rattle.ipc_model.specs.declared.layout.Layout.{Layout};
 ghost use Rattle.ipc_column.specs.Shapes.{Shape, bare, field};
 ghost use Rattle.ipc_encode.specs.Cells.{cell, cells};
 ghost use Rattle.ipc_encode.specs.Built.{ArePushesRefused, IsColumn, IsNode};
-ghost use Rattle.ipc_encode.specs.Numbers.{told};
+ghost use Rattle.ipc_encode.specs.Numbers.{index_or_zero};
 
-use crate::column::Purpose;
+use crate::column_builder::Purpose;
 use crate::fault::PushFault;
 use crate::index::IndexOf;
 use crate::node::Node;
@@ -39,12 +39,15 @@ fn take_each<I: IndexOf>(
     indices: &I,
 ) -> Result<(), PushFault>
     ensures taken { (layout : Layout) (children : Shape)
-        → IsNode (IsColumn (told (I.IndexOf.index indices.now)) limits.now) layout children node.old
+        → IsNode (IsColumn (index_or_zero (I.IndexOf.index indices.now)) limits.now) layout children
+        node.old
         []
-        → OnOk result (IsNode (IsColumn (told (I.IndexOf.index indices.now)) limits.now) layout
+        → OnOk result (IsNode (IsColumn (index_or_zero (I.IndexOf.index indices.now)) limits.now)
+        layout
         children node.new (cells column batch.now.rows)) }
     ensures refused { (layout : Layout) (children : Shape)
-        → IsNode (IsColumn (told (I.IndexOf.index indices.now)) limits.now) layout children node.old
+        → IsNode (IsColumn (index_or_zero (I.IndexOf.index indices.now)) limits.now) layout children
+        node.old
         []
         → IfErr result (ArePushesRefused limits.now (field layout children bare)
         (λ j. cells column batch.now.rows)) }
@@ -68,12 +71,15 @@ pub(crate) fn take_column<I: IndexOf>(
     indices: &I,
 ) -> Result<(), PushFault>
     ensures taken { (layout : Layout) (children : Shape)
-        → IsNode (IsColumn (told (I.IndexOf.index indices.now)) limits.now) layout children node.old
+        → IsNode (IsColumn (index_or_zero (I.IndexOf.index indices.now)) limits.now) layout children
+        node.old
         []
-        → OnOk result (IsNode (IsColumn (told (I.IndexOf.index indices.now)) limits.now) layout
+        → OnOk result (IsNode (IsColumn (index_or_zero (I.IndexOf.index indices.now)) limits.now)
+        layout
         children node.new (cells column batch.now.rows)) }
     ensures refused { (layout : Layout) (children : Shape)
-        → IsNode (IsColumn (told (I.IndexOf.index indices.now)) limits.now) layout children node.old
+        → IsNode (IsColumn (index_or_zero (I.IndexOf.index indices.now)) limits.now) layout children
+        node.old
         []
         → IfErr result (ArePushesRefused limits.now (field layout children bare)
         (λ j. cells column batch.now.rows)) }

@@ -1,27 +1,27 @@
 ghost use Rattle.std.specs.Prelude.{◌≡◌, ◌≤◌, ◌<◌, ◌^◌, ◌++◌, ◌⊎◌, List, [], ◌∷◌, length, IfOk};
 ghost use Rattle.std.specs.Prelude.{IfErr, OnOk, IsTrue};
-ghost use Rattle.ipc_model.specs.Greatest.{greatest_body};
+ghost use Rattle.ipc_model.specs.MaxLimits.{max_body};
 ghost use Rattle.ipc_model.specs.declared.layout.Layout.{Layout};
 ghost use Rattle.ipc_model.specs.declared.layout.Layout.TheVariants.{Lists};
 ghost use Rattle.ipc_model.specs.declared.limits.Limits.{Limits};
 ghost use Rattle.ipc_model.specs.declared.value.Value.{Value};
-ghost use Rattle.ipc_encode.specs.declared.column.Purpose.TheVariants.{Count};
+ghost use Rattle.ipc_encode.specs.declared.column_builder.Purpose.TheVariants.{Count};
 ghost use Rattle.ipc_encode.specs.Cells.{nulls};
-ghost use Rattle.ipc_encode.specs.Columns.{data_in, datum, PassesOffsets};
-ghost use Rattle.ipc_encode.specs.Numbers.{Numbering, told};
-ghost use Rattle.ipc_encode.specs.Built.{HasTaken, IsColumn, IsCounted, IsNext, IsPushRefused};
+ghost use Rattle.ipc_encode.specs.Columns.{data_in, value_len, ExceedsOffsets};
+ghost use Rattle.ipc_encode.specs.Numbers.{Numbering, index_or_zero};
+ghost use Rattle.ipc_encode.specs.Built.{HasTaken, IsColumn, AreCountsOf, IsNext, IsPushRefused};
 
 use crate::cells::{content, fixed_len, item_count, nulls_with};
-use crate::column::{Column, MAX_DATA, Purpose};
-use crate::counts::Counts;
+use crate::column_builder::{ColumnBuilder, MAX_DATA, Purpose};
+use crate::counts::ColumnCounts;
 use crate::fault::PushFault;
 use crate::index::IndexOf;
 use ipc_model::{Layout, Limits, Value};
 
 /// Returns the amount that a value adds to the data of a column.
 #[inline(always)]
-pub(crate) fn datum(layout: Layout, value: &Value) -> usize
-    ensures is { result ≡ datum layout value.now }
+pub(crate) fn value_len(layout: Layout, value: &Value) -> usize
+    ensures is { result ≡ value_len layout value.now }
     ensures few { result < 2 ^ 63 }
 {
     match layout {
@@ -35,10 +35,10 @@ pub(crate) fn datum(layout: Layout, value: &Value) -> usize
 
 // Whether so much data is more than offsets reach.
 #[inline(always)]
-fn passes_offsets(layout: Layout, amount: usize) -> bool
-    ensures passes { IsTrue result → PassesOffsets layout amount }
-    ensures reached { ¬ IsTrue result → ¬ PassesOffsets layout amount }
-    ensures few { ¬ IsTrue result → layout ≡ Lists → amount ≤ greatest_body }
+fn exceeds_offsets(layout: Layout, amount: usize) -> bool
+    ensures passes { IsTrue result → ExceedsOffsets layout amount }
+    ensures reached { ¬ IsTrue result → ¬ ExceedsOffsets layout amount }
+    ensures few { ¬ IsTrue result → layout ≡ Lists → amount ≤ max_body }
 {
     match layout {
         Layout::VariableBytes { .. } | Layout::Lists => amount > MAX_DATA,
@@ -49,7 +49,7 @@ fn passes_offsets(layout: Layout, amount: usize) -> bool
 // The fault of data that offsets do not reach, or that is too long for a body. The items of lists
 // are slots of a child.
 #[inline(always)]
-fn past_fault(layout: Layout) -> PushFault
+fn excess_fault(layout: Layout) -> PushFault
     ensures lists { layout ≡ Lists → result ≡ PushFault.TooMany }
     ensures bytes { ¬ (layout ≡ Lists) → result ≡ PushFault.TooLong }
     ensures memory { ¬ (result ≡ PushFault.OutOfMemory) }
@@ -62,9 +62,9 @@ fn past_fault(layout: Layout) -> PushFault
 
 // Whether this amount of data has more bytes than a body may have.
 #[inline(always)]
-fn passes_body(layout: Layout, amount: usize, limits: &Limits) -> bool
+fn exceeds_body(layout: Layout, amount: usize, limits: &Limits) -> bool
     ensures passes { IsTrue result → (limits.now.body < amount) × ¬ (layout ≡ Lists) }
-    ensures within { ¬ IsTrue result → ¬ (layout ≡ Lists) → amount ≤ greatest_body }
+    ensures within { ¬ IsTrue result → ¬ (layout ≡ Lists) → amount ≤ max_body }
 {
     match layout {
         Layout::Lists => false,
@@ -72,12 +72,12 @@ fn passes_body(layout: Layout, amount: usize, limits: &Limits) -> bool
     }
 }
 
-impl Counts {
+impl ColumnCounts {
     /// Returns the sizes of a column without values.
-    pub(crate) fn none() -> Counts
-        ensures { (limits : Limits) (layout : Layout) → IsCounted limits layout [] result }
+    pub(crate) fn none() -> ColumnCounts
+        ensures { (limits : Limits) (layout : Layout) → AreCountsOf limits layout [] result }
     {
-        Counts {
+        ColumnCounts {
             slots: 0,
             nulls: 0,
             amount: 0,
@@ -95,21 +95,21 @@ impl Counts {
         layout: Layout,
         value: &Value,
         limits: &Limits,
-    ) -> Result<Counts, PushFault>
-        ensures counted { (values : List Value) → IsCounted limits.now layout values self
-            → IfOk result (IsCounted limits.now layout (values ++ value.now ∷ [])) }
-        ensures refused { (values : List Value) → IsCounted limits.now layout values self
+    ) -> Result<ColumnCounts, PushFault>
+        ensures counted { (values : List Value) → AreCountsOf limits.now layout values self
+            → IfOk result (AreCountsOf limits.now layout (values ++ value.now ∷ [])) }
+        ensures refused { (values : List Value) → AreCountsOf limits.now layout values self
             → IfErr result (IsPushRefused limits.now layout (values ++ value.now ∷ [])) }
         ensures memory { IfErr result (λ fault. ¬ (fault ≡ PushFault.OutOfMemory)) }
     {
         if self.slots >= limits.slots as usize {
             return Err(PushFault::TooMany);
         }
-        let amount = self.amount + datum(layout, value);
-        if passes_offsets(layout, amount) || passes_body(layout, amount, limits) {
-            return Err(past_fault(layout));
+        let amount = self.amount + value_len(layout, value);
+        if exceeds_offsets(layout, amount) || exceeds_body(layout, amount, limits) {
+            return Err(excess_fault(layout));
         }
-        Ok(Counts {
+        Ok(ColumnCounts {
             slots: self.slots + 1,
             nulls: nulls_with(self.nulls, value),
             amount,
@@ -117,7 +117,7 @@ impl Counts {
     }
 
     /// Returns the sizes with `slot_count` more values, of which `null_count` are null. `amount` is
-    /// the data of all values. The errors are those of `Counts::with`.
+    /// the data of all values. The errors are those of `ColumnCounts::with`.
     pub(crate) fn with_all(
         self,
         layout: Layout,
@@ -125,13 +125,13 @@ impl Counts {
         null_count: usize,
         amount: usize,
         limits: &Limits,
-    ) -> Result<Counts, PushFault>
+    ) -> Result<ColumnCounts, PushFault>
         requires { null_count ≤ slot_count }
-        ensures counted { (before values : List Value) → IsCounted limits.now layout before self
+        ensures counted { (before values : List Value) → AreCountsOf limits.now layout before self
             → length values ≡ slot_count → nulls values ≡ null_count
             → data_in layout (before ++ values) ≡ amount
-            → IfOk result (IsCounted limits.now layout (before ++ values)) }
-        ensures refused { (before values : List Value) → IsCounted limits.now layout before self
+            → IfOk result (AreCountsOf limits.now layout (before ++ values)) }
+        ensures refused { (before values : List Value) → AreCountsOf limits.now layout before self
             → length values ≡ slot_count → nulls values ≡ null_count
             → data_in layout (before ++ values) ≡ amount
             → IfErr result (IsPushRefused limits.now layout (before ++ values)) }
@@ -140,10 +140,10 @@ impl Counts {
         if slot_count > most || self.slots + slot_count > most {
             return Err(PushFault::TooMany);
         }
-        if passes_offsets(layout, amount) || passes_body(layout, amount, limits) {
-            return Err(past_fault(layout));
+        if exceeds_offsets(layout, amount) || exceeds_body(layout, amount, limits) {
+            return Err(excess_fault(layout));
         }
-        Ok(Counts {
+        Ok(ColumnCounts {
             slots: self.slots + slot_count,
             nulls: self.nulls + null_count,
             amount,
@@ -151,12 +151,12 @@ impl Counts {
     }
 }
 
-impl Column {
+impl ColumnBuilder {
     /// Returns the sizes of the values that the column has, or those with the next row.
-    pub(crate) fn counts(&self, purpose: Purpose) -> Counts
+    pub(crate) fn counts(&self, purpose: Purpose) -> ColumnCounts
         ensures { (known : Numbering) (limits : Limits) (layout : Layout) (values : List Value)
             → HasTaken known purpose limits layout values self.now
-            → IsCounted limits self.now.layout values result }
+            → AreCountsOf limits self.now.layout values result }
     {
         match purpose {
             Purpose::Keep => self.counts,
@@ -198,7 +198,7 @@ impl Column {
     /// Adds one value, with its index in a column of indices, or counts it in the sizes with the
     /// next row. After an error the buffers or these sizes are unusable.
     ///
-    /// Errors: those of `Counts::with`, and `OutOfMemory` if memory for a buffer ran out.
+    /// Errors: those of `ColumnCounts::with`, and `OutOfMemory` if memory for a buffer ran out.
     #[inline(always)]
     pub(crate) fn take<I: IndexOf>(
         &mut self,
@@ -208,13 +208,15 @@ impl Column {
         indices: &I,
     ) -> Result<(), PushFault>
         ensures taken { (layout : Layout) (values : List Value)
-            → HasTaken (told (I.IndexOf.index indices.now)) purpose limits.now layout values
+            → HasTaken (index_or_zero (I.IndexOf.index indices.now)) purpose limits.now layout
+            values
             self.old
             → OnOk result
-            (HasTaken (told (I.IndexOf.index indices.now)) purpose limits.now layout
+            (HasTaken (index_or_zero (I.IndexOf.index indices.now)) purpose limits.now layout
             (values ++ value.now ∷ []) self.new) }
         ensures refused { (layout : Layout) (values : List Value)
-            → HasTaken (told (I.IndexOf.index indices.now)) purpose limits.now layout values
+            → HasTaken (index_or_zero (I.IndexOf.index indices.now)) purpose limits.now layout
+            values
             self.old
             → IfErr result (IsPushRefused limits.now layout (values ++ value.now ∷ [])) }
         ensures kept { (known : Numbering) (limits : Limits) (layout : Layout)

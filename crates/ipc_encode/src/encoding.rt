@@ -8,22 +8,22 @@ ghost use Rattle.ipc_model.specs.WellFormed.{IsFieldWellFormed};
 ghost use Rattle.ipc_column.specs.Dictionaries.{Dictionaries};
 ghost use Rattle.ipc_column.specs.Rows.{Rows};
 ghost use Rattle.ipc_column.specs.Shapes.{bare, field, field_children, field_layout, shape_of};
-ghost use Rattle.ipc_encode.specs.Buffers.{columns, padded, ranges_from};
+ghost use Rattle.ipc_encode.specs.Buffers.{row_columns, padded_bytes, ranges_from};
 ghost use Rattle.ipc_encode.specs.Cells.{cells};
 ghost use Rattle.ipc_encode.specs.Indices.{FindsRows};
-ghost use Rattle.ipc_encode.specs.Limits.{IsRefused, IsWithin};
-ghost use Rattle.ipc_encode.specs.Numbers.{renumbered, told};
+ghost use Rattle.ipc_encode.specs.Limits.{AreRowsRefused, IsWithin};
+ghost use Rattle.ipc_encode.specs.Numbers.{new_indices, index_or_zero};
 ghost use Rattle.ipc_encode.specs.Segments.{AddsBuffers, AddsColumns, AreRefusedAfter};
-ghost use Rattle.ipc_encode.specs.Segments.{AreSegmented, IsBodyRefused, joined};
+ghost use Rattle.ipc_encode.specs.Segments.{AreSegmented, IsBodyRefused, bytes_of_segments};
 
 use crate::column_segments::pooled_list;
 use crate::copying::take_column;
 use crate::fault::PushFault;
-use crate::fresh::new_node;
 use crate::index::{IndexOf, Renumber};
-use crate::lying::lies_whole;
+use crate::new_nodes::new_node;
 use crate::parts::{Draft, add_node};
 use crate::segments::{Segment, SegmentedDraft, SegmentedParts, append};
+use crate::whole_columns::has_node_layout;
 use crate::whole_segments::add_whole;
 use ipc_column::Batch;
 use ipc_model::{Field, Items, Limits, WriteFault};
@@ -69,7 +69,7 @@ fn push_shifted(
     ensures shifted { (bs : List (List ℕ)) → more.now ≡ ranges_from 0 bs
         → OnOk result (ranges.new.items ≡ ranges.old.items ++ ranges_from base bs) }
     ensures memory { (bs : List (List ℕ)) → more.now ≡ ranges_from 0 bs
-        → base + length (padded bs) < 2 ^ 63
+        → base + length (padded_bytes bs) < 2 ^ 63
         → IfErr result (λ fault. fault ≡ PushFault.OutOfMemory) }
 {
     for i in 0..more.len() {
@@ -93,11 +93,11 @@ fn add_draft(draft: &mut SegmentedDraft<'_>, more: Draft, limits: &Limits) -> Re
     ensures nodes { OnOk result
         (draft.new.nodes.items ≡ draft.old.nodes.items ++ more.nodes.items) }
     ensures adds { (bs : List (List ℕ)) → more.buffers.items ≡ ranges_from 0 bs
-        → more.body.items ≡ padded bs → OnOk result (AddsBuffers draft.old draft.new bs) }
+        → more.body.items ≡ padded_bytes bs → OnOk result (AddsBuffers draft.old draft.new bs) }
     ensures within { OnOk result (draft.new.len ≤ limits.now.body) }
     ensures refused { (bs : List (List ℕ)) → more.buffers.items ≡ ranges_from 0 bs
-        → more.body.items ≡ padded bs
-        → IfErr result (IsBodyRefused limits.now (draft.old.len + length (padded bs))) }
+        → more.body.items ≡ padded_bytes bs
+        → IfErr result (IsBodyRefused limits.now (draft.old.len + length (padded_bytes bs))) }
 {
     let Draft {
         nodes,
@@ -125,7 +125,7 @@ fn add_anew<I: IndexOf, N: Renumber>(
     numbers: &N,
 ) -> Result<(), PushFault>
     ensures adds { OnOk result (AddsColumns limits.now
-        (renumbered (N.Renumber.number numbers.now) (told (I.IndexOf.index indices.now)))
+        (new_indices (N.Renumber.number numbers.now) (index_or_zero (I.IndexOf.index indices.now)))
         (field (field_layout of.now) (field_children of.now) bare)
         (λ j. cells column batch.now.rows) draft.old draft.new) }
     ensures refused { IfErr result (AreRefusedAfter limits.now draft.old.len
@@ -162,7 +162,7 @@ fn add_field<'a, I: IndexOf, N: Renumber>(
 ) -> Result<(), PushFault>
     requires { draft.old.len ≤ limits.now.body }
     ensures adds { OnOk result (AddsColumns limits.now
-        (renumbered (N.Renumber.number numbers.now) (told (I.IndexOf.index indices.now)))
+        (new_indices (N.Renumber.number numbers.now) (index_or_zero (I.IndexOf.index indices.now)))
         (field (field_layout of.now) (field_children of.now) bare)
         (λ j. cells column batch.now.rows) draft.old draft.new) }
     ensures refused { IfErr result (AreRefusedAfter limits.now draft.old.len
@@ -172,7 +172,7 @@ fn add_field<'a, I: IndexOf, N: Renumber>(
     if column < batch.columns() {
         let view = batch.column(column).slots();
         let node = new_node(of, None, alloc)?;
-        if lies_whole(&node, &view) {
+        if has_node_layout(&node, &view) {
             return add_whole(alloc, pool, draft, of, &view, limits);
         }
     }
@@ -202,10 +202,10 @@ fn add_fields<'a, I: IndexOf, N: Renumber>(
 ) -> Result<(), PushFault>
     requires { draft.old.len ≤ limits.now.body }
     ensures adds { OnOk result (AddsColumns limits.now
-        (renumbered (N.Renumber.number numbers.now) (told (I.IndexOf.index indices.now)))
-        (shape_of fields.now) (columns batch.now.rows) draft.old draft.new) }
+        (new_indices (N.Renumber.number numbers.now) (index_or_zero (I.IndexOf.index indices.now)))
+        (shape_of fields.now) (row_columns batch.now.rows) draft.old draft.new) }
     ensures refused { IfErr result (AreRefusedAfter limits.now draft.old.len (shape_of fields.now)
-        (columns batch.now.rows)) }
+        (row_columns batch.now.rows)) }
 {
     for i in 0..fields.len() {
         let of = field_at(fields, i);
@@ -256,22 +256,22 @@ pub fn encode_columns<'a, I: IndexOf, N: Renumber>(
     ensures rows { (m : Dictionaries)
         → AllByRecursion (IsFieldWellFormed limits.now) (entries fields.now)
         → AllByRecursion (RowFits fields.now) batch.now.rows
-        → FindsRows m (renumbered (N.Renumber.number numbers.now)
-        (told (I.IndexOf.index indices.now))) fields.now batch.now.rows
+        → FindsRows m (new_indices (N.Renumber.number numbers.now)
+        (index_or_zero (I.IndexOf.index indices.now))) fields.now batch.now.rows
         → IfOk result (λ parts. Rows limits.now m fields.now (record {
           length = pos (length batch.now.rows);
           nodes = parts.nodes;
           buffers = parts.buffers;
-        }) (joined parts.segments.items) batch.now.rows) }
+        }) (bytes_of_segments parts.segments.items) batch.now.rows) }
     // They are one list of nodes, buffers and bytes.
     ensures segmented { IfOk result
-        (AreSegmented (renumbered (N.Renumber.number numbers.now)
-        (told (I.IndexOf.index indices.now))) fields.now batch.now.rows) }
+        (AreSegmented (new_indices (N.Renumber.number numbers.now)
+        (index_or_zero (I.IndexOf.index indices.now))) fields.now batch.now.rows) }
     // What is written is within the limits.
     ensures within { IfOk result (λ parts. IsWithin limits.now fields.now batch.now.rows) }
     ensures body { IfOk result (λ parts. parts.len ≤ limits.now.body) }
     // A refusal is true of the rows.
-    ensures refused { IfErr result (IsRefused limits.now fields.now batch.now.rows) }
+    ensures refused { IfErr result (AreRowsRefused limits.now fields.now batch.now.rows) }
 {
     if batch.rows() > limits.slots as usize {
         return Err(WriteFault::TooManyRows);

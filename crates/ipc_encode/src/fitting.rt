@@ -4,13 +4,13 @@ ghost use Rattle.ipc_model.specs.declared.layout.Layout.{Layout};
 ghost use Rattle.ipc_model.specs.declared.limits.Limits.{Limits};
 ghost use Rattle.ipc_model.specs.declared.value.Value.{Value};
 ghost use Rattle.ipc_column.specs.Shapes.{Shape, bare, field};
-ghost use Rattle.ipc_encode.specs.Buffers.{buffers_of, padded};
+ghost use Rattle.ipc_encode.specs.Buffers.{buffers_of, padded_bytes};
 ghost use Rattle.ipc_encode.specs.Cells.{cell};
-ghost use Rattle.ipc_encode.specs.Built.{AreColumns, AreNodes, IsNode, HasTaken, IsColumn, IsNext};
-ghost use Rattle.ipc_encode.specs.Built.{ArePushesRefused, AreWithin};
+ghost use Rattle.ipc_encode.specs.Built.{HoldColumns, AreNodes, IsNode, HasTaken, IsColumn, IsNext};
+ghost use Rattle.ipc_encode.specs.Built.{ArePushesRefused, AreColumnsWithin};
 ghost use Rattle.ipc_encode.specs.Numbers.{Numbering};
 
-use crate::column::Purpose;
+use crate::column_builder::Purpose;
 use crate::fault::PushFault;
 use crate::index::NoIndices;
 use crate::node::Node;
@@ -58,11 +58,12 @@ fn remaining(node: &Node, purpose: Purpose, bytes: u64) -> Option<u64>
         (children : Shape) (values : List Value)
         → IsNode (HasTaken known purpose limits) layout children node.now values
         → IfSome result (λ left.
-        length (padded (buffers_of (field layout children bare) (λ j. values))) + left ≡ bytes) }
+        length (padded_bytes (buffers_of (field layout children bare) (λ j. values))) + left
+        ≡ bytes) }
     ensures none { (known : Numbering) (limits : Limits) (layout : Layout)
         (children : Shape) (values : List Value)
         → IsNode (HasTaken known purpose limits) layout children node.now values → result ≡ None
-        → bytes < length (padded (buffers_of (field layout children bare) (λ j. values))) }
+        → bytes < length (padded_bytes (buffers_of (field layout children bare) (λ j. values))) }
     ensures fewer { IfSome result (λ left. left ≤ bytes) }
 {
     let len = node.column.counts(purpose).len(node.column.layout);
@@ -79,11 +80,11 @@ pub(crate) fn remaining_all(nodes: &[Node], purpose: Purpose, bytes: u64) -> Opt
     ensures left { (known : Numbering) (limits : Limits) (shape : Shape)
         (given : ℕ → List Value)
         → AreNodes (HasTaken known purpose limits) shape nodes.now given
-        → IfSome result (λ left. length (padded (buffers_of shape given)) + left ≡ bytes) }
+        → IfSome result (λ left. length (padded_bytes (buffers_of shape given)) + left ≡ bytes) }
     ensures none { (known : Numbering) (limits : Limits) (shape : Shape)
         (given : ℕ → List Value)
         → AreNodes (HasTaken known purpose limits) shape nodes.now given → result ≡ None
-        → bytes < length (padded (buffers_of shape given)) }
+        → bytes < length (padded_bytes (buffers_of shape given)) }
     ensures fewer { IfSome result (λ left. left ≤ bytes) }
 {
     let mut left = bytes;
@@ -97,18 +98,18 @@ pub(crate) fn remaining_all(nodes: &[Node], purpose: Purpose, bytes: u64) -> Opt
 ///
 /// Errors: `TooMany` if a column would have too many slots; `TooLong` if a column would have more
 /// bytes than offsets reach, or the buffers more bytes than a body may have.
-pub(crate) fn fit(nodes: &mut [Node], row: &[Value], limits: &Limits) -> Result<(), PushFault>
+pub(crate) fn check_fit(nodes: &mut [Node], row: &[Value], limits: &Limits) -> Result<(), PushFault>
     ensures fit { (known : Numbering) (shape : Shape) (given : ℕ → List Value)
-        → AreColumns known limits.now shape nodes.old given
-        → OnOk result (AreWithin limits.now shape (λ j. given j ++ cell j row.now ∷ [])) }
+        → HoldColumns known limits.now shape nodes.old given
+        → OnOk result (AreColumnsWithin limits.now shape (λ j. given j ++ cell j row.now ∷ [])) }
     ensures refused { (known : Numbering) (shape : Shape) (given : ℕ → List Value)
-        → AreColumns known limits.now shape nodes.old given
+        → HoldColumns known limits.now shape nodes.old given
         → IfErr result (λ fault. ArePushesRefused limits.now shape
         (λ j. given j ++ cell j row.now ∷ []) fault × ¬ (fault ≡ PushFault.OutOfMemory)) }
     ensures kept { (known : Numbering) (limits : Limits) (shape : Shape)
         (given : ℕ → List Value)
-        → AreColumns known limits shape nodes.old given
-        → AreColumns known limits shape nodes.new given }
+        → HoldColumns known limits shape nodes.old given
+        → HoldColumns known limits shape nodes.new given }
 {
     start_nodes(nodes);
     take_parts(row, nodes, Purpose::Count, limits, &NoIndices)?;

@@ -4,11 +4,11 @@ ghost use Rattle.ipc_model.specs.declared.limits.Limits.{Limits};
 ghost use Rattle.ipc_model.specs.declared.value.Value.{Value};
 ghost use Rattle.ipc_column.specs.Shapes.{Shape};
 ghost use Rattle.ipc_encode.specs.Limits.{HasLongNode};
-ghost use Rattle.ipc_encode.specs.Built.{AreNodes, AreWithin, IsColumn};
+ghost use Rattle.ipc_encode.specs.Built.{AreNodes, AreColumnsWithin, IsColumn};
 ghost use Rattle.ipc_encode.specs.Weights.{capped, weight_of};
 ghost use Rattle.ipc_encode.specs.Numbers.{Numbering};
 
-use crate::column::MAX_DATA;
+use crate::column_builder::MAX_DATA;
 use crate::node::Node;
 use ipc_model::Limits;
 
@@ -52,7 +52,7 @@ pub(crate) fn headroom(nodes: &[Node], limits: &Limits) -> u64
     ensures { (known : Numbering) (shape : Shape) (before added : ℕ → List Value)
         → AreNodes (IsColumn known limits.now) shape nodes.now before
         → weight_of 0 shape added < result
-        → AreWithin limits.now shape (λ j. before j ++ added j) }
+        → AreColumnsWithin limits.now shape (λ j. before j ++ added j) }
 {
     let most = limits.body.min(MAX_DATA as u64);
     let weight = nodes_weight(nodes);

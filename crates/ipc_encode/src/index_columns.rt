@@ -11,10 +11,10 @@ ghost use Rattle.ipc_encode.specs.Built.{IsColumn, IsPushRefused};
 ghost use Rattle.ipc_encode.specs.Cells.{cells, flags, nulls};
 ghost use Rattle.ipc_encode.specs.Columns.{validity_bytes};
 ghost use Rattle.ipc_encode.specs.EntryIndices.{AreKept, column_index};
-ghost use Rattle.ipc_encode.specs.Numbers.{indices_of, told};
+ghost use Rattle.ipc_encode.specs.Numbers.{indices_of, index_or_zero};
 ghost use Rattle.ipc_encode.specs.Pieces.{Valid};
 
-use crate::column::Column;
+use crate::column_builder::ColumnBuilder;
 use crate::fault::PushFault;
 use crate::flags::push_bit;
 use crate::index::IndexOf;
@@ -24,7 +24,7 @@ use ipc_model::{IntBits, Layout, Limits};
 use std::alloc::{AllocError, Global};
 
 // A place for the index of each value of a column's dictionary, none of which was asked for.
-fn none_kept(alloc: Global, slots: &SlotView<'_>) -> Result<Vec<Option<Option<u64>>>, AllocError>
+fn empty_cache(alloc: Global, slots: &SlotView<'_>) -> Result<Vec<Option<Option<u64>>>, AllocError>
     ensures { (index_for : Value → Option ℕ)
         → IfOk result (λ kept. AreKept index_for slots.now.column.dictionary kept.items) }
 {
@@ -37,7 +37,7 @@ fn none_kept(alloc: Global, slots: &SlotView<'_>) -> Result<Vec<Option<Option<u6
 
 // The index of a value of the dictionary, where it was asked for.
 #[inline(always)]
-fn kept_index(kept: &[Option<Option<u64>>], entry: usize) -> Option<Option<u64>>
+fn cached_index(kept: &[Option<Option<u64>>], entry: usize) -> Option<Option<u64>>
     ensures { IfSome result (λ index. slice_get kept.now entry ≡ Some (Some index)) }
 {
     match kept.get(entry) {
@@ -47,7 +47,7 @@ fn kept_index(kept: &[Option<Option<u64>>], entry: usize) -> Option<Option<u64>>
 }
 
 // Keeps the index of a value of the dictionary.
-fn keep_index(kept: &mut Vec<Option<Option<u64>>>, entry: usize, index: Option<u64>)
+fn cache_index(kept: &mut Vec<Option<Option<u64>>>, entry: usize, index: Option<u64>)
     ensures { (index_for : Value → Option ℕ) (dictionary : List Value)
         → AreKept index_for dictionary kept.old.items
         → ((value : Value) → slice_get dictionary entry ≡ Some value → index ≡ index_for value)
@@ -72,7 +72,7 @@ fn cell_index<I: IndexOf>(
     ensures { (value : Value)
         → slice_get (slice_index_or batch.now.rows row []) column ≡ Some value
         → IfOk result (λ index. index
-        ≡ column_index (told (I.IndexOf.index indices.now)) layout value) }
+        ≡ column_index (index_or_zero (I.IndexOf.index indices.now)) layout value) }
 {
     let value = batch.read_cell(alloc, row, column)?;
     Ok(match layout {
@@ -95,25 +95,25 @@ fn entry_index<I: IndexOf>(
     requires row { row < length batch.now.rows }
     requires column { column < batch.now.columns }
     ensures index { (dictionary : List Value) (value : Value)
-        → AreKept (column_index (told (I.IndexOf.index indices.now)) layout) dictionary
+        → AreKept (column_index (index_or_zero (I.IndexOf.index indices.now)) layout) dictionary
         kept.old.items
         → slice_get dictionary entry ≡ Some value
         → slice_get (slice_index_or batch.now.rows row []) column ≡ Some value
         → IfOk result (λ index. index
-        ≡ column_index (told (I.IndexOf.index indices.now)) layout value) }
+        ≡ column_index (index_or_zero (I.IndexOf.index indices.now)) layout value) }
     ensures kept { (dictionary : List Value)
-        → AreKept (column_index (told (I.IndexOf.index indices.now)) layout) dictionary
+        → AreKept (column_index (index_or_zero (I.IndexOf.index indices.now)) layout) dictionary
         kept.old.items
         → slice_get dictionary entry
         ≡ slice_get (slice_index_or batch.now.rows row []) column
-        → AreKept (column_index (told (I.IndexOf.index indices.now)) layout) dictionary
+        → AreKept (column_index (index_or_zero (I.IndexOf.index indices.now)) layout) dictionary
         kept.new.items }
 {
-    if let Some(index) = kept_index(kept, entry) {
+    if let Some(index) = cached_index(kept, entry) {
         return Ok(index);
     }
     let index = cell_index(alloc, batch, column, row, layout, indices)?;
-    keep_index(kept, entry, index);
+    cache_index(kept, entry, index);
     Ok(index)
 }
 
@@ -134,14 +134,14 @@ fn slot_index<I: IndexOf>(
     requires slots { AreOfColumn batch.now.rows column (slot_values slots.now) }
     requires slot { slot < length (slot_values slots.now) }
     ensures index { (value : Value)
-        → AreKept (column_index (told (I.IndexOf.index indices.now)) layout)
+        → AreKept (column_index (index_or_zero (I.IndexOf.index indices.now)) layout)
         slots.now.column.dictionary kept.old.items
         → slice_get (slot_values slots.now) slot ≡ Some value
         → IfOk result (λ index. index
-        ≡ column_index (told (I.IndexOf.index indices.now)) layout value) }
-    ensures kept { AreKept (column_index (told (I.IndexOf.index indices.now)) layout)
+        ≡ column_index (index_or_zero (I.IndexOf.index indices.now)) layout value) }
+    ensures kept { AreKept (column_index (index_or_zero (I.IndexOf.index indices.now)) layout)
         slots.now.column.dictionary kept.old.items
-        → AreKept (column_index (told (I.IndexOf.index indices.now)) layout)
+        → AreKept (column_index (index_or_zero (I.IndexOf.index indices.now)) layout)
         slots.now.column.dictionary kept.new.items }
 {
     match slots.entry_at(slot) {
@@ -160,11 +160,11 @@ fn slot_indices<I: IndexOf>(
 ) -> Result<Vec<Option<u64>>, AllocError>
     requires { column < batch.now.columns }
     ensures { IfOk result (λ taken. taken.items
-        ≡ map (column_index (told (I.IndexOf.index indices.now)) layout)
+        ≡ map (column_index (index_or_zero (I.IndexOf.index indices.now)) layout)
         (cells column batch.now.rows)) }
 {
     let slots = batch.slots(column);
-    let mut kept = none_kept(alloc, &slots)?;
+    let mut kept = empty_cache(alloc, &slots)?;
     let mut taken = Vec::new(alloc);
     for slot in 0..slots.len() {
         let index = slot_index(
@@ -189,7 +189,7 @@ fn count_nulls(indices: &[Option<u64>]) -> usize
 }
 
 // Appends whether each value has an index to an empty list.
-fn push_marks(bits: &mut Vec<u8>, indices: &[Option<u64>]) -> Result<(), AllocError>
+fn push_index_validity(bits: &mut Vec<u8>, indices: &[Option<u64>]) -> Result<(), AllocError>
     ensures { (known : Value → ℕ) (values : List Value) → indices.now ≡ indices_of known values
         → bits.old.items ≡ [] → OnOk result (bits.new.items ≡ bitmap (flags Valid values)) }
 {
@@ -213,13 +213,13 @@ fn push_validities(
     if null_count == 0 {
         return Ok(());
     }
-    push_marks(validity, indices)
+    push_index_validity(validity, indices)
 }
 
-impl Column {
+impl ColumnBuilder {
     /// Takes the values of a column of a batch into a column of indices of this width, which has no
     /// values. The index of each value of a dictionary that was read is looked up once. The errors
-    /// are those of `Column::take`.
+    /// are those of `ColumnBuilder::take`.
     pub(crate) fn take_indices<I: IndexOf>(
         &mut self,
         batch: &Batch,
@@ -230,12 +230,14 @@ impl Column {
     ) -> Result<(), PushFault>
         requires { column < batch.now.columns }
         ensures taken { (signed : Bool) (id : ℤ)
-            → IsColumn (told (I.IndexOf.index indices.now)) limits.now (Indices bits signed id) []
+            → IsColumn (index_or_zero (I.IndexOf.index indices.now)) limits.now
+            (Indices bits signed id) []
             self.old
-            → OnOk result (IsColumn (told (I.IndexOf.index indices.now)) limits.now
+            → OnOk result (IsColumn (index_or_zero (I.IndexOf.index indices.now)) limits.now
             (Indices bits signed id) (cells column batch.now.rows) self.new) }
         ensures refused { (signed : Bool) (id : ℤ)
-            → IsColumn (told (I.IndexOf.index indices.now)) limits.now (Indices bits signed id) []
+            → IsColumn (index_or_zero (I.IndexOf.index indices.now)) limits.now
+            (Indices bits signed id) []
             self.old
             → IfErr result (IsPushRefused limits.now (Indices bits signed id)
             (cells column batch.now.rows)) }

@@ -1,22 +1,22 @@
 ghost use Rattle.std.specs.Prelude.{◌≡◌, ◌≤◌, ◌+◌, ◌*◌, List, length};
-ghost use Rattle.ipc_model.specs.Greatest.{greatest_body, greatest_slots};
+ghost use Rattle.ipc_model.specs.MaxLimits.{max_body, max_slots};
 ghost use Rattle.ipc_model.specs.declared.limits.Limits.{Limits};
 ghost use Rattle.ipc_model.specs.declared.value.Value.{Value};
-ghost use Rattle.ipc_encode.specs.Buffers.{column_buffers, padded};
+ghost use Rattle.ipc_encode.specs.Buffers.{column_buffers, padded_bytes};
 ghost use Rattle.ipc_encode.specs.Columns.{offsets_length, validity_length, values_length};
 ghost use Rattle.ipc_encode.specs.Columns.{column_length};
-ghost use Rattle.ipc_encode.specs.Built.{IsCounted};
+ghost use Rattle.ipc_encode.specs.Built.{AreCountsOf};
 
-use crate::counts::Counts;
+use crate::counts::ColumnCounts;
 use ipc_model::Layout;
 use ipc_scalar::pad8;
 
 // The bytes of a validity bitmap of `slots` slots, of which `nulls` are null.
 #[inline(always)]
 fn validity_len(layout: Layout, slots: usize, nulls: usize) -> usize
-    requires { slots ≤ greatest_slots }
+    requires { slots ≤ max_slots }
     ensures is { result ≡ validity_length layout slots nulls }
-    ensures few { result ≤ greatest_slots }
+    ensures few { result ≤ max_slots }
 {
     match layout {
         Layout::Null => 0,
@@ -28,9 +28,9 @@ fn validity_len(layout: Layout, slots: usize, nulls: usize) -> usize
 // The bytes of the offsets of `slots` slots.
 #[inline(always)]
 fn offsets_len(layout: Layout, slots: usize) -> usize
-    requires { slots ≤ greatest_slots }
+    requires { slots ≤ max_slots }
     ensures is { result ≡ offsets_length layout slots }
-    ensures few { result ≤ 4 * (greatest_slots + 1) }
+    ensures few { result ≤ 4 * (max_slots + 1) }
 {
     match layout {
         Layout::VariableBytes { .. } | Layout::Lists => 4 * (slots + 1),
@@ -41,10 +41,10 @@ fn offsets_len(layout: Layout, slots: usize) -> usize
 // The bytes of the values of `slots` slots with this amount of data.
 #[inline(always)]
 fn values_len(layout: Layout, slots: usize, amount: usize) -> usize
-    requires few { slots ≤ greatest_slots }
-    requires small { amount ≤ greatest_body }
+    requires few { slots ≤ max_slots }
+    requires small { amount ≤ max_body }
     ensures is { result ≡ values_length layout slots amount }
-    ensures small { result ≤ greatest_body }
+    ensures small { result ≤ max_body }
 {
     match layout {
         Layout::Null | Layout::Lists | Layout::FixedLists(_) | Layout::Structs => 0,
@@ -60,8 +60,8 @@ fn values_len(layout: Layout, slots: usize, amount: usize) -> usize
 // amount of data.
 #[inline(always)]
 fn column_len(layout: Layout, slots: usize, nulls: usize, amount: usize) -> u64
-    requires few { slots ≤ greatest_slots }
-    requires small { amount ≤ greatest_body }
+    requires few { slots ≤ max_slots }
+    requires small { amount ≤ max_body }
     ensures { result ≡ column_length layout slots nulls (values_length layout slots amount) }
 {
     pad8(validity_len(layout, slots, nulls) as u64)
@@ -69,12 +69,12 @@ fn column_len(layout: Layout, slots: usize, nulls: usize, amount: usize) -> u64
         + pad8(values_len(layout, slots, amount) as u64)
 }
 
-impl Counts {
+impl ColumnCounts {
     /// Returns the bytes that the padded buffers of a column with these sizes take in a body.
     #[inline(always)]
     pub(crate) fn len(self, layout: Layout) -> u64
-        ensures { (limits : Limits) (values : List Value) → IsCounted limits layout values self
-            → result ≡ length (padded (column_buffers layout values)) }
+        ensures { (limits : Limits) (values : List Value) → AreCountsOf limits layout values self
+            → result ≡ length (padded_bytes (column_buffers layout values)) }
     {
         column_len(layout, self.slots, self.nulls, self.amount)
     }

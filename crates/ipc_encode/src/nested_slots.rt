@@ -7,7 +7,7 @@ ghost use Rattle.ipc_encode.specs.Cells.{ends};
 ghost use Rattle.ipc_encode.specs.Columns.{data_in};
 ghost use Rattle.ipc_encode.specs.Pieces.{Items};
 
-use crate::column::MAX_DATA;
+use crate::column_builder::MAX_DATA;
 use crate::fault::PushFault;
 use crate::pushing::push_offset;
 use crate::slot_parts::item_count;

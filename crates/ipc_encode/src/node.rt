@@ -1,12 +1,12 @@
 ghost use Rattle.std.specs.Prelude.{◌≡◌, ◌↔◌, length, IsTrue};
 ghost use Rattle.ipc_encode.specs.declared.node.Node.{out-Node};
 
-use crate::column::Column;
+use crate::column_builder::ColumnBuilder;
 
 /// A column and the columns of its children.
 #[derive(Debug, Drop)]
 pub(crate) struct Node {
-    pub(crate) column: Column,
+    pub(crate) column: ColumnBuilder,
     pub(crate) children: Vec<Node>,
 }
 

@@ -12,7 +12,7 @@ ghost use Rattle.ipc_encode.specs.Cells.{nulls, slot_bytes, slots};
 ghost use Rattle.ipc_encode.specs.Marks.{HasBits};
 ghost use Rattle.ipc_encode.specs.Pieces.{Number};
 
-use crate::marks::{count_nulls, is_marked_valid};
+use crate::bitmap_pushing::{count_nulls, is_valid_in_bitmap};
 use crate::pushing::push_bits;
 use ipc_column::{Numbers, SlotView};
 use ipc_model::{IntBits, Layout};
@@ -20,7 +20,7 @@ use std::alloc::AllocError;
 
 /// The numbers of a column, and the number of its null slots.
 #[derive(Clone, Copy, Debug, Drop)]
-pub(crate) struct LentNumbers<'a> {
+pub(crate) struct BorrowedNumbers<'a> {
     pub(crate) numbers: Numbers<'a>,
     pub(crate) null_count: usize,
 }
@@ -43,7 +43,7 @@ fn push_slot(
     ensures { OnOk result (values.new.items ≡ values.old.items
         ++ slot_bytes (Number numbers.now.bits) (slice_index_or (slot_values view.now) slot Null)) }
 {
-    if !is_marked_valid(numbers.validity, slot) {
+    if !is_valid_in_bitmap(numbers.validity, slot) {
         return push_bits(values, 0, numbers.bits);
     }
     values.extend_from_slice(&bytes[width * slot..width * slot + width])
@@ -101,7 +101,10 @@ fn holds_numbers(layout: Layout, bits: IntBits) -> bool
 }
 
 /// Returns the numbers of a column, if they have the width of numbers in this layout.
-pub(crate) fn lent_numbers<'a>(layout: Layout, view: &SlotView<'a>) -> Option<LentNumbers<'a>>
+pub(crate) fn borrowed_numbers<'a>(
+    layout: Layout,
+    view: &SlotView<'a>,
+) -> Option<BorrowedNumbers<'a>>
     ensures numbers { IfSome result (λ lent. AreNumbers view.now lent.numbers) }
     ensures bits { IfSome result
         (λ lent. HasBits lent.numbers.validity.now (length (slot_values view.now))) }
@@ -126,7 +129,7 @@ pub(crate) fn lent_numbers<'a>(layout: Layout, view: &SlotView<'a>) -> Option<Le
         validity: buffers.validity,
         values: buffers.values,
     };
-    Some(LentNumbers {
+    Some(BorrowedNumbers {
         numbers,
         null_count,
     })

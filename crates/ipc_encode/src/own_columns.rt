@@ -14,11 +14,11 @@ ghost use Rattle.ipc_model.specs.declared.value.Value.{Value};
 ghost use Rattle.ipc_column.specs.Lending.{AreNumbers};
 ghost use Rattle.ipc_column.specs.Nested.{slot_values};
 ghost use Rattle.ipc_column.specs.Shapes.{bare, field};
-ghost use Rattle.ipc_encode.specs.Buffers.{column_buffers, stored};
+ghost use Rattle.ipc_encode.specs.Buffers.{column_buffers, written_values};
 ghost use Rattle.ipc_encode.specs.Cells.{ends, nulls, slots};
 ghost use Rattle.ipc_encode.specs.Columns.{validity_bytes};
-ghost use Rattle.ipc_encode.specs.Limits.{IsPastOffsets};
-ghost use Rattle.ipc_encode.specs.Lying.{LiesAs};
+ghost use Rattle.ipc_encode.specs.Limits.{HasExcessData};
+ghost use Rattle.ipc_encode.specs.WholeColumns.{IsLaidOutAs};
 ghost use Rattle.ipc_encode.specs.Marks.{HasBits};
 ghost use Rattle.ipc_encode.specs.Numbers.{Numbering};
 ghost use Rattle.ipc_encode.specs.Pieces.{Bytes, Content};
@@ -26,15 +26,15 @@ ghost use Rattle.ipc_encode.specs.Segments.{AddsBuffers, AddsColumns, AreRefused
 ghost use Rattle.ipc_encode.specs.Segments.{segment_bytes};
 ghost use Rattle.ipc_encode.specs.Writing.{AreStored};
 
-use crate::column::MAX_DATA;
+use crate::column_builder::MAX_DATA;
 use crate::column_segments::{
-    RunSegments, bit_values, column_validity, fixed_values, list_offsets, marked_validity,
-    number_values, run_segments,
+    VariableBinarySegments, bit_values, column_validity, fixed_values, list_offsets,
+    marked_validity, number_values, variable_binary_segments,
 };
 use crate::fault::PushFault;
-use crate::lent::count_nulls;
-use crate::numbers::{LentNumbers, lent_numbers};
+use crate::numbers::{BorrowedNumbers, borrowed_numbers};
 use crate::segments::{Segment, SegmentedDraft, add_buffer, add_joined, push_pair};
+use crate::slot_pushing::count_nulls;
 use ipc_column::SlotView;
 use ipc_model::{Layout, Limits};
 use std::alloc::{AllocError, Global};
@@ -67,9 +67,9 @@ fn add_two_buffers<'a>(
     requires few { count ≤ limits.now.slots }
     ensures adds { (known : Numbering) (layout : Layout) (vs : List Value)
         → length vs ≡ count → nulls vs ≡ null_count
-        → column_buffers layout (stored known layout vs)
+        → column_buffers layout (written_values known layout vs)
         ≡ segment_bytes validity.entry ∷ segment_bytes values.entry ∷ []
-        → ¬ IsPastOffsets layout vs → AreStored layout vs
+        → ¬ HasExcessData layout vs → AreStored layout vs
         → OnOk result (AddsColumns limits.now known (field layout bare bare) (λ j. vs)
         draft.old draft.new) }
     ensures refused { (layout : Layout) (vs : List Value) → column_buffers layout vs
@@ -95,8 +95,8 @@ fn add_validity<'a>(
     requires few { count ≤ limits.now.slots }
     ensures adds { (known : Numbering) (layout : Layout) (vs : List Value)
         → length vs ≡ count → nulls vs ≡ null_count
-        → column_buffers layout (stored known layout vs) ≡ segment_bytes validity.entry ∷ []
-        → ¬ IsPastOffsets layout vs → AreStored layout vs
+        → column_buffers layout (written_values known layout vs) ≡ segment_bytes validity.entry ∷ []
+        → ¬ HasExcessData layout vs → AreStored layout vs
         → OnOk result (AddsColumns limits.now known (field layout bare bare) (λ j. vs)
         draft.old draft.new) }
     ensures refused { (layout : Layout) (vs : List Value)
@@ -110,12 +110,12 @@ fn add_validity<'a>(
 }
 
 // Adds the node and the three buffers of binary values or texts with `null_count` nulls.
-fn add_run<'a>(
+fn add_variable_buffers<'a>(
     draft: &mut SegmentedDraft<'a>,
     count: usize,
     null_count: usize,
     validity: Segment<'a>,
-    run: RunSegments<'a>,
+    run: VariableBinarySegments<'a>,
     limits: &Limits,
 ) -> Result<(), PushFault>
     requires counted { null_count ≤ count }
@@ -134,7 +134,7 @@ fn add_run<'a>(
         → IfErr result (AreRefusedAfter limits.now draft.old.len
         (field (VariableLaid utf8) bare bare) (λ j. vs)) }
 {
-    let RunSegments { ends, values } = run;
+    let VariableBinarySegments { ends, values } = run;
     if values.len() > MAX_DATA {
         return Err(PushFault::TooLong);
     }
@@ -151,7 +151,7 @@ fn add_numbers<'a>(
     pool: &mut Vec<Vec<u8>>,
     draft: &mut SegmentedDraft<'a>,
     view: &SlotView<'a>,
-    lent: &LentNumbers<'a>,
+    lent: &BorrowedNumbers<'a>,
     limits: &Limits,
 ) -> Result<(), PushFault>
     requires numbers { AreNumbers view.now lent.now.numbers }
@@ -242,8 +242,8 @@ fn add_variable<'a>(
     }
     let nulls = count_nulls(view);
     let validity = column_validity(alloc, pool, view, nulls)?;
-    let run = run_segments(alloc, pool, view)?;
-    add_run(draft, count, nulls, validity, run, limits)
+    let run = variable_binary_segments(alloc, pool, view)?;
+    add_variable_buffers(draft, count, nulls, validity, run, limits)
 }
 
 // Adds a column of nulls, which has no buffers. The errors are those of `add_own`.
@@ -329,7 +329,7 @@ fn add_all_numbers<'a>(
         → IfErr result (AreRefusedAfter limits.now draft.old.len (field layout bare bare)
         (λ j. slot_values view.now)) }
 {
-    match lent_numbers(layout, view) {
+    match borrowed_numbers(layout, view) {
         Some(lent) => add_numbers(alloc, pool, draft, view, &lent, limits),
         None => Ok(()),
     }
@@ -349,7 +349,7 @@ pub(crate) fn add_own<'a>(
     view: &SlotView<'a>,
     limits: &Limits,
 ) -> Result<(), PushFault>
-    requires lies { LiesAs layout view.now (slot_values view.now) }
+    requires lies { IsLaidOutAs layout view.now (slot_values view.now) }
     requires within { draft.old.len ≤ limits.now.body }
     ensures adds { (known : Numbering) → OnOk result (AddsColumns limits.now known
         (field layout bare bare) (λ j. slot_values view.now) draft.old draft.new) }

@@ -5,19 +5,19 @@ ghost use Rattle.ipc_model.specs.declared.limits.Limits.{Limits};
 ghost use Rattle.ipc_model.specs.declared.value.Value.{Value};
 ghost use Rattle.ipc_column.specs.Shapes.{Shape, bare, field};
 ghost use Rattle.ipc_encode.specs.declared.node.Node.{out-Node};
-ghost use Rattle.ipc_encode.specs.Buffers.{column_buffers, nodes_of, buffers_with, stored};
+ghost use Rattle.ipc_encode.specs.Buffers.{column_buffers, nodes_of, buffers_with, written_values};
 ghost use Rattle.ipc_encode.specs.Cells.{nulls, slots};
-ghost use Rattle.ipc_encode.specs.Numbers.{Numbering, as_number, changed, renumbered};
+ghost use Rattle.ipc_encode.specs.Numbers.{Numbering, as_number, new_index, new_indices};
 ghost use Rattle.ipc_encode.specs.Pieces.{Number};
 ghost use Rattle.ipc_encode.specs.Writing.{Adds};
-ghost use Rattle.ipc_encode.specs.Built.{AreColumns, IsColumn, IsNode};
+ghost use Rattle.ipc_encode.specs.Built.{HoldColumns, IsColumn, IsNode};
 
-use crate::column::Column;
-use crate::counts::Counts;
+use crate::buffer_pool::BufferPool;
+use crate::column_builder::ColumnBuilder;
+use crate::counts::ColumnCounts;
 use crate::index::Renumber;
 use crate::node::Node;
 use crate::pushing::push_number;
-use crate::room::Room;
 use ipc_model::{IntBits, Items, Layout, Value};
 use std::alloc::AllocError;
 
@@ -32,8 +32,8 @@ pub struct Parts {
     pub buffers: Items<(i64, i64)>,
     /// The bytes of the buffers, each padded with zeros to a multiple of 8 bytes.
     pub body: Vec<u8>,
-    /// The lists of the columns. `Builder::with_room` uses their memory for the next batch.
-    pub room: Room,
+    /// The lists of the columns. `Builder::with_pool` uses their memory for the next batch.
+    pub room: BufferPool,
 }
 
 /// A record batch that is being written.
@@ -68,7 +68,7 @@ fn add_buffer(draft: &mut Draft, bytes: &[u8]) -> Result<(), AllocError>
 
 // The number of an index in its slot, null where there is none.
 fn as_number<N: Renumber>(index: Option<u64>, id: i64, numbers: &N) -> Value
-    ensures { result ≡ as_number (changed (N.Renumber.number numbers.now id) index) }
+    ensures { result ≡ as_number (new_index (N.Renumber.number numbers.now id) index) }
 {
     match index {
         Some(index) => Value::UInt(numbers.to(id, index)),
@@ -86,7 +86,7 @@ fn push_indices<N: Renumber>(
 ) -> Result<(), AllocError>
     ensures { OnOk result (bytes.new.items ≡ bytes.old.items
         ++ slots (Number bits)
-        (map as_number (map (changed (N.Renumber.number numbers.now id)) indices.now))) }
+        (map as_number (map (new_index (N.Renumber.number numbers.now id)) indices.now))) }
 {
     for index in indices {
         push_number(bytes, &as_number(*index, id, numbers), bits)?;
@@ -105,7 +105,7 @@ fn add_indices<N: Renumber>(
     ensures nodes { OnOk result (draft.new.nodes.items ≡ draft.old.nodes.items) }
     ensures adds { OnOk result (Adds draft.old draft.new
         (slots (Number bits)
-        (map as_number (map (changed (N.Renumber.number numbers.now id)) indices.now)) ∷ [])) }
+        (map as_number (map (new_index (N.Renumber.number numbers.now id)) indices.now)) ∷ [])) }
 {
     let start = draft.body.len();
     push_indices(&mut draft.body, indices, bits, id, numbers)?;
@@ -118,7 +118,7 @@ fn add_indices<N: Renumber>(
 // Adds the buffers of a column.
 fn add_buffers<N: Renumber>(
     draft: &mut Draft,
-    column: &Column,
+    column: &ColumnBuilder,
     numbers: &N,
 ) -> Result<(), AllocError>
     ensures nodes { OnOk result (draft.new.nodes.items ≡ draft.old.nodes.items) }
@@ -126,7 +126,7 @@ fn add_buffers<N: Renumber>(
         → IsColumn known limits layout values column.now
         → OnOk result (Adds draft.old draft.new
         (column_buffers layout
-        (stored (renumbered (N.Renumber.number numbers.now) known) layout values))) }
+        (written_values (new_indices (N.Renumber.number numbers.now) known) layout values))) }
 {
     if column.layout.own_buffers() == 0 {
         return Ok(());
@@ -147,7 +147,7 @@ fn add_buffers<N: Renumber>(
 // Adds the node and the buffers of a column.
 fn add_column<N: Renumber>(
     draft: &mut Draft,
-    column: &Column,
+    column: &ColumnBuilder,
     numbers: &N,
 ) -> Result<(), AllocError>
     ensures nodes { (known : Numbering) (limits : Limits) (layout : Layout) (values : List Value)
@@ -158,9 +158,9 @@ fn add_column<N: Renumber>(
         → IsColumn known limits layout values column.now
         → OnOk result (Adds draft.old draft.new
         (column_buffers layout
-        (stored (renumbered (N.Renumber.number numbers.now) known) layout values))) }
+        (written_values (new_indices (N.Renumber.number numbers.now) known) layout values))) }
 {
-    let Counts { slots, nulls, .. } = column.counts;
+    let ColumnCounts { slots, nulls, .. } = column.counts;
     draft.nodes.push((slots as i64, nulls as i64))?;
     add_buffers(draft, column, numbers)
 }
@@ -175,7 +175,7 @@ fn add_own<N: Renumber>(node: &Node, draft: &mut Draft, numbers: &N) -> Result<(
         → IsColumn known limits layout values (out-Node node.now).column
         → OnOk result (Adds draft.old draft.new
         (column_buffers layout
-        (stored (renumbered (N.Renumber.number numbers.now) known) layout values))) }
+        (written_values (new_indices (N.Renumber.number numbers.now) known) layout values))) }
 {
     add_column(draft, &node.column, numbers)
 }
@@ -185,13 +185,13 @@ fn add_own<N: Renumber>(node: &Node, draft: &mut Draft, numbers: &N) -> Result<(
 fn add_below<N: Renumber>(node: &Node, draft: &mut Draft, numbers: &N) -> Result<(), AllocError>
     ensures nodes { (known : Numbering) (limits : Limits) (children : Shape)
         (given : ℕ → List Value)
-        → AreColumns known limits children (out-Node node.now).children.items given
+        → HoldColumns known limits children (out-Node node.now).children.items given
         → OnOk result (draft.new.nodes.items ≡ draft.old.nodes.items ++ nodes_of children given) }
     ensures adds { (known : Numbering) (limits : Limits) (children : Shape)
         (given : ℕ → List Value)
-        → AreColumns known limits children (out-Node node.now).children.items given
+        → HoldColumns known limits children (out-Node node.now).children.items given
         → OnOk result (Adds draft.old draft.new
-        (buffers_with (renumbered (N.Renumber.number numbers.now) known) children given)) }
+        (buffers_with (new_indices (N.Renumber.number numbers.now) known) children given)) }
 {
     add_nodes(&node.children, draft, numbers)
 }
@@ -213,7 +213,7 @@ pub(crate) fn add_node<N: Renumber>(
         (children : Shape) (values : List Value)
         → IsNode (IsColumn known limits) layout children node.now values
         → OnOk result
-        (Adds draft.old draft.new (buffers_with (renumbered (N.Renumber.number numbers.now) known)
+        (Adds draft.old draft.new (buffers_with (new_indices (N.Renumber.number numbers.now) known)
         (field layout children bare) (λ j. values))) }
 {
     add_own(node, draft, numbers)?;
@@ -230,13 +230,13 @@ pub(crate) fn add_nodes<N: Renumber>(
 ) -> Result<(), AllocError>
     ensures nodes { (known : Numbering) (limits : Limits) (shape : Shape)
         (given : ℕ → List Value)
-        → AreColumns known limits shape nodes.now given
+        → HoldColumns known limits shape nodes.now given
         → OnOk result (draft.new.nodes.items ≡ draft.old.nodes.items ++ nodes_of shape given) }
     ensures adds { (known : Numbering) (limits : Limits) (shape : Shape)
         (given : ℕ → List Value)
-        → AreColumns known limits shape nodes.now given
+        → HoldColumns known limits shape nodes.now given
         → OnOk result (Adds draft.old draft.new
-        (buffers_with (renumbered (N.Renumber.number numbers.now) known) shape given)) }
+        (buffers_with (new_indices (N.Renumber.number numbers.now) known) shape given)) }
 {
     for node in nodes {
         add_node(node, draft, numbers)?;

@@ -8,13 +8,13 @@ ghost use Rattle.ipc_encode.specs.Pieces.{Number, Fixed};
 ghost use Rattle.ipc_encode.specs.Cells.{nulls, number_bits, slot_bytes, content, HasUtf8};
 ghost use Rattle.ipc_encode.specs.Columns.{validity_bytes, validity_in, offsets_in, values_in};
 ghost use Rattle.ipc_encode.specs.Columns.{data_in, indices_in};
-ghost use Rattle.ipc_encode.specs.Numbers.{Numbering, index_of, told};
+ghost use Rattle.ipc_encode.specs.Numbers.{Numbering, index_of, index_or_zero};
 ghost use Rattle.ipc_encode.specs.Writing.{AreStored};
 ghost use Rattle.ipc_encode.specs.Built.{IsColumn, IsPushRefused};
 
 use crate::cells::{content, is_true, is_valid, number_bits};
-use crate::column::Column;
-use crate::counts::Counts;
+use crate::column_builder::ColumnBuilder;
+use crate::counts::ColumnCounts;
 use crate::fault::PushFault;
 use crate::flags::{push_bit, set_bits};
 use crate::index::IndexOf;
@@ -63,10 +63,10 @@ fn push_validity(
     push_validity_bit(validity, slots, null_count, value)
 }
 
-// Appends a number of 64 bits. It is not `inline(always)`, and neither is `push_four`: so the
+// Appends a number of 64 bits. It is not `inline(always)`, and neither is `push_u32`: so the
 // length is known where the list's own code is inlined, which becomes one store.
 #[inline]
-fn push_eight(values: &mut Vec<u8>, number: u64) -> Result<(), AllocError>
+fn push_u64(values: &mut Vec<u8>, number: u64) -> Result<(), AllocError>
     ensures { OnOk result (values.new.items ≡ values.old.items ++ bytes_low_first 0 8 number) }
 {
     values.extend_from_slice(&number.to_le_bytes())
@@ -74,7 +74,7 @@ fn push_eight(values: &mut Vec<u8>, number: u64) -> Result<(), AllocError>
 
 // Appends the low 32 bits of a number.
 #[inline]
-fn push_four(values: &mut Vec<u8>, number: u64) -> Result<(), AllocError>
+fn push_u32(values: &mut Vec<u8>, number: u64) -> Result<(), AllocError>
     ensures { OnOk result (values.new.items ≡ values.old.items ++ bytes_low_first 0 4 number) }
 {
     values.extend_from_slice(&number.to_le_bytes()[..4])
@@ -89,8 +89,8 @@ pub(crate) fn push_bits(values: &mut Vec<u8>, number: u64, bits: IntBits) -> Res
     match bits {
         IntBits::B8 => values.extend_from_slice(&number.to_le_bytes()[..1]),
         IntBits::B16 => values.extend_from_slice(&number.to_le_bytes()[..2]),
-        IntBits::B32 => push_four(values, number),
-        IntBits::B64 => push_eight(values, number),
+        IntBits::B32 => push_u32(values, number),
+        IntBits::B64 => push_u64(values, number),
     }
 }
 
@@ -131,7 +131,7 @@ fn push_content(values: &mut Vec<u8>, value: &Value) -> Result<(), AllocError>
 pub(crate) fn push_offset(offsets: &mut Vec<u8>, end: usize) -> Result<(), AllocError>
     ensures { OnOk result (offsets.new.items ≡ offsets.old.items ++ bytes_low_first 0 4 end) }
 {
-    push_four(offsets, end as u64)
+    push_u32(offsets, end as u64)
 }
 
 // Appends the bytes of a value, whose number has these bits, to the values of a column of `slots`
@@ -178,7 +178,7 @@ fn push_end(layout: Layout, offsets: &mut Vec<u8>, end: usize) -> Result<(), All
 
 /// Returns the index of a value that is not null. A value that is not known has index 0.
 pub(crate) fn known_index<I: IndexOf>(indices: &I, id: i64, value: &Value) -> Option<u64>
-    ensures { result ≡ index_of (told (I.IndexOf.index indices.now) id) value.now }
+    ensures { result ≡ index_of (index_or_zero (I.IndexOf.index indices.now) id) value.now }
 {
     match value {
         Value::Null => None,
@@ -195,9 +195,9 @@ fn push_index<I: IndexOf>(
     indices: &I,
 ) -> Result<(), AllocError>
     ensures { (vs : List Value)
-        → held.old.items ≡ indices_in (told (I.IndexOf.index indices.now)) layout vs
+        → held.old.items ≡ indices_in (index_or_zero (I.IndexOf.index indices.now)) layout vs
         → OnOk result (held.new.items
-        ≡ indices_in (told (I.IndexOf.index indices.now)) layout (vs ++ value.now ∷ [])) }
+        ≡ indices_in (index_or_zero (I.IndexOf.index indices.now)) layout (vs ++ value.now ∷ [])) }
 {
     match layout {
         Layout::Indices { id, .. } => {
@@ -226,7 +226,7 @@ fn empty_column(
     mut offsets: Vec<u8>,
     mut values: Vec<u8>,
     mut indices: Vec<Option<u64>>,
-) -> Result<Column, AllocError>
+) -> Result<ColumnBuilder, AllocError>
     ensures { (known : Numbering) (limits : Limits)
         → IfOk result (IsColumn known limits layout []) }
 {
@@ -235,10 +235,10 @@ fn empty_column(
     values.clear();
     indices.clear();
     begin_offsets(layout, &mut offsets)?;
-    Ok(Column {
+    Ok(ColumnBuilder {
         layout,
-        counts: Counts::none(),
-        next: Counts::none(),
+        counts: ColumnCounts::none(),
+        next: ColumnCounts::none(),
         validity,
         offsets,
         values,
@@ -246,9 +246,9 @@ fn empty_column(
     })
 }
 
-impl Column {
+impl ColumnBuilder {
     /// Creates a column of this layout without values.
-    pub(crate) fn new(alloc: Global, layout: Layout) -> Result<Column, AllocError>
+    pub(crate) fn new(alloc: Global, layout: Layout) -> Result<ColumnBuilder, AllocError>
         ensures { (known : Numbering) (limits : Limits)
             → IfOk result (IsColumn known limits layout []) }
     {
@@ -262,11 +262,11 @@ impl Column {
     }
 
     /// Creates a column of this layout without values, in the memory of this one.
-    pub(crate) fn emptied(self, layout: Layout) -> Result<Column, AllocError>
+    pub(crate) fn emptied(self, layout: Layout) -> Result<ColumnBuilder, AllocError>
         ensures { (known : Numbering) (limits : Limits)
             → IfOk result (IsColumn known limits layout []) }
     {
-        let Column {
+        let ColumnBuilder {
             validity,
             offsets,
             values,
@@ -279,7 +279,7 @@ impl Column {
     // Takes one value more into a column of this layout, as `push` does. Where the caller has
     // matched the layout, nothing below it asks again.
     #[inline(always)]
-    fn push_laid<I: IndexOf>(
+    fn push_with_layout<I: IndexOf>(
         &mut self,
         layout: Layout,
         value: &Value,
@@ -287,14 +287,16 @@ impl Column {
         indices: &I,
     ) -> Result<(), PushFault>
         ensures pushed { (values : List Value)
-            → IsColumn (told (I.IndexOf.index indices.now)) limits.now layout values self.old
-            → OnOk result (IsColumn (told (I.IndexOf.index indices.now)) limits.now layout
+            → IsColumn (index_or_zero (I.IndexOf.index indices.now)) limits.now layout values
+            self.old
+            → OnOk result (IsColumn (index_or_zero (I.IndexOf.index indices.now)) limits.now layout
             (values ++ value.now ∷ []) self.new) }
         ensures refused { (values : List Value)
-            → IsColumn (told (I.IndexOf.index indices.now)) limits.now layout values self.old
+            → IsColumn (index_or_zero (I.IndexOf.index indices.now)) limits.now layout values
+            self.old
             → IfErr result (IsPushRefused limits.now layout (values ++ value.now ∷ [])) }
     {
-        let Counts { slots, nulls, .. } = self.counts;
+        let ColumnCounts { slots, nulls, .. } = self.counts;
         let counts = self.counts.with(layout, value, limits)?;
         // The value is read before anything is written, and so once.
         let number = number_bits(value);
@@ -316,27 +318,29 @@ impl Column {
         indices: &I,
     ) -> Result<(), PushFault>
         ensures pushed { (layout : Layout) (values : List Value)
-            → IsColumn (told (I.IndexOf.index indices.now)) limits.now layout values self.old
-            → OnOk result (IsColumn (told (I.IndexOf.index indices.now)) limits.now layout
+            → IsColumn (index_or_zero (I.IndexOf.index indices.now)) limits.now layout values
+            self.old
+            → OnOk result (IsColumn (index_or_zero (I.IndexOf.index indices.now)) limits.now layout
             (values ++ value.now ∷ []) self.new) }
         ensures refused { (layout : Layout) (values : List Value)
-            → IsColumn (told (I.IndexOf.index indices.now)) limits.now layout values self.old
+            → IsColumn (index_or_zero (I.IndexOf.index indices.now)) limits.now layout values
+            self.old
             → IfErr result (IsPushRefused limits.now layout (values ++ value.now ∷ [])) }
     {
         match self.layout {
-            Layout::Bits => self.push_laid(Layout::Bits, value, limits, indices),
+            Layout::Bits => self.push_with_layout(Layout::Bits, value, limits, indices),
             Layout::VariableBytes { utf8 } => {
-                self.push_laid(Layout::VariableBytes { utf8 }, value, limits, indices)
+                self.push_with_layout(Layout::VariableBytes { utf8 }, value, limits, indices)
             }
-            Layout::Lists => self.push_laid(Layout::Lists, value, limits, indices),
-            Layout::Structs => self.push_laid(Layout::Structs, value, limits, indices),
-            layout => self.push_laid(layout, value, limits, indices),
+            Layout::Lists => self.push_with_layout(Layout::Lists, value, limits, indices),
+            Layout::Structs => self.push_with_layout(Layout::Structs, value, limits, indices),
+            layout => self.push_with_layout(layout, value, limits, indices),
         }
     }
 
     /// Adds one value. After an error the column is unusable.
     ///
-    /// Errors: those of `Counts::with`, and `OutOfMemory` if memory for a buffer ran out.
+    /// Errors: those of `ColumnCounts::with`, and `OutOfMemory` if memory for a buffer ran out.
     #[inline(always)]
     pub(crate) fn push<I: IndexOf>(
         &mut self,
@@ -345,11 +349,13 @@ impl Column {
         indices: &I,
     ) -> Result<(), PushFault>
         ensures pushed { (layout : Layout) (values : List Value)
-            → IsColumn (told (I.IndexOf.index indices.now)) limits.now layout values self.old
-            → OnOk result (IsColumn (told (I.IndexOf.index indices.now)) limits.now layout
+            → IsColumn (index_or_zero (I.IndexOf.index indices.now)) limits.now layout values
+            self.old
+            → OnOk result (IsColumn (index_or_zero (I.IndexOf.index indices.now)) limits.now layout
             (values ++ value.now ∷ []) self.new) }
         ensures refused { (layout : Layout) (values : List Value)
-            → IsColumn (told (I.IndexOf.index indices.now)) limits.now layout values self.old
+            → IsColumn (index_or_zero (I.IndexOf.index indices.now)) limits.now layout values
+            self.old
             → IfErr result (IsPushRefused limits.now layout (values ++ value.now ∷ [])) }
     {
         match self.layout {
@@ -361,7 +367,7 @@ impl Column {
                     bits: IntBits::B64,
                     signed,
                 };
-                self.push_laid(layout, value, limits, indices)
+                self.push_with_layout(layout, value, limits, indices)
             }
             Layout::Numbers {
                 bits: IntBits::B32,
@@ -371,7 +377,7 @@ impl Column {
                     bits: IntBits::B32,
                     signed,
                 };
-                self.push_laid(layout, value, limits, indices)
+                self.push_with_layout(layout, value, limits, indices)
             }
             _ => self.push_other(value, limits, indices),
         }

@@ -1,8 +1,9 @@
 //! A body as a list of segments, which borrow bytes that already lie as they are written.
 ghost use Rattle.std.specs.Prelude.{◌≡◌, ◌+◌, ◌-◌, ◌%◌, ◌≤◌, ◌<◌, ◌^◌, ◌↔◌, ◌++◌, [], ◌∷◌};
 ghost use Rattle.std.specs.Prelude.{pos, length, replicate, IfErr, IsTrue, OnOk};
-ghost use Rattle.ipc_encode.specs.Buffers.{padded};
-ghost use Rattle.ipc_encode.specs.Segments.{AddsBuffers, IsBodyRefused, joined, segment_bytes};
+ghost use Rattle.ipc_encode.specs.Buffers.{padded_bytes};
+ghost use Rattle.ipc_encode.specs.Segments.{AddsBuffers, IsBodyRefused, bytes_of_segments};
+ghost use Rattle.ipc_encode.specs.Segments.{segment_bytes};
 
 use crate::fault::PushFault;
 use ipc_model::{Items, Limits};
@@ -63,7 +64,8 @@ impl<'a> Segment<'a> {
 // Appends a segment to others.
 fn push_segment<'a>(segments: &mut Vec<Segment<'a>>, segment: Segment<'a>) -> Result<(), AllocError>
     ensures { OnOk result
-        (joined segments.new.items ≡ joined segments.old.items ++ segment_bytes segment.entry) }
+        (bytes_of_segments segments.new.items ≡ bytes_of_segments segments.old.items
+        ++ segment_bytes segment.entry) }
 {
     segments.push(segment)?;
     Ok(())
@@ -99,8 +101,8 @@ pub(crate) fn append<'a>(
 ) -> Result<(), PushFault>
     ensures nodes { OnOk result (draft.new.nodes.items ≡ draft.old.nodes.items) }
     ensures buffers { OnOk result (draft.new.buffers.items ≡ draft.old.buffers.items) }
-    ensures body { OnOk result (joined draft.new.segments.items
-        ≡ joined draft.old.segments.items ++ segment_bytes segment.entry) }
+    ensures body { OnOk result (bytes_of_segments draft.new.segments.items
+        ≡ bytes_of_segments draft.old.segments.items ++ segment_bytes segment.entry) }
     ensures len { OnOk result
         (draft.new.len ≡ draft.old.len + length (segment_bytes segment.entry)) }
     ensures within { OnOk result (draft.new.len ≤ limits.now.body) }
@@ -129,7 +131,7 @@ fn end_buffer(
     ensures nodes { OnOk result (draft.new.nodes.items ≡ draft.old.nodes.items) }
     ensures buffers { OnOk result (draft.new.buffers.items
         ≡ draft.old.buffers.items ++ (pos start, pos (draft.old.len - start)) ∷ []) }
-    ensures body { OnOk result (joined draft.new.segments.items ≡ joined
+    ensures body { OnOk result (bytes_of_segments draft.new.segments.items ≡ bytes_of_segments
         draft.old.segments.items ++ replicate ((8 - (draft.old.len - start) % 8) % 8) 0) }
     ensures len { OnOk result
         (draft.new.len ≡ draft.old.len + (8 - (draft.old.len - start) % 8) % 8) }
@@ -156,7 +158,7 @@ pub(crate) fn add_buffer<'a>(
         (AddsBuffers draft.old draft.new (segment_bytes segment.entry ∷ [])) }
     ensures within { OnOk result (draft.new.len ≤ limits.now.body) }
     ensures refused { IfErr result (IsBodyRefused limits.now
-        (draft.old.len + length (padded (segment_bytes segment.entry ∷ [])))) }
+        (draft.old.len + length (padded_bytes (segment_bytes segment.entry ∷ [])))) }
 {
     let start = draft.len;
     append(draft, segment, limits)?;
@@ -175,7 +177,7 @@ pub(crate) fn add_joined<'a>(
         ((segment_bytes first.entry ++ segment_bytes second.entry) ∷ [])) }
     ensures within { OnOk result (draft.new.len ≤ limits.now.body) }
     ensures refused { IfErr result (IsBodyRefused limits.now (draft.old.len
-        + length (padded ((segment_bytes first.entry ++ segment_bytes second.entry) ∷ [])))) }
+        + length (padded_bytes ((segment_bytes first.entry ++ segment_bytes second.entry) ∷ [])))) }
 {
     let start = draft.len;
     append(draft, first, limits)?;

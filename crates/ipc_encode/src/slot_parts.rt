@@ -1,7 +1,7 @@
 //! The bytes that a slot of a column that was read adds to a column's buffers.
 ghost use Rattle.std.specs.Prelude.{◌≡◌, ◌++◌, ℕ, List, OnOk, length, replicate};
 ghost use Rattle.ipc_model.specs.declared.value.Value.{Value};
-ghost use Rattle.ipc_column.specs.Slots.{shown};
+ghost use Rattle.ipc_column.specs.Slots.{value_in_slot};
 ghost use Rattle.ipc_encode.specs.Cells.{content, is_set, items, slot_bytes};
 ghost use Rattle.ipc_encode.specs.Pieces.{Fixed, True, Valid};
 
@@ -12,7 +12,7 @@ use std::alloc::AllocError;
 #[inline(always)]
 pub(crate) fn is_valid(held: &Slot<'_>) -> bool
     ensures { (under : ℕ → List Value) (slot : ℕ)
-        → result ≡ is_set Valid (shown under slot held.now) }
+        → result ≡ is_set Valid (value_in_slot under slot held.now) }
 {
     match held {
         Slot::Null => false,
@@ -24,7 +24,7 @@ pub(crate) fn is_valid(held: &Slot<'_>) -> bool
 #[inline(always)]
 pub(crate) fn is_true(held: &Slot<'_>) -> bool
     ensures { (under : ℕ → List Value) (slot : ℕ)
-        → result ≡ is_set True (shown under slot held.now) }
+        → result ≡ is_set True (value_in_slot under slot held.now) }
 {
     match held {
         Slot::Bool(truth) => *truth,
@@ -36,7 +36,7 @@ pub(crate) fn is_true(held: &Slot<'_>) -> bool
 #[inline(always)]
 pub(crate) fn content<'a>(held: &Slot<'a>) -> &'a [u8]
     ensures { (under : ℕ → List Value) (slot : ℕ)
-        → result.now ≡ content (shown under slot held.now) }
+        → result.now ≡ content (value_in_slot under slot held.now) }
 {
     match held {
         Slot::Bytes(bytes) => bytes,
@@ -60,7 +60,7 @@ pub(crate) fn push_fixed(
     width: u32,
 ) -> Result<(), AllocError>
     ensures { (under : ℕ → List Value) (slot : ℕ) → OnOk result (values.new.items
-        ≡ values.old.items ++ slot_bytes (Fixed width) (shown under slot held.now)) }
+        ≡ values.old.items ++ slot_bytes (Fixed width) (value_in_slot under slot held.now)) }
 {
     match held {
         Slot::Bytes(bytes) => values.extend_from_slice(bytes),
@@ -72,7 +72,7 @@ pub(crate) fn push_fixed(
 #[inline(always)]
 pub(crate) fn item_count(held: &Slot<'_>) -> usize
     ensures { (under : ℕ → List Value) (slot : ℕ)
-        → result ≡ length (items (shown under slot held.now)) }
+        → result ≡ length (items (value_in_slot under slot held.now)) }
 {
     match held {
         Slot::List { from, to } => to.saturating_sub(*from),

@@ -5,22 +5,22 @@ ghost use Rattle.ipc_model.specs.declared.limits.Limits.{Limits};
 ghost use Rattle.ipc_model.specs.declared.value.Value.{Value};
 ghost use Rattle.ipc_model.specs.declared.value.Value.TheVariants.{Null};
 ghost use Rattle.ipc_column.specs.Shapes.{Shape, bare, field};
-ghost use Rattle.ipc_encode.specs.declared.column.Purpose.TheVariants.{Count};
-ghost use Rattle.ipc_encode.specs.Buffers.{below, nulls_below};
+ghost use Rattle.ipc_encode.specs.declared.column_builder.Purpose.TheVariants.{Count};
+ghost use Rattle.ipc_encode.specs.Buffers.{child_values, nulls_below};
 ghost use Rattle.ipc_encode.specs.Cells.{cell};
 ghost use Rattle.ipc_encode.specs.Built.{AreNodes, IsNode, HasTaken, IsColumn};
 ghost use Rattle.ipc_encode.specs.Built.{ArePushesRefused};
-ghost use Rattle.ipc_encode.specs.Numbers.{Numbering, told};
+ghost use Rattle.ipc_encode.specs.Numbers.{Numbering, index_or_zero};
 
 use crate::cells::items;
-use crate::column::{Column, Purpose};
+use crate::column_builder::{ColumnBuilder, Purpose};
 use crate::fault::PushFault;
 use crate::index::IndexOf;
 use crate::node::Node;
 use ipc_model::{Layout, Limits, Value};
 
 // From this number of values on, adding them at once costs less than one by one.
-const MANY: usize = 8;
+const BULK_MINIMUM: usize = 8;
 
 /// Returns the number of nulls that a null adds to each child of a column of this layout.
 #[inline]
@@ -37,19 +37,21 @@ pub(crate) fn nulls_below(layout: Layout) -> u64
 
 // Adds or counts this number of nulls in a column.
 fn take_own_nulls<I: IndexOf>(
-    column: &mut Column,
+    column: &mut ColumnBuilder,
     count: u64,
     purpose: Purpose,
     limits: &Limits,
     indices: &I,
 ) -> Result<(), PushFault>
     ensures taken { (layout : Layout) (values : List Value)
-        → HasTaken (told (I.IndexOf.index indices.now)) purpose limits.now layout values column.old
+        → HasTaken (index_or_zero (I.IndexOf.index indices.now)) purpose limits.now layout values
+        column.old
         → OnOk result
-        (HasTaken (told (I.IndexOf.index indices.now)) purpose limits.now layout
+        (HasTaken (index_or_zero (I.IndexOf.index indices.now)) purpose limits.now layout
         (values ++ replicate count Null) column.new) }
     ensures refused { (layout : Layout) (children : Shape) (values : List Value)
-        → HasTaken (told (I.IndexOf.index indices.now)) purpose limits.now layout values column.old
+        → HasTaken (index_or_zero (I.IndexOf.index indices.now)) purpose limits.now layout values
+        column.old
         → IfErr result (ArePushesRefused limits.now (field layout children bare)
         (λ j. values ++ replicate count Null)) }
     ensures kept { (known : Numbering) (limits : Limits) (layout : Layout) (values : List Value)
@@ -74,13 +76,14 @@ fn take_null<I: IndexOf>(
     indices: &I,
 ) -> Result<(), PushFault>
     ensures taken { (layout : Layout) (children : Shape) (values : List Value)
-        → IsNode (HasTaken (told (I.IndexOf.index indices.now)) purpose limits.now)
+        → IsNode (HasTaken (index_or_zero (I.IndexOf.index indices.now)) purpose limits.now)
         layout children node.old values
-        → OnOk result (IsNode (HasTaken (told (I.IndexOf.index indices.now)) purpose limits.now)
+        → OnOk result (IsNode (HasTaken (index_or_zero (I.IndexOf.index indices.now)) purpose
+        limits.now)
         layout children node.new
         (values ++ replicate count Null)) }
     ensures refused { (layout : Layout) (children : Shape) (values : List Value)
-        → IsNode (HasTaken (told (I.IndexOf.index indices.now)) purpose limits.now)
+        → IsNode (HasTaken (index_or_zero (I.IndexOf.index indices.now)) purpose limits.now)
         layout children node.old values
         → IfErr result (ArePushesRefused limits.now (field layout children bare)
         (λ j. values ++ replicate count Null)) }
@@ -109,13 +112,14 @@ fn take_nulls<I: IndexOf>(
     indices: &I,
 ) -> Result<(), PushFault>
     ensures taken { (shape : Shape) (given : ℕ → List Value)
-        → AreNodes (HasTaken (told (I.IndexOf.index indices.now)) purpose limits.now)
+        → AreNodes (HasTaken (index_or_zero (I.IndexOf.index indices.now)) purpose limits.now)
         shape nodes.old given
-        → OnOk result (AreNodes (HasTaken (told (I.IndexOf.index indices.now)) purpose limits.now)
+        → OnOk result (AreNodes (HasTaken (index_or_zero (I.IndexOf.index indices.now)) purpose
+        limits.now)
         shape nodes.new
         (λ j. given j ++ replicate count Null)) }
     ensures refused { (shape : Shape) (given : ℕ → List Value)
-        → AreNodes (HasTaken (told (I.IndexOf.index indices.now)) purpose limits.now)
+        → AreNodes (HasTaken (index_or_zero (I.IndexOf.index indices.now)) purpose limits.now)
         shape nodes.old given
         → IfErr result
         (ArePushesRefused limits.now shape (λ j. given j ++ replicate count Null)) }
@@ -133,7 +137,7 @@ fn take_nulls<I: IndexOf>(
 }
 
 /// Adds or counts a value in a column, and in its children the items of a list or the values of a
-/// struct. The errors are those of `Column::take`, from any of these columns.
+/// struct. The errors are those of `ColumnBuilder::take`, from any of these columns.
 #[cycle(take)]
 #[inline(always)]
 pub(crate) fn take<I: IndexOf>(
@@ -144,13 +148,14 @@ pub(crate) fn take<I: IndexOf>(
     indices: &I,
 ) -> Result<(), PushFault>
     ensures taken { (layout : Layout) (children : Shape) (values : List Value)
-        → IsNode (HasTaken (told (I.IndexOf.index indices.now)) purpose limits.now)
+        → IsNode (HasTaken (index_or_zero (I.IndexOf.index indices.now)) purpose limits.now)
         layout children node.old values
-        → OnOk result (IsNode (HasTaken (told (I.IndexOf.index indices.now)) purpose limits.now)
+        → OnOk result (IsNode (HasTaken (index_or_zero (I.IndexOf.index indices.now)) purpose
+        limits.now)
         layout children node.new
         (values ++ value.now ∷ [])) }
     ensures refused { (layout : Layout) (children : Shape) (values : List Value)
-        → IsNode (HasTaken (told (I.IndexOf.index indices.now)) purpose limits.now)
+        → IsNode (HasTaken (index_or_zero (I.IndexOf.index indices.now)) purpose limits.now)
         layout children node.old values
         → IfErr result (ArePushesRefused limits.now (field layout children bare)
         (λ j. values ++ value.now ∷ [])) }
@@ -177,13 +182,14 @@ fn take_deep<I: IndexOf>(
     indices: &I,
 ) -> Result<(), PushFault>
     ensures taken { (layout : Layout) (children : Shape) (values : List Value)
-        → IsNode (HasTaken (told (I.IndexOf.index indices.now)) purpose limits.now)
+        → IsNode (HasTaken (index_or_zero (I.IndexOf.index indices.now)) purpose limits.now)
         layout children node.old values
-        → OnOk result (IsNode (HasTaken (told (I.IndexOf.index indices.now)) purpose limits.now)
+        → OnOk result (IsNode (HasTaken (index_or_zero (I.IndexOf.index indices.now)) purpose
+        limits.now)
         layout children node.new
         (values ++ value.now ∷ [])) }
     ensures refused { (layout : Layout) (children : Shape) (values : List Value)
-        → IsNode (HasTaken (told (I.IndexOf.index indices.now)) purpose limits.now)
+        → IsNode (HasTaken (index_or_zero (I.IndexOf.index indices.now)) purpose limits.now)
         layout children node.old values
         → IfErr result (ArePushesRefused limits.now (field layout children bare)
         (λ j. values ++ value.now ∷ [])) }
@@ -217,16 +223,17 @@ fn take_below<I: IndexOf>(
     indices: &I,
 ) -> Result<(), PushFault>
     ensures taken { (shape : Shape) (values : List Value)
-        → AreNodes (HasTaken (told (I.IndexOf.index indices.now)) purpose limits.now)
-        shape nodes.old (below layout values)
-        → OnOk result (AreNodes (HasTaken (told (I.IndexOf.index indices.now)) purpose limits.now)
+        → AreNodes (HasTaken (index_or_zero (I.IndexOf.index indices.now)) purpose limits.now)
+        shape nodes.old (child_values layout values)
+        → OnOk result (AreNodes (HasTaken (index_or_zero (I.IndexOf.index indices.now)) purpose
+        limits.now)
         shape nodes.new
-        (below layout (values ++ value.now ∷ []))) }
+        (child_values layout (values ++ value.now ∷ []))) }
     ensures refused { (shape : Shape) (values : List Value)
-        → AreNodes (HasTaken (told (I.IndexOf.index indices.now)) purpose limits.now)
-        shape nodes.old (below layout values)
+        → AreNodes (HasTaken (index_or_zero (I.IndexOf.index indices.now)) purpose limits.now)
+        shape nodes.old (child_values layout values)
         → IfErr result
-        (ArePushesRefused limits.now shape (below layout (values ++ value.now ∷ []))) }
+        (ArePushesRefused limits.now shape (child_values layout (values ++ value.now ∷ []))) }
     ensures kept { (known : Numbering) (limits : Limits) (shape : Shape)
         (given : ℕ → List Value) → purpose ≡ Count
         → AreNodes (IsColumn known limits) shape nodes.old given
@@ -259,13 +266,14 @@ fn take_items<I: IndexOf>(
     indices: &I,
 ) -> Result<(), PushFault>
     ensures taken { (shape : Shape) (given : ℕ → List Value)
-        → AreNodes (HasTaken (told (I.IndexOf.index indices.now)) purpose limits.now)
+        → AreNodes (HasTaken (index_or_zero (I.IndexOf.index indices.now)) purpose limits.now)
         shape nodes.old given
-        → OnOk result (AreNodes (HasTaken (told (I.IndexOf.index indices.now)) purpose limits.now)
+        → OnOk result (AreNodes (HasTaken (index_or_zero (I.IndexOf.index indices.now)) purpose
+        limits.now)
         shape nodes.new
         (λ j. given j ++ items.now)) }
     ensures refused { (shape : Shape) (given : ℕ → List Value)
-        → AreNodes (HasTaken (told (I.IndexOf.index indices.now)) purpose limits.now)
+        → AreNodes (HasTaken (index_or_zero (I.IndexOf.index indices.now)) purpose limits.now)
         shape nodes.old given
         → IfErr result (ArePushesRefused limits.now shape (λ j. given j ++ items.now)) }
     ensures kept { (known : Numbering) (limits : Limits) (shape : Shape)
@@ -292,13 +300,14 @@ fn take_all<I: IndexOf>(
     indices: &I,
 ) -> Result<(), PushFault>
     ensures taken { (layout : Layout) (children : Shape) (before : List Value)
-        → IsNode (HasTaken (told (I.IndexOf.index indices.now)) purpose limits.now)
+        → IsNode (HasTaken (index_or_zero (I.IndexOf.index indices.now)) purpose limits.now)
         layout children node.old before
-        → OnOk result (IsNode (HasTaken (told (I.IndexOf.index indices.now)) purpose limits.now)
+        → OnOk result (IsNode (HasTaken (index_or_zero (I.IndexOf.index indices.now)) purpose
+        limits.now)
         layout children node.new
         (before ++ values.now)) }
     ensures refused { (layout : Layout) (children : Shape) (before : List Value)
-        → IsNode (HasTaken (told (I.IndexOf.index indices.now)) purpose limits.now)
+        → IsNode (HasTaken (index_or_zero (I.IndexOf.index indices.now)) purpose limits.now)
         layout children node.old before
         → IfErr result (ArePushesRefused limits.now (field layout children bare)
         (λ j. before ++ values.now)) }
@@ -309,7 +318,7 @@ fn take_all<I: IndexOf>(
     ensures memory { purpose ≡ Count
         → IfErr result (λ fault. ¬ (fault ≡ PushFault.OutOfMemory)) }
 {
-    if node.is_leaf() && values.len() >= MANY && purpose.keeps() {
+    if node.is_leaf() && values.len() >= BULK_MINIMUM && purpose.keeps() {
         return node.column.push_all(values, limits, indices);
     }
     for value in values {
@@ -329,13 +338,14 @@ pub(crate) fn take_parts<I: IndexOf>(
     indices: &I,
 ) -> Result<(), PushFault>
     ensures taken { (shape : Shape) (given : ℕ → List Value)
-        → AreNodes (HasTaken (told (I.IndexOf.index indices.now)) purpose limits.now)
+        → AreNodes (HasTaken (index_or_zero (I.IndexOf.index indices.now)) purpose limits.now)
         shape nodes.old given
-        → OnOk result (AreNodes (HasTaken (told (I.IndexOf.index indices.now)) purpose limits.now)
+        → OnOk result (AreNodes (HasTaken (index_or_zero (I.IndexOf.index indices.now)) purpose
+        limits.now)
         shape nodes.new
         (λ j. given j ++ cell j parts.now ∷ [])) }
     ensures refused { (shape : Shape) (given : ℕ → List Value)
-        → AreNodes (HasTaken (told (I.IndexOf.index indices.now)) purpose limits.now)
+        → AreNodes (HasTaken (index_or_zero (I.IndexOf.index indices.now)) purpose limits.now)
         shape nodes.old given
         → IfErr result
         (ArePushesRefused limits.now shape (λ j. given j ++ cell j parts.now ∷ [])) }

@@ -2,18 +2,18 @@
 ghost use Rattle.std.specs.Prelude.{◌≡◌, ◌↔◌, ℕ, map, [], ◌∷◌, length, IfNone, IfSome, IsSome};
 ghost use Rattle.std.specs.List.{AllByRecursion};
 ghost use Rattle.ipc_model.specs.Entries.{all_at, entries, preorder};
-ghost use Rattle.ipc_model.specs.Fits.{EachFits, Fits, InnerFit, IsOwn, RowFits};
+ghost use Rattle.ipc_model.specs.Fits.{EachFits, Fits, InnerFit, FitsOwnType, RowFits};
 ghost use Rattle.ipc_model.specs.WellFormed.{IsFieldWellFormed};
 ghost use Rattle.ipc_model.specs.declared.limits.Limits.{Limits};
 ghost use Rattle.ipc_model.specs.declared.schema.Field.{out-Field};
 ghost use Rattle.ipc_model.specs.declared.value.Value.{out-Value};
 ghost use Rattle.ipc_model.specs.declared.value.Value.TheVariants.{Null};
 ghost use Rattle.ipc_column.specs.Shapes.{field_children, field_layout, shape_of};
-ghost use Rattle.ipc_encode.specs.Buffers.{below};
+ghost use Rattle.ipc_encode.specs.Buffers.{child_values};
 ghost use Rattle.ipc_encode.specs.Cells.{cell};
 ghost use Rattle.ipc_encode.specs.Weights.{capped, field_weight, row_weight, weight_of};
 
-use crate::counting::datum;
+use crate::counting::value_len;
 use crate::tree::nulls_below;
 use ipc_model::{Field, Layout, Value, layout_of};
 
@@ -23,7 +23,7 @@ fn null_weight(field: &Field) -> u64
     ensures { result ≡ capped (field_weight field.now (Null ∷ [])) }
 {
     let layout = layout_of(&field.kind, field.dictionary);
-    let own = 6 + datum(layout, &Value::Null) as u64;
+    let own = 6 + value_len(layout, &Value::Null) as u64;
     own.saturating_add(inner_nulls_weight(layout, field.children.as_slice()))
 }
 
@@ -31,7 +31,8 @@ fn null_weight(field: &Field) -> u64
 // children.
 #[cycle(weigh_null)]
 fn inner_nulls_weight(layout: Layout, children: &[Field]) -> u64
-    ensures { result ≡ capped (weight_of 0 (shape_of children.now) (below layout (Null ∷ []))) }
+    ensures { result ≡ capped (weight_of 0 (shape_of children.now)
+        (child_values layout (Null ∷ []))) }
 {
     let mut weight: u64 = 0;
     for child in children {
@@ -49,11 +50,11 @@ fn value_weight(field: &Field, value: &Value) -> Option<u64>
         → AllByRecursion (IsFieldWellFormed limits) (preorder field.now depth)
         → IfSome result (λ weight. weight ≡ capped (field_weight field.now (value.now ∷ []))) }
 {
-    if !field.is_own(value) {
+    if !field.fits_own_type(value) {
         return None;
     }
     let layout = layout_of(&field.kind, field.dictionary);
-    let own = 6 + datum(layout, value) as u64;
+    let own = 6 + value_len(layout, value) as u64;
     let inner = inner_weight(field, layout, value)?;
     Some(own.saturating_add(inner))
 }
@@ -62,7 +63,7 @@ fn value_weight(field: &Field, value: &Value) -> Option<u64>
 // one of them does not fit its field.
 #[cycle(weigh)]
 fn inner_weight(field: &Field, layout: Layout, value: &Value) -> Option<u64>
-    requires own { IsOwn (out-Field field.now).kind (out-Field field.now).nullable
+    requires own { FitsOwnType (out-Field field.now).kind (out-Field field.now).nullable
         (length (out-Field field.now).children) (out-Value value.now) }
     requires layout { layout ≡ field_layout field.now }
     ensures fits { IfSome result (λ weight. InnerFit Fits (out-Field field.now).kind
@@ -72,7 +73,7 @@ fn inner_weight(field: &Field, layout: Layout, value: &Value) -> Option<u64>
     ensures weight { (limits : Limits) (depth : ℕ)
         → AllByRecursion (IsFieldWellFormed limits) (preorder field.now depth)
         → IfSome result (λ weight. weight ≡ capped (weight_of 0 (field_children field.now)
-        (below (field_layout field.now) (value.now ∷ [])))) }
+        (child_values (field_layout field.now) (value.now ∷ [])))) }
 {
     let children = field.children.as_slice();
     match value {

@@ -3,8 +3,8 @@ ghost use Rattle.std.specs.Prelude.{◌≡◌, ◌≤◌, IfErr, OnOk};
 ghost use Rattle.ipc_column.specs.Nested.{slot_values};
 ghost use Rattle.ipc_column.specs.Shapes.{bare, field, field_children, field_layout, shape_of};
 ghost use Rattle.ipc_column.specs.Slots.{nested_in};
-ghost use Rattle.ipc_encode.specs.Buffers.{below};
-ghost use Rattle.ipc_encode.specs.Lying.{AreWhole, IsWhole};
+ghost use Rattle.ipc_encode.specs.Buffers.{child_values};
+ghost use Rattle.ipc_encode.specs.WholeColumns.{AreFullColumns, IsFullColumn};
 ghost use Rattle.ipc_encode.specs.Numbers.{Numbering};
 ghost use Rattle.ipc_encode.specs.Segments.{AddsColumns, AreRefusedAfter};
 
@@ -33,7 +33,7 @@ pub(crate) fn add_whole<'a>(
     view: &SlotView<'a>,
     limits: &Limits,
 ) -> Result<(), PushFault>
-    requires whole { IsWhole (field_layout of.now) (field_children of.now) view.now
+    requires whole { IsFullColumn (field_layout of.now) (field_children of.now) view.now
         (slot_values view.now) }
     requires within { draft.old.len ≤ limits.now.body }
     ensures adds { (known : Numbering) → OnOk result (AddsColumns limits.now known
@@ -57,14 +57,14 @@ fn add_children<'a>(
     view: &SlotView<'a>,
     limits: &Limits,
 ) -> Result<(), PushFault>
-    requires whole { AreWhole (shape_of fields.now) (nested_in view.now)
-        (below view.now.column.layout (slot_values view.now)) }
+    requires whole { AreFullColumns (shape_of fields.now) (nested_in view.now)
+        (child_values view.now.column.layout (slot_values view.now)) }
     requires within { draft.old.len ≤ limits.now.body }
     ensures adds { (known : Numbering) → OnOk result (AddsColumns limits.now known
-        (shape_of fields.now) (below view.now.column.layout (slot_values view.now))
+        (shape_of fields.now) (child_values view.now.column.layout (slot_values view.now))
         draft.old draft.new) }
     ensures refused { IfErr result (AreRefusedAfter limits.now draft.old.len (shape_of fields.now)
-        (below view.now.column.layout (slot_values view.now))) }
+        (child_values view.now.column.layout (slot_values view.now))) }
 {
     for i in 0..fields.len() {
         let child = view.child(i);

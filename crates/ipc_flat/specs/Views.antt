@@ -4,7 +4,7 @@ use Rattle.std.specs.Prelude.{ℕ, ◌≡◌, ◌+◌, ◌≤◌, length, List, 
 use Rattle.ipc_scalar.specs.Bytes.{num}
 use Rattle.ipc_scalar.specs.declared.fault.FlatFault.{FlatFault}
 use Rattle.ipc_scalar.specs.Faulty.{◌>>=◌, where_some}
-use Rattle.ipc_scalar.specs.Flat.{vtable_of, slot_of, table_of, elements_of}
+use Rattle.ipc_scalar.specs.Flat.{vtable_of, slot_of, table_position, elements_of}
 
 -- a table: the bytes, and the table's place in them
 pub record TableView : Type 0 where
@@ -31,7 +31,7 @@ table_at b t = vtable_of b t >>= λ v. Ok (record { bytes = b; at = t })
 
 -- "Format Components": the table to which the offset at p points; the root table's offset is at 0
 unfoldable pub table_from : List ℕ → ℕ → Result TableView FlatFault
-table_from b p = table_of b p >>= λ t. Ok (record { bytes = b; at = t })
+table_from b p = table_position b p >>= λ t. Ok (record { bytes = b; at = t })
 
 -- the value read at a field's place, or the default x if the field is absent
 abbrev pub or_default : {X : Type 0} → (ℕ → X) → X → Option ℕ → X
@@ -67,7 +67,7 @@ IsAnswer view (Err e) answer = answer ≡ Err e
 
 -- there is a table at t with its vtable of `size` bytes at v; the table's first 4 bytes and the
 -- whole vtable are inside the bytes
-pub record Stands (b : List ℕ) (t v size : ℕ) : Type 0 where
+pub record IsTableAt (b : List ℕ) (t v size : ℕ) : Type 0 where
   pub found : vtable_of b t ≡ Ok v
   pub stated : size ≡ num b v 2
   pub table_inside : t + 4 ≤ length b

@@ -27,13 +27,13 @@ pub struct TableRef<'a> {
 }
 
 impl<'a> Model for TableRef<'a> {
-    ghost use Rattle.ipc_flat.specs.Views.{TableView, Stands};
+    ghost use Rattle.ipc_flat.specs.Views.{TableView, IsTableAt};
 
     ghost Value = { TableView };
 
     ghost view = { λ t. record { bytes = t.bytes.now; at = t.at } };
 
-    ghost invariant = { λ t. Stands t.bytes.now t.at t.vtable t.size };
+    ghost invariant = { λ t. IsTableAt t.bytes.now t.at t.vtable t.size };
 }
 
 // The place that is a signed distance before `at`, or `None` where that is before the first byte.
@@ -198,7 +198,7 @@ impl<'a> TableRef<'a> {
     }
 
     // The table to which the offset at a place points.
-    #[tactic(auto, unfolding(ipc_scalar::specs::Flat::table_of, crate::specs::Views::table_from, crate::specs::Views::table_at))]
+    #[tactic(auto, unfolding(ipc_scalar::specs::Flat::table_position, crate::specs::Views::table_from, crate::specs::Views::table_at))]
     pub(crate) fn from(bytes: &'a [u8], at: usize) -> Result<TableRef<'a>, FlatFault>
         ensures { result ≡ table_from bytes.now at }
     {

@@ -10,7 +10,7 @@ use Rattle.ipc_model.specs.declared.fault.Fault.TheVariants.{NotContinued, BadMe
 use Rattle.ipc_model.specs.declared.limits.Limits.{Limits}
 use Rattle.ipc_meta.specs.Causes.{Cause}
 use Rattle.ipc_meta.specs.Heads.{HeadOf}
-use Rattle.ipc_frame.specs.Frames.{mark, Begins, Pending, in_mark, in_size, in_metadata, in_body}
+use Rattle.ipc_frame.specs.Frames.{continuation_marker, Begins, Pending, in_mark, in_size, in_metadata, in_body}
 use Rattle.ipc_frame.specs.Sees.{RefusesStart, StatesNoHead, RefusesMessage}
 use Rattle.ipc_frame.specs.Decisions.{start_decision, RefusesNow}
 use Rattle.ipc_frame.proofs.OneFrame.{front_number}
@@ -18,7 +18,7 @@ use Rattle.ipc_frame.proofs.OneFrame.{front_number}
 -- ---- what holds of a beginning holds with more bytes behind it
 
 -- a mark stays with more bytes behind it
-pub mark_longer : (z c : List ℕ) → 4 ≤ length z → take 4 z ≡ mark → take 4 (z ++ c) ≡ mark
+pub mark_longer : (z c : List ℕ) → 4 ≤ length z → take 4 z ≡ continuation_marker → take 4 (z ++ c) ≡ continuation_marker
 mark_longer z c long is = take-append-le 4 z c long ∙ is
 
 -- a mark and a size stay with more bytes behind them

@@ -7,17 +7,17 @@ use Rattle.std.proofs.lemmas.List.{take_at}
 use Rattle.ipc_model.specs.declared.fault.Fault.{Fault}
 use Rattle.std.proofs.Math.Seq.{take-add}
 use Rattle.ipc_model.specs.declared.limits.Limits.{Limits}
-use Rattle.ipc_frame.specs.Bodies.{came_in}
+use Rattle.ipc_frame.specs.Bodies.{body_bytes}
 use Rattle.ipc_frame.specs.Frames.{Pending}
-use Rattle.ipc_frame.specs.Parts.{bytes_of, InMark, InSize, InMetadata, InBody, Undecided}
+use Rattle.ipc_frame.specs.Parts.{received_bytes, InMark, InSize, InMetadata, InBody, Undecided}
 use Rattle.ipc_frame.specs.Pieces.{progress_of, taking}
 use Rattle.ipc_frame.specs.Pulled.{Behind, Comes}
 use Rattle.ipc_frame.specs.declared.body.Body.{Body}
-use Rattle.ipc_frame.specs.declared.frames.Phase.{Phase}
-use Rattle.ipc_frame.specs.declared.frames.Phase.TheVariants as phase
-use Rattle.ipc_frame.specs.declared.parts.Awaited.{Awaited}
-use Rattle.ipc_frame.specs.declared.parts.Awaited.TheVariants as awaited
-use Rattle.ipc_frame.specs.declared.parts.Parts.{Parts}
+use Rattle.ipc_frame.specs.declared.frames.FrameState.{FrameState}
+use Rattle.ipc_frame.specs.declared.frames.FrameState.TheVariants as phase
+use Rattle.ipc_frame.specs.declared.partial_message.Expectation.{Expectation}
+use Rattle.ipc_frame.specs.declared.partial_message.Expectation.TheVariants as awaited
+use Rattle.ipc_frame.specs.declared.partial_message.PartialMessage.{PartialMessage}
 
 -- what came behind the first bytes of a list, where it is written back whole
 pub behind_whole : (a b : Option (List ℕ)) (items part buffer : List ℕ) (start size : ℕ) (r : Result ℕ Fault) → length buffer ≡ length items
@@ -42,23 +42,23 @@ comes_in a b items list len room wanted k few wants h = record {
 }
 
 -- the same bytes in another list are as far
-module _ (limits : Limits) (p : Parts) (b : Body) (same : came_in b ≡ came_in p.body) where
-  abbrev pub with_body : Parts
+module _ (limits : Limits) (p : PartialMessage) (b : Body) (same : body_bytes b ≡ body_bytes p.body) where
+  abbrev pub with_body : PartialMessage
   with_body = record { start = p.start; meta = p.meta; body = b }
 
-  pub same_bytes : bytes_of with_body ≡ bytes_of p
+  pub same_bytes : received_bytes with_body ≡ received_bytes p
   same_bytes = ap (λ z. p.start ++ (p.meta.items ++ z)) same
 
-  pub same_progress : (s : Phase) → progress_of with_body s ≡ progress_of p s
+  pub same_progress : (s : FrameState) → progress_of with_body s ≡ progress_of p s
   same_progress (phase.Reading a) = ap taking same_bytes
   same_progress phase.Ended = refl
   same_progress phase.Refused = refl
 
-  pending_there : (k : ℕ) → Pending limits (bytes_of p) k → Pending limits (bytes_of with_body) k
+  pending_there : (k : ℕ) → Pending limits (received_bytes p) k → Pending limits (received_bytes with_body) k
   pending_there k h = subst (λ z. Pending limits z k) (sym same_bytes) h
 
-  pub sound_there : (a : Awaited) → Undecided limits p a → Undecided limits with_body a
-  sound_there awaited.Mark h = record {
+  pub sound_there : (a : Expectation) → Undecided limits p a → Undecided limits with_body a
+  sound_there awaited.Continuation h = record {
     fits = subst (λ z. InMark p.start p.meta.items z) (sym same) h.fits;
     pending = pending_there _ h.pending;
   }
@@ -72,5 +72,5 @@ module _ (limits : Limits) (p : Parts) (b : Body) (same : came_in b ≡ came_in 
   }
   sound_there (awaited.Body n) h = record {
     fits = subst (λ z. InBody limits p.start p.meta.items z n) (sym same) h.fits;
-    pending = subst (λ j. Pending limits (bytes_of with_body) j) (ap (λ z. n - length z) (sym same)) (pending_there _ h.pending);
+    pending = subst (λ j. Pending limits (received_bytes with_body) j) (ap (λ z. n - length z) (sym same)) (pending_there _ h.pending);
   }

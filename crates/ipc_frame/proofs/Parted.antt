@@ -9,12 +9,12 @@ use Rattle.ipc_model.specs.declared.limits.Limits.{Limits}
 use Rattle.ipc_meta.specs.declared.head.Head.{Head}
 use Rattle.ipc_meta.specs.Causes.{Cause}
 use Rattle.ipc_meta.specs.Heads.{HeadOf}
-use Rattle.ipc_frame.specs.Bodies.{came_in}
-use Rattle.ipc_frame.specs.Frames.{eos, Frame, Begins, Pending, in_metadata, in_body}
+use Rattle.ipc_frame.specs.Bodies.{body_bytes}
+use Rattle.ipc_frame.specs.Frames.{end_of_stream, Frame, Begins, Pending, in_metadata, in_body}
 use Rattle.ipc_frame.specs.Sees.{RefusesMessage}
-use Rattle.ipc_frame.specs.Parts.{bytes_of, wanted_of, InSize, InMetadata, InBody, Undecided}
-use Rattle.ipc_frame.specs.declared.parts.Parts.{Parts}
-use Rattle.ipc_frame.specs.declared.parts.Awaited.TheVariants as awaited
+use Rattle.ipc_frame.specs.Parts.{received_bytes, bytes_needed, InSize, InMetadata, InBody, Undecided}
+use Rattle.ipc_frame.specs.declared.partial_message.PartialMessage.{PartialMessage}
+use Rattle.ipc_frame.specs.declared.partial_message.Expectation.TheVariants as awaited
 use Rattle.ipc_frame.proofs.Decided.{eos_of}
 use Rattle.ipc_frame.proofs.Exact.{begins_longer, pending_none}
 
@@ -63,16 +63,16 @@ module _ (limits : Limits) (s m b : List ℕ) (eight : length s ≡ 8) where
 
 -- ---- the first eight bytes
 
-alone : (p : Parts) → p.meta.items ≡ [] → came_in p.body ≡ [] → bytes_of p ≡ p.start
-alone p a b = ap (λ z. p.start ++ (z ++ came_in p.body)) a ∙ (ap (λ z. p.start ++ z) b ∙ append-nil p.start)
+alone : (p : PartialMessage) → p.meta.items ≡ [] → body_bytes p.body ≡ [] → received_bytes p ≡ p.start
+alone p a b = ap (λ z. p.start ++ (z ++ body_bytes p.body)) a ∙ (ap (λ z. p.start ++ z) b ∙ append-nil p.start)
 
-module _ (limits : Limits) (p : Parts) (h : InSize p.start p.meta.items (came_in p.body)) where
+module _ (limits : Limits) (p : PartialMessage) (h : InSize p.start p.meta.items (body_bytes p.body)) where
   module _ (whole : 8 ≤ length p.start) where
     begins : (n : ℕ) → int32 p.start 4 ≡ pos n → n ≤ limits.metadata → Begins limits p.start n
     begins n is fits = record { begun = whole; marked = h.marked; sized = is; fits = fits }
 
     -- a size of 0 is the end mark's
-    pub ends : int32 p.start 4 ≡ pos 0 → bytes_of p ≡ eos
+    pub ends : int32 p.start 4 ≡ pos 0 → received_bytes p ≡ end_of_stream
     ends none =
         alone p h.no_metadata h.no_body ∙ (sym (take_all 8 p.start h.few)
         ∙ eos_of {limits = limits} p.start (begins 0 none (omega arith)))
@@ -89,7 +89,7 @@ module _ (limits : Limits) (p : Parts) (h : InSize p.start p.meta.items (came_in
 
 -- ---- the metadata
 
-module _ (limits : Limits) (p : Parts) (n : ℕ) (h : InMetadata limits p.start p.meta.items (came_in p.body) n) where
+module _ (limits : Limits) (p : PartialMessage) (n : ℕ) (h : InMetadata limits p.start p.meta.items (body_bytes p.body) n) where
   pub metadata_short : length p.meta.items < n → Undecided limits p (awaited.Metadata n)
   metadata_short short = record {
     fits = h;
@@ -103,7 +103,7 @@ module _ (limits : Limits) (p : Parts) (n : ℕ) (h : InMetadata limits p.start 
     here : Begins limits p.start (length p.meta.items)
     here = subst (λ j. Begins limits p.start j) all h.begins
 
-    none : length (came_in p.body) ≡ 0
+    none : length (body_bytes p.body) ≡ 0
     none = ap length h.no_body
 
     pub stated : (k : ℕ) (head : Head) → HeadOf limits p.meta.items head k → 0 < k
@@ -113,41 +113,42 @@ module _ (limits : Limits) (p : Parts) (n : ℕ) (h : InMetadata limits p.start 
       pending = awaits_body limits _ _ _ h.eight k _ head here states (omega (arith, none)) (omega (arith, none));
     }
 
-    pub empty_body : (head : Head) → HeadOf limits p.meta.items head 0 → Frame limits (bytes_of p) p.meta.items head (came_in p.body)
+    pub empty_body : (head : Head) → HeadOf limits p.meta.items head 0 → Frame limits (received_bytes p) p.meta.items head
+        (body_bytes p.body)
     empty_body head states =
         whole_frame limits _ _ _ h.eight head here (subst (λ j. HeadOf limits p.meta.items head j) (sym none) states)
 
     pub refused_metadata : (fault : Fault) → ((head : Head) (k : ℕ) → HeadOf limits p.meta.items head k → ⊥)
-        → Cause limits p.meta.items fault → RefusesMessage limits (bytes_of p) fault
+        → Cause limits p.meta.items fault → RefusesMessage limits (received_bytes p) fault
     refused_metadata fault states cause = no_head limits _ _ _ h.eight n fault all h.some h.begins states cause
 
 -- ---- the body
 
-module _ (limits : Limits) (p : Parts) (n : ℕ) (h : InBody limits p.start p.meta.items (came_in p.body) n) where
-  pub body_short : length (came_in p.body) < n → Undecided limits p (awaited.Body n)
+module _ (limits : Limits) (p : PartialMessage) (n : ℕ) (h : InBody limits p.start p.meta.items (body_bytes p.body) n) where
+  pub body_short : length (body_bytes p.body) < n → Undecided limits p (awaited.Body n)
   body_short short = record {
     fits = h;
     pending = awaits_body limits _ _ _ h.eight n _ h.head h.begins h.states (omega arith) (omega arith);
   }
 
-  pub whole_body : (k : ℕ) (head : Head) → n ≤ length (came_in p.body) → HeadOf limits p.meta.items head k → k ≡ n
-      → Frame limits (bytes_of p) p.meta.items head (came_in p.body)
+  pub whole_body : (k : ℕ) (head : Head) → n ≤ length (body_bytes p.body) → HeadOf limits p.meta.items head k → k ≡ n
+      → Frame limits (received_bytes p) p.meta.items head (body_bytes p.body)
   whole_body k head whole states same =
-      let all : k ≡ length (came_in p.body) = omega (arith, h.few) in
+      let all : k ≡ length (body_bytes p.body) = omega (arith, h.few) in
       whole_frame limits _ _ _ h.eight head h.begins (subst (λ j. HeadOf limits p.meta.items head j) all states)
 
 -- ---- no byte
 
 -- of a message of which nothing came four bytes are wanted
-pub nothing_came : (limits : Limits) (p : Parts) → p.start ≡ [] → p.meta.items ≡ [] → came_in p.body ≡ []
-    → (bytes_of p ≡ []) × Undecided limits p awaited.Mark
+pub nothing_came : (limits : Limits) (p : PartialMessage) → p.start ≡ [] → p.meta.items ≡ [] → body_bytes p.body ≡ []
+    → (received_bytes p ≡ []) × Undecided limits p awaited.Continuation
 nothing_came limits p a b d =
-    let empty : bytes_of p ≡ [] = rw (a, b, d) refl in
-    let four : wanted_of p awaited.Mark ≡ 4 = rw a refl in (
+    let empty : received_bytes p ≡ [] = rw (a, b, d) refl in
+    let four : bytes_needed p awaited.Continuation ≡ 4 = rw a refl in (
       empty,
       record {
         fits = record { few = omega (arith, ap length a); no_metadata = b; no_body = d };
-        pending = subst (λ z. Pending limits z (wanted_of p awaited.Mark)) (sym empty)
+        pending = subst (λ z. Pending limits z (bytes_needed p awaited.Continuation)) (sym empty)
             (subst (λ n. Pending limits [] n) (sym four) pending_none);
       },
     )

@@ -13,16 +13,16 @@ use Rattle.ipc_frame.specs.Frames.{Pending}
 use Rattle.ipc_frame.specs.Sees.{IsFrame, RefusesMessage}
 use Rattle.ipc_frame.specs.Decisions.{RefusesNow}
 use Rattle.ipc_frame.specs.Failures.{IsOutside, UnlessOutside}
-use Rattle.ipc_frame.specs.Parts.{bytes_of, wanted_of, Undecided}
+use Rattle.ipc_frame.specs.Parts.{received_bytes, bytes_needed, Undecided}
 use Rattle.ipc_frame.specs.Steps.{IsWhole, Concludes}
-use Rattle.ipc_frame.specs.Pieces.{Feeds, Progress, phase_after, progress_of, taking, ended, refused}
-use Rattle.ipc_frame.specs.Pulled.{Behind, Comes, Gives, GivesOn, ReadsOn, Takes}
-use Rattle.ipc_frame.specs.Laws.{fed}
+use Rattle.ipc_frame.specs.Pieces.{Feeds, Progress, state_after, progress_of, taking, ended, refused}
+use Rattle.ipc_frame.specs.Pulled.{Behind, Comes, Gives, GivesOn, ReadsOn, TakesFromSource}
+use Rattle.ipc_frame.specs.Laws.{feed_result}
 use Rattle.ipc_frame.specs.declared.frame.Frame.{Frame as Framed}
-use Rattle.ipc_frame.specs.declared.parts.Parts.{Parts}
-use Rattle.ipc_frame.specs.declared.parts.Awaited.{Awaited}
-use Rattle.ipc_frame.specs.declared.step.Step.{Step}
-use Rattle.ipc_frame.specs.declared.step.Step.TheVariants.{More, Whole}
+use Rattle.ipc_frame.specs.declared.partial_message.PartialMessage.{PartialMessage}
+use Rattle.ipc_frame.specs.declared.partial_message.Expectation.{Expectation}
+use Rattle.ipc_frame.specs.declared.step.MessageStep.{MessageStep}
+use Rattle.ipc_frame.specs.declared.step.MessageStep.TheVariants.{More, Whole}
 use Rattle.ipc_frame.proofs.Exact.{refuses_now}
 use Rattle.ipc_frame.proofs.Fed.{progress_behind}
 
@@ -64,36 +64,36 @@ unless_outside fault P (inl is) r m = absurd (r is)
 unless_outside fault P (inr is) r m = absurd (m is)
 
 -- nothing came
-pub reads_lost : (limits : Limits) (a b : Option (List ℕ)) (p q : Parts) (w : Awaited) (fault : Fault) → Undecided limits p w
-    → Keeps a b → IsOutside fault → ReadsOn limits a b (bytes_of p) q 0 (Err fault)
+pub reads_lost : (limits : Limits) (a b : Option (List ℕ)) (p q : PartialMessage) (w : Expectation) (fault : Fault) → Undecided limits p w
+    → Keeps a b → IsOutside fault → ReadsOn limits a b (received_bytes p) q 0 (Err fault)
 reads_lost limits a b p q w fault h kept why = record {
   came = [];
   counted = refl;
-  wants = wanted_of p w;
+  wants = bytes_needed p w;
   undecided = h.pending;
   few = omega arith;
   bytes = Consumes-kept a a b [] (Consumes-nil a) kept;
   gives = unless_outside fault _ why;
 }
 
-module _ (limits : Limits) (a b : Option (List ℕ)) (p q : Parts) (w : Awaited) (z : List ℕ) (k : ℕ) (h : Undecided limits p w)
-    (c : Comes a b (bytes_of p) z (wanted_of p w) k) where
-  few : length c.came ≤ wanted_of p w
+module _ (limits : Limits) (a b : Option (List ℕ)) (p q : PartialMessage) (w : Expectation) (z : List ℕ) (k : ℕ) (h : Undecided limits p w)
+    (c : Comes a b (received_bytes p) z (bytes_needed p w) k) where
+  few : length c.came ≤ bytes_needed p w
   few = omega (arith, c.count, c.few)
 
-  gives_step : (r : Result Step Fault) → Concludes limits z q r → GivesOn limits (bytes_of p) c.came b q r
+  gives_step : (r : Result MessageStep Fault) → Concludes limits z q r → GivesOn limits (received_bytes p) c.came b q r
   gives_step (Ok (More n)) g = (λ none. c.at_end (sym c.count ∙ ap length none), g.0 ∙ c.list, g.1)
   gives_step (Ok (Whole frame)) g = subst (λ x. IsWhole limits x q frame) c.list g
   gives_step (Err fault) g = λ r m.
-      refuses_now limits (bytes_of p) c.came (wanted_of p w) few h.pending fault
+      refuses_now limits (received_bytes p) c.came (bytes_needed p w) few h.pending fault
       (subst (λ x. RefusesMessage limits x fault) c.list (g m))
 
   -- what came makes what its bytes say
-  pub reads_step : (r : Result Step Fault) → Concludes limits z q r → ReadsOn limits a b (bytes_of p) q k r
+  pub reads_step : (r : Result MessageStep Fault) → Concludes limits z q r → ReadsOn limits a b (received_bytes p) q k r
   reads_step r g = record {
     came = c.came;
     counted = c.count;
-    wants = wanted_of p w;
+    wants = bytes_needed p w;
     undecided = h.pending;
     few = few;
     bytes = c.bytes;
@@ -102,19 +102,20 @@ module _ (limits : Limits) (a b : Option (List ℕ)) (p q : Parts) (w : Awaited)
 
 -- ---- the calls of messages whose bytes are pulled
 
-module _ (limits : Limits) (a b : Option (List ℕ)) (z : List ℕ) (q : Parts) (n : ℕ) where
+module _ (limits : Limits) (a b : Option (List ℕ)) (z : List ℕ) (q : PartialMessage) (n : ℕ) where
   -- what was taken, where the step is another one's equal
-  pub reads_at : (r s : Result Step Fault) → r ≡ s → ReadsOn limits a b z q n r → ReadsOn limits a b z q n s
+  pub reads_at : (r s : Result MessageStep Fault) → r ≡ s → ReadsOn limits a b z q n r → ReadsOn limits a b z q n s
   reads_at r s is h = subst (λ x. ReadsOn limits a b z q n x) is h
 
-  pub takes_more : (w : Awaited) → ReadsOn limits a b z q n (Ok (More w)) → Takes limits a b (taking z) (taking (bytes_of q)) n (Ok None)
+  pub takes_more : (w : Expectation) → ReadsOn limits a b z q n (Ok (More w)) → TakesFromSource limits a b (taking z)
+      (taking (received_bytes q)) n (Ok None)
   takes_more w h = record {
     came = h.came;
     counted = h.counted;
     bytes = h.bytes;
     few = (h.wants, h.undecided, h.few);
     at_end = h.gives.0;
-    gives = (refl, ap taking h.gives.1, (wanted_of q w, subst (λ x. Pending limits x (wanted_of q w)) h.gives.1 h.gives.2.pending));
+    gives = (refl, ap taking h.gives.1, (bytes_needed q w, subst (λ x. Pending limits x (bytes_needed q w)) h.gives.1 h.gives.2.pending));
   }
 
   all_of : (x : List ℕ) → take (length x) x ≡ x
@@ -124,7 +125,7 @@ module _ (limits : Limits) (a b : Option (List ℕ)) (z : List ℕ) (q : Parts) 
   framed frame x is = subst (λ y. IsFrame limits (z ++ y) frame) (sym (all_of x)) is
 
   pub takes_whole : (frame : Framed) → ReadsOn limits a b z q n (Ok (Whole frame))
-      → Takes limits a b (taking z) (progress_of q (phase_after frame)) n (Ok (Some frame))
+      → TakesFromSource limits a b (taking z) (progress_of q (state_after frame)) n (Ok (Some frame))
   takes_whole frame h = record {
     came = h.came;
     counted = h.counted;
@@ -134,7 +135,7 @@ module _ (limits : Limits) (a b : Option (List ℕ)) (z : List ℕ) (q : Parts) 
     gives = (omega arith, progress_behind limits _ q frame h.gives, framed frame h.came h.gives.is);
   }
 
-  pub takes_refused : (fault : Fault) → ReadsOn limits a b z q n (Err fault) → Takes limits a b (taking z) refused n (Err fault)
+  pub takes_refused : (fault : Fault) → ReadsOn limits a b z q n (Err fault) → TakesFromSource limits a b (taking z) refused n (Err fault)
   takes_refused fault h = record {
     came = h.came;
     counted = h.counted;
@@ -147,7 +148,7 @@ module _ (limits : Limits) (a b : Option (List ℕ)) (z : List ℕ) (q : Parts) 
 -- what is answered of the bytes that came is what is answered of a piece of them
 pub pulled_as_fed : (limits : Limits) (before after : Progress) (came : List ℕ) (r : Result (Option Framed) Fault)
     → Gives limits before came after r → MatchResult r (λ _. Unit {0}) (λ fault. fault ≢ Read)
-    → Feeds limits before came after (fed (length came) r)
+    → Feeds limits before came after (feed_result (length came) r)
 pulled_as_fed limits before after came (Ok found) g worked = g
 pulled_as_fed limits (taking z) after came (Err fault) g worked =
     let all : take (length came) came ≡ came = take_all (length came) came (omega arith) in

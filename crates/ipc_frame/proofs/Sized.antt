@@ -8,12 +8,12 @@ use Rattle.ipc_model.specs.declared.limits.Limits.{Limits}
 use Rattle.ipc_meta.specs.declared.head.Head.{Head}
 use Rattle.ipc_meta.specs.Heads.{HeadOf}
 use Rattle.ipc_meta.proofs.Empty.{no_metadata}
-use Rattle.ipc_frame.specs.Bodies.{came_in}
+use Rattle.ipc_frame.specs.Bodies.{body_bytes}
 use Rattle.ipc_frame.specs.Frames.{Frame, IsSized}
-use Rattle.ipc_frame.specs.Parts.{bytes_of, Fits, HasSize}
-use Rattle.ipc_frame.specs.declared.parts.Awaited.{Awaited}
-use Rattle.ipc_frame.specs.declared.parts.Awaited.TheVariants as awaited
-use Rattle.ipc_frame.specs.declared.parts.Parts.{Parts}
+use Rattle.ipc_frame.specs.Parts.{received_bytes, FitsExpectation, HasSize}
+use Rattle.ipc_frame.specs.declared.partial_message.Expectation.{Expectation}
+use Rattle.ipc_frame.specs.declared.partial_message.Expectation.TheVariants as awaited
+use Rattle.ipc_frame.specs.declared.partial_message.PartialMessage.{PartialMessage}
 use Rattle.ipc_frame.proofs.Exact.{begins_longer}
 use Rattle.ipc_frame.proofs.Stepped.{Feeding}
 
@@ -27,17 +27,19 @@ some_metadata [] head n h = absurd (no_metadata head n h)
 some_metadata (b ∷ bs) head n h = omega arith
 
 -- once the size is known, the bytes that came have it
-pub sized_at : (limits : Limits) (p : Parts) (a : Awaited) → HasSize a → Fits limits p a → IsSized limits (bytes_of p)
-sized_at limits p awaited.Mark has fits = absurd has
+pub sized_at : (limits : Limits) (p : PartialMessage) (a : Expectation) → HasSize a → FitsExpectation limits p a
+    → IsSized limits (received_bytes p)
+sized_at limits p awaited.Continuation has fits = absurd has
 sized_at limits p awaited.Size has fits = absurd has
 sized_at limits p (awaited.Metadata n) has fits =
-    sized_longer p.start (p.meta.items ++ came_in p.body) (n, fits.some, fits.begins)
+    sized_longer p.start (p.meta.items ++ body_bytes p.body) (n, fits.some, fits.begins)
 sized_at limits p (awaited.Body n) has fits =
-    sized_longer p.start (p.meta.items ++ came_in p.body)
+    sized_longer p.start (p.meta.items ++ body_bytes p.body)
     (length p.meta.items, some_metadata p.meta.items fits.head n fits.states, fits.begins)
 
 -- and so have the bytes that are fed
-pub feeding_sized : (limits : Limits) (old piece : List ℕ) (p : Parts) (a : Awaited) (taken : ℕ) → Feeding limits old piece p a taken
+pub feeding_sized : (limits : Limits) (old piece : List ℕ) (p : PartialMessage) (a : Expectation) (taken : ℕ)
+    → Feeding limits old piece p a taken
     → HasSize a → IsSized limits (old ++ piece)
 feeding_sized limits old piece p a taken h has =
     subst (λ z. IsSized limits (old ++ z)) (take-append-drop taken piece)

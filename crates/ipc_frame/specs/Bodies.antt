@@ -3,8 +3,8 @@ use Rattle.std.specs.Prelude.{◌≡◌, ◌⊎◌, ℕ, List, take}
 use Rattle.ipc_frame.specs.declared.body.Body.{Body}
 
 -- the bytes that have come: the first `len` of the body's list
-abbrev pub came_in : Body → List ℕ
-came_in b = take b.len b.list.items
+abbrev pub body_bytes : Body → List ℕ
+body_bytes b = take b.len b.list.items
 
 -- of two lists one is kept: the list that was there, or the one that is offered
 abbrev pub KeepsOne : ℕ → ℕ → ℕ → Type 0

@@ -9,13 +9,13 @@ use Rattle.ipc_model.specs.declared.limits.Limits.{Limits}
 use Rattle.ipc_frame.specs.Frames.{IsSized, Pending}
 use Rattle.ipc_frame.specs.Sees.{IsFrame}
 use Rattle.ipc_frame.specs.Decisions.{RefusesNow}
-use Rattle.ipc_frame.specs.Parts.{Room, bytes_of, no_room, room_of, Undecided}
+use Rattle.ipc_frame.specs.Parts.{Capacity, received_bytes, no_capacity, capacity_of, Undecided}
 use Rattle.ipc_frame.specs.declared.frame.Frame.{Frame as Framed}
 use Rattle.ipc_frame.specs.declared.frame.Frame.TheVariants as f
-use Rattle.ipc_frame.specs.declared.frames.Phase.{Phase}
-use Rattle.ipc_frame.specs.declared.frames.Phase.TheVariants as phase
-use Rattle.ipc_frame.specs.declared.parts.Awaited.TheVariants.{Mark}
-use Rattle.ipc_frame.specs.declared.parts.Parts.{Parts}
+use Rattle.ipc_frame.specs.declared.frames.FrameState.{FrameState}
+use Rattle.ipc_frame.specs.declared.frames.FrameState.TheVariants as phase
+use Rattle.ipc_frame.specs.declared.partial_message.Expectation.TheVariants.{Continuation}
+use Rattle.ipc_frame.specs.declared.partial_message.PartialMessage.{PartialMessage}
 
 -- the state of the stream of messages: these bytes of the current message have come, the stream has
 -- ended, or it was refused
@@ -28,25 +28,25 @@ pub data Progress : Type 0 where
 pub record Framing : Type 0 where
   pub limits : Limits
   pub progress : Progress
-  pub room : Room
+  pub room : Capacity
 
 -- the progress that the stored bytes and the phase denote
-abbrev pub progress_of : Parts → Phase → Progress
-progress_of p (phase.Reading a) = taking (bytes_of p)
+abbrev pub progress_of : PartialMessage → FrameState → Progress
+progress_of p (phase.Reading a) = taking (received_bytes p)
 progress_of p phase.Ended = ended
 progress_of p phase.Refused = refused
 
 -- the stored bytes are the undecided beginning of a message; none are stored, and no list is kept,
 -- after the end or a refusal
-abbrev pub IsSound : Limits → Parts → Phase → Type 0
+abbrev pub IsSound : Limits → PartialMessage → FrameState → Type 0
 IsSound limits p (phase.Reading a) = Undecided limits p a
-IsSound limits p phase.Ended = (bytes_of p ≡ []) × (room_of p ≡ no_room)
-IsSound limits p phase.Refused = (bytes_of p ≡ []) × (room_of p ≡ no_room)
+IsSound limits p phase.Ended = (received_bytes p ≡ []) × (capacity_of p ≡ no_capacity)
+IsSound limits p phase.Refused = (received_bytes p ≡ []) × (capacity_of p ≡ no_capacity)
 
 -- the phase after a frame: after a message the next one is awaited, after the end mark nothing
-abbrev pub phase_after : Framed → Phase
-phase_after (f.Message meta head body) = phase.Reading Mark
-phase_after f.End = phase.Ended
+abbrev pub state_after : Framed → FrameState
+state_after (f.Message meta head body) = phase.Reading Continuation
+state_after f.End = phase.Ended
 
 -- the progress after a frame: after a message another one may come, after the end mark none
 abbrev pub behind : Framed → Progress
@@ -87,10 +87,10 @@ Closes ended new r = (new ≡ ended) × (r ≡ Ok tt)
 Closes refused new r = (new ≡ refused) × (r ≡ Err Failed)
 
 -- no list is kept after the end or a refusal
-abbrev pub LetsGo : Progress → Room → Type 0
-LetsGo (taking z) room = ⊤
-LetsGo ended room = room ≡ no_room
-LetsGo refused room = room ≡ no_room
+abbrev pub DropsLists : Progress → Capacity → Type 0
+DropsLists (taking z) room = ⊤
+DropsLists ended room = room ≡ no_capacity
+DropsLists refused room = room ≡ no_capacity
 
 -- a call may take memory for a message only after its first eight bytes: the stored bytes with the
 -- piece state a size of the metadata, which is within the limits and above 0

@@ -8,13 +8,13 @@ use Rattle.ipc_model.specs.declared.limits.Limits.{Limits}
 use Rattle.ipc_frame.specs.Frames.{Pending}
 use Rattle.ipc_frame.specs.Decisions.{RefusesNow}
 use Rattle.ipc_frame.specs.Failures.{FailsAs, UnlessOutside}
-use Rattle.ipc_frame.specs.Parts.{bytes_of, Undecided}
+use Rattle.ipc_frame.specs.Parts.{received_bytes, Undecided}
 use Rattle.ipc_frame.specs.Steps.{IsWhole}
 use Rattle.ipc_frame.specs.Pieces.{Progress, taking, ended, refused, Feeds}
 use Rattle.ipc_frame.specs.declared.frame.Frame.{Frame as Framed}
-use Rattle.ipc_frame.specs.declared.parts.Parts.{Parts}
-use Rattle.ipc_frame.specs.declared.step.Step.{Step}
-use Rattle.ipc_frame.specs.declared.step.Step.TheVariants.{More, Whole}
+use Rattle.ipc_frame.specs.declared.partial_message.PartialMessage.{PartialMessage}
+use Rattle.ipc_frame.specs.declared.step.MessageStep.{MessageStep}
+use Rattle.ipc_frame.specs.declared.step.MessageStep.TheVariants.{More, Whole}
 
 -- k bytes were read into a list after its first `start` bytes; k is 0 only at the source's end
 pub record Behind (old new : Option (List ℕ)) (list_old list_new : List ℕ)
@@ -38,18 +38,19 @@ pub record Comes (old new : Option (List ℕ)) (list_old list_new : List ℕ)
 -- the result of the bytes that came after z: all are stored and undecided, or they complete a
 -- frame, or they are refused at their last byte. In the first case, none came only at the source's
 -- end
-abbrev pub GivesOn : Limits → List ℕ → List ℕ → Option (List ℕ) → Parts → Result Step Fault
+abbrev pub GivesOn : Limits → List ℕ → List ℕ → Option (List ℕ) → PartialMessage
+    → Result MessageStep Fault
     → Type 0
 GivesOn limits z came left p (Ok (More a)) =
-    (came ≡ [] → IsAtEnd left) × (bytes_of p ≡ z ++ came) × Undecided limits p a
+    (came ≡ [] → IsAtEnd left) × (received_bytes p ≡ z ++ came) × Undecided limits p a
 GivesOn limits z came left p (Ok (Whole frame)) = IsWhole limits (z ++ came) p frame
 GivesOn limits z came left p (Err fault) =
     UnlessOutside fault (RefusesNow limits (z ++ came) fault)
 
 -- `count` bytes were read after z, at most the number up to the next decision, and the result is
 -- theirs
-pub record ReadsOn (limits : Limits) (old new : Option (List ℕ)) (z : List ℕ) (p : Parts)
-    (count : ℕ) (r : Result Step Fault) : Type 0 where
+pub record ReadsOn (limits : Limits) (old new : Option (List ℕ)) (z : List ℕ) (p : PartialMessage)
+    (count : ℕ) (r : Result MessageStep Fault) : Type 0 where
   pub came : List ℕ
   pub counted : length came ≡ count
   pub wants : ℕ
@@ -80,7 +81,7 @@ IsFew limits refused came = came ≡ []
 
 -- `count` bytes were taken from a source, at most the number up to the next decision, and the
 -- result is theirs
-pub record Takes (limits : Limits) (old new : Option (List ℕ)) (before after : Progress)
+pub record TakesFromSource (limits : Limits) (old new : Option (List ℕ)) (before after : Progress)
     (count : ℕ) (r : Result (Option Framed) Fault) : Type 0 where
   pub came : List ℕ
   pub counted : length came ≡ count

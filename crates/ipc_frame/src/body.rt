@@ -1,6 +1,6 @@
 ghost use Rattle.std.specs.Prelude.{◌≤◌, vec_len};
 
-use crate::pull::{PIECE, make_room, read_over};
+use crate::pull::{MAX_CLEARED, make_room, read_over};
 use crate::source::Source;
 use ipc_model::Fault;
 use std::alloc::{AllocError, Global};
@@ -18,13 +18,13 @@ impl Body {
     ghost use Rattle.std.specs.Prelude.{◌≡◌, ◌<◌, ◌≤◌, ◌+◌, ◌^◌, ◌++◌, [], length};
     ghost use Rattle.std.specs.Prelude.{IfErr, IfOk, OnErr, OnOk, vec_capacity};
     ghost use Rattle.std.specs.Io.KnownBytes.{Keeps};
-    ghost use Rattle.ipc_frame.specs.Bodies.{KeepsOne, came_in};
+    ghost use Rattle.ipc_frame.specs.Bodies.{KeepsOne, body_bytes};
     ghost use Rattle.ipc_frame.specs.Failures.{FailsAs, IsOutside};
     ghost use Rattle.ipc_frame.specs.Pulled.{Comes};
 
     // With no byte.
     pub fn new(alloc: Global) -> Body
-        ensures came { came_in result ≡ [] }
+        ensures came { body_bytes result ≡ [] }
         ensures room { vec_capacity result.list ≡ 0 }
     {
         Body {
@@ -35,7 +35,7 @@ impl Body {
 
     // How many bytes came.
     pub fn len(&self) -> usize
-        ensures len { result ≡ length (came_in self.now) }
+        ensures len { result ≡ length (body_bytes self.now) }
         ensures small { result < 2 ^ 63 }
     {
         self.len
@@ -43,7 +43,7 @@ impl Body {
 
     // Appends bytes to those that came.
     pub fn extend(&mut self, bytes: &[u8]) -> Result<(), AllocError>
-        ensures { OnOk result (came_in self.new ≡ came_in self.old ++ bytes.now) }
+        ensures { OnOk result (body_bytes self.new ≡ body_bytes self.old ++ bytes.now) }
     {
         self.list.truncate(self.len);
         self.list.extend_from_slice(bytes)?;
@@ -56,13 +56,15 @@ impl Body {
     fn make_place(&mut self, wanted: usize) -> Result<(), AllocError>
         requires { 0 < wanted }
         ensures place { OnOk result (self.new.len < vec_len self.new.list) }
-        ensures came { came_in self.new ≡ came_in self.old }
+        ensures came { body_bytes self.new ≡ body_bytes self.old }
     {
         if self.len < self.list.len() {
             return Ok(());
         }
         make_room(&mut self.list, wanted)?;
-        let room = (self.list.capacity() - self.len).min(PIECE).min(wanted);
+        let room = (self.list.capacity() - self.len)
+            .min(MAX_CLEARED)
+            .min(wanted);
         self.list.resize(self.len + room, 0)?;
         Ok(())
     }
@@ -71,7 +73,7 @@ impl Body {
     pub fn read<R: Source>(&mut self, source: &mut R, wanted: usize) -> Result<usize, Fault>
         requires { 0 < wanted }
         ensures comes { IfOk result (λ k. Comes (R.remaining source.old)
-            (R.remaining source.new) (came_in self.old) (came_in self.new) wanted k) }
+            (R.remaining source.new) (body_bytes self.old) (body_bytes self.new) wanted k) }
         ensures fewer { IfOk result (λ k. (R.bound source.new + k) ≤ R.bound source.old) }
         ensures lost { OnErr result (Keeps (R.remaining source.old) (R.remaining source.new)) }
         ensures only { IfErr result IsOutside }
@@ -86,7 +88,7 @@ impl Body {
 
     // Takes a list to read over, where no byte came and it is longer than the one that is there.
     pub fn reuse(&mut self, list: Vec<u8>)
-        ensures came { came_in self.new ≡ came_in self.old }
+        ensures came { body_bytes self.new ≡ body_bytes self.old }
         ensures kept { KeepsOne (vec_capacity self.old.list) (vec_capacity self.new.list)
             (vec_capacity list) }
     {
@@ -97,7 +99,7 @@ impl Body {
 
     // The bytes that came.
     pub fn into_list(self) -> Vec<u8>
-        ensures { result.items ≡ came_in self }
+        ensures { result.items ≡ body_bytes self }
     {
         let Body { list, len } = self;
         let mut list = list;

@@ -1,30 +1,30 @@
 ghost use Rattle.std.specs.Prelude.{◌≡◌};
-ghost use Rattle.ipc_frame.specs.Pieces.{phase_after};
+ghost use Rattle.ipc_frame.specs.Pieces.{state_after};
 
 use crate::frame::Frame;
-use crate::parts::{Awaited, Parts, wanted};
+use crate::partial_message::{Expectation, PartialMessage, bytes_needed};
 use crate::pull::read_on;
 use crate::source::Source;
-use crate::step::{Step, feed_on};
+use crate::step::{MessageStep, feed_on};
 use ipc_model::{Fault, Limits};
 use std::alloc::Global;
 use std::marker::Model;
 
 // Whether messages still come, and what is awaited of the one at hand.
 #[derive(Clone, Copy)]
-pub(crate) enum Phase {
-    Reading(Awaited),
+pub(crate) enum FrameState {
+    Reading(Expectation),
     Ended,
     Refused,
 }
 
 // After a message another one may come; after the end-of-stream mark nothing comes.
-fn phase_behind(frame: &Frame) -> Phase
-    ensures { result ≡ phase_after frame.now }
+fn state_after(frame: &Frame) -> FrameState
+    ensures { result ≡ state_after frame.now }
 {
     match frame {
-        Frame::Message { .. } => Phase::Reading(Awaited::Mark),
-        Frame::End => Phase::Ended,
+        Frame::Message { .. } => FrameState::Reading(Expectation::Continuation),
+        Frame::End => FrameState::Ended,
     }
 }
 
@@ -44,14 +44,14 @@ fn phase_behind(frame: &Frame) -> Phase
 /// After a refusal each call returns F35 (`Failed`) and takes no bytes.
 #[derive(Drop)]
 pub struct Frames {
-    parts: Parts,
-    phase: Phase,
+    parts: PartialMessage,
+    phase: FrameState,
     limits: Limits,
     alloc: Global,
 }
 
 impl Model for Frames {
-    ghost use Rattle.ipc_frame.specs.Parts.{room_of};
+    ghost use Rattle.ipc_frame.specs.Parts.{capacity_of};
     ghost use Rattle.ipc_frame.specs.Pieces.{Framing, progress_of, IsSound};
 
     ghost Value = { Framing };
@@ -59,7 +59,7 @@ impl Model for Frames {
     ghost view = { λ s. record {
       limits = s.limits;
       progress = progress_of s.parts s.phase;
-      room = room_of s.parts;
+      room = capacity_of s.parts;
     } };
 
     ghost invariant = { λ s. IsSound s.limits s.parts s.phase };
@@ -69,20 +69,21 @@ impl Frames {
     ghost use Rattle.std.specs.Prelude.{◌≡◌, ◌≤◌, ◌+◌, [], IfErr, IfSome, MatchResult, OnOk};
     ghost use Rattle.std.specs.Prelude.{vec_capacity};
     ghost use Rattle.ipc_frame.specs.Bodies.{KeepsOne};
-    ghost use Rattle.ipc_frame.specs.Parts.{no_room};
-    ghost use Rattle.ipc_frame.specs.Pulled.{FailsWhile, Takes};
-    ghost use Rattle.ipc_frame.specs.Pieces.{Closes, Feeds, LetsGo, TakesMemory, Wants, held_of};
+    ghost use Rattle.ipc_frame.specs.Parts.{no_capacity};
+    ghost use Rattle.ipc_frame.specs.Pulled.{FailsWhile, TakesFromSource};
+    ghost use Rattle.ipc_frame.specs.Pieces.{Closes, Feeds, DropsLists, TakesMemory, Wants};
+    ghost use Rattle.ipc_frame.specs.Pieces.{held_of};
     ghost use Rattle.ipc_frame.specs.Pieces.{taking};
 
     /// Starts at the beginning of a stream. All that it accepts, in each call, is within `limits`.
     pub fn new(alloc: Global, limits: Limits) -> Frames
         ensures limits { result.limits ≡ limits }
         ensures progress { result.progress ≡ taking [] }
-        ensures room { result.room ≡ no_room }
+        ensures room { result.room ≡ no_capacity }
     {
         Frames {
-            parts: Parts::new(alloc),
-            phase: Phase::Reading(Awaited::Mark),
+            parts: PartialMessage::new(alloc),
+            phase: FrameState::Reading(Expectation::Continuation),
             limits,
             alloc,
         }
@@ -108,29 +109,30 @@ impl Frames {
         ensures feeds { Feeds self.old.limits self.old.progress piece.now self.new.progress result }
         ensures limits { self.new.limits ≡ self.old.limits }
         // No list is kept after a message, after the end-of-stream mark and after a refusal.
-        ensures moved { MatchResult result (λ found. IfSome found.1 (λ _. self.new.room ≡ no_room))
-            (λ _. self.new.room ≡ no_room) }
-        ensures let_go { LetsGo self.new.progress self.new.room }
+        ensures moved { MatchResult result (λ found. IfSome found.1
+            (λ _. self.new.room ≡ no_capacity))
+            (λ _. self.new.room ≡ no_capacity) }
+        ensures let_go { DropsLists self.new.progress self.new.room }
         // Memory runs out only after the first eight bytes of a message, and not at the mark.
         ensures memory { IfErr result (λ fault. fault ≡ Fault.OutOfMemory
             → TakesMemory self.old.limits self.old.progress piece.now) }
     {
         match self.phase {
-            Phase::Ended => Ok((0, None)),
-            Phase::Refused => Err(Fault::Failed),
-            Phase::Reading(awaited) => {
+            FrameState::Ended => Ok((0, None)),
+            FrameState::Refused => Err(Fault::Failed),
+            FrameState::Reading(awaited) => {
                 match feed_on(self.alloc, &self.limits, &mut self.parts, awaited, piece) {
-                    Ok((taken, Step::More(awaited))) => {
-                        self.phase = Phase::Reading(awaited);
+                    Ok((taken, MessageStep::More(awaited))) => {
+                        self.phase = FrameState::Reading(awaited);
                         Ok((taken, None))
                     }
-                    Ok((taken, Step::Whole(frame))) => {
-                        self.phase = phase_behind(&frame);
+                    Ok((taken, MessageStep::Whole(frame))) => {
+                        self.phase = state_after(&frame);
                         Ok((taken, Some(frame)))
                     }
                     Err(fault) => {
-                        self.parts = Parts::new(self.alloc);
-                        self.phase = Phase::Refused;
+                        self.parts = PartialMessage::new(self.alloc);
+                        self.phase = FrameState::Refused;
                         Err(fault)
                     }
                 }
@@ -149,24 +151,25 @@ impl Frames {
     /// Errors: those of `feed`, each with the byte that decides it, and `Read` (F36) if the source
     /// failed.
     pub fn feed_from<R: Source>(&mut self, source: &mut R) -> (usize, Result<Option<Frame>, Fault>)
-        ensures takes { Takes self.old.limits (R.remaining source.old)
+        ensures takes { TakesFromSource self.old.limits (R.remaining source.old)
             (R.remaining source.new) self.old.progress self.new.progress result.0 result.1 }
         ensures limits { self.new.limits ≡ self.old.limits }
         ensures fewer { OnOk result.1 ((R.bound source.new + result.0) ≤ R.bound source.old) }
         ensures failures { FailsWhile self.old.progress (R.failures source.old)
             (R.failures source.new) result.1 }
         // No list is kept after a message, after the end-of-stream mark and after a refusal.
-        ensures moved { MatchResult result.1 (λ found. IfSome found (λ _. self.new.room ≡ no_room))
-            (λ _. self.new.room ≡ no_room) }
-        ensures let_go { LetsGo self.new.progress self.new.room }
+        ensures moved { MatchResult result.1 (λ found. IfSome found
+            (λ _. self.new.room ≡ no_capacity))
+            (λ _. self.new.room ≡ no_capacity) }
+        ensures let_go { DropsLists self.new.progress self.new.room }
         // Memory runs out only after the first eight bytes of a message, and not at the mark.
         ensures memory { IfErr result.1 (λ fault. fault ≡ Fault.OutOfMemory
             → TakesMemory self.old.limits self.old.progress []) }
     {
         match self.phase {
-            Phase::Ended => (0, Ok(None)),
-            Phase::Refused => (0, Err(Fault::Failed)),
-            Phase::Reading(awaited) => {
+            FrameState::Ended => (0, Ok(None)),
+            FrameState::Refused => (0, Err(Fault::Failed)),
+            FrameState::Reading(awaited) => {
                 let (count, step) = read_on(
                     self.alloc,
                     &self.limits,
@@ -175,17 +178,17 @@ impl Frames {
                     awaited,
                 );
                 match step {
-                    Ok(Step::More(awaited)) => {
-                        self.phase = Phase::Reading(awaited);
+                    Ok(MessageStep::More(awaited)) => {
+                        self.phase = FrameState::Reading(awaited);
                         (count, Ok(None))
                     }
-                    Ok(Step::Whole(frame)) => {
-                        self.phase = phase_behind(&frame);
+                    Ok(MessageStep::Whole(frame)) => {
+                        self.phase = state_after(&frame);
                         (count, Ok(Some(frame)))
                     }
                     Err(fault) => {
-                        self.parts = Parts::new(self.alloc);
-                        self.phase = Phase::Refused;
+                        self.parts = PartialMessage::new(self.alloc);
+                        self.phase = FrameState::Refused;
                         (count, Err(fault))
                     }
                 }
@@ -204,9 +207,9 @@ impl Frames {
         // One list is kept for the next body: this one, or the one that was kept before.
         ensures kept { KeepsOne self.old.room.body self.new.room.body (vec_capacity list) }
         ensures metadata { self.new.room.metadata ≡ self.old.room.metadata }
-        ensures let_go { LetsGo self.new.progress self.new.room }
+        ensures let_go { DropsLists self.new.progress self.new.room }
     {
-        if let Phase::Reading(_) = self.phase {
+        if let FrameState::Reading(_) = self.phase {
             self.parts.body.reuse(list);
         }
     }
@@ -218,8 +221,8 @@ impl Frames {
         ensures { Wants self.now.limits self.now.progress result }
     {
         match self.phase {
-            Phase::Reading(awaited) => wanted(&self.limits, &self.parts, awaited),
-            Phase::Ended | Phase::Refused => 0,
+            FrameState::Reading(awaited) => bytes_needed(&self.limits, &self.parts, awaited),
+            FrameState::Ended | FrameState::Refused => 0,
         }
     }
 
@@ -245,19 +248,19 @@ impl Frames {
         ensures closed { Closes self.old.progress self.new.progress result }
         ensures limits { self.new.limits ≡ self.old.limits }
         // No list is kept, whatever the result.
-        ensures let_go { self.new.room ≡ no_room }
+        ensures let_go { self.new.room ≡ no_capacity }
     {
         match self.phase {
-            Phase::Ended => Ok(()),
-            Phase::Refused => Err(Fault::Failed),
-            Phase::Reading(Awaited::Mark) if self.parts.start.len() == 0 => {
-                self.parts = Parts::new(self.alloc);
-                self.phase = Phase::Ended;
+            FrameState::Ended => Ok(()),
+            FrameState::Refused => Err(Fault::Failed),
+            FrameState::Reading(Expectation::Continuation) if self.parts.start.len() == 0 => {
+                self.parts = PartialMessage::new(self.alloc);
+                self.phase = FrameState::Ended;
                 Ok(())
             }
-            Phase::Reading(_) => {
-                self.parts = Parts::new(self.alloc);
-                self.phase = Phase::Refused;
+            FrameState::Reading(_) => {
+                self.parts = PartialMessage::new(self.alloc);
+                self.phase = FrameState::Refused;
                 Err(Fault::Truncated)
             }
         }

@@ -7,14 +7,14 @@ mod decision;
 mod frame;
 mod frames;
 pub mod laws;
-mod parts;
+mod message_prefix;
+mod partial_message;
 mod pull;
 mod source;
-mod start;
 mod step;
 mod write;
 
-pub use frame::{END, Frame};
+pub use frame::{END_OF_STREAM, Frame};
 pub use frames::Frames;
 pub use source::{Failed, Source};
 pub use write::frame_into;

@@ -2,21 +2,22 @@ ghost use Rattle.std.specs.Prelude.{◌≡◌, ◌<◌, ◌≤◌, ◌+◌, ◌*
 ghost use Rattle.std.specs.Prelude.{IfOk, IfErr, OnOk, OnErr};
 ghost use Rattle.std.specs.Io.KnownBytes.{Keeps};
 ghost use Rattle.ipc_frame.specs.Failures.{FailsAs, IsOutside};
-ghost use Rattle.ipc_frame.specs.Parts.{Fits, HasSize, Undecided, bytes_of, wanted_of};
+ghost use Rattle.ipc_frame.specs.Parts.{FitsExpectation, HasSize, Undecided, received_bytes};
+ghost use Rattle.ipc_frame.specs.Parts.{bytes_needed};
 ghost use Rattle.ipc_frame.specs.Pulled.{Behind, Comes, ReadsOn};
 
-use crate::parts::{Awaited, Parts, wanted};
+use crate::partial_message::{Expectation, PartialMessage, bytes_needed};
 use crate::source::Source;
-use crate::step::{Step, conclude};
+use crate::step::{MessageStep, conclude};
 use ipc_model::{Fault, Limits};
 use std::alloc::{AllocError, Global};
 
 // For how many bytes room is made and cleared at most at once, where few came.
-pub const PIECE: usize = 65_536;
+pub const MAX_CLEARED: usize = 65_536;
 
 // Calls the source once, for at most `room` bytes, which overwrite those after the first `start`
 // bytes.
-pub fn read_behind<R: Source>(
+pub fn read_after<R: Source>(
     source: &mut R,
     list: &mut [u8],
     start: usize,
@@ -58,7 +59,7 @@ pub fn read_over<R: Source>(
     ensures only { IfErr result (λ fault. fault ≡ Fault.Read) }
     ensures failures { FailsAs (R.failures source.old) (R.failures source.new) result }
 {
-    read_behind(source, list, start, room)
+    read_after(source, list, start, room)
 }
 
 // Makes space after the contents of a full list, for some of the wanted bytes: its length or one
@@ -68,16 +69,20 @@ pub fn make_room(list: &mut Vec<u8>, wanted: usize) -> Result<(), AllocError>
     ensures room { OnOk result (vec_len list.new < vec_capacity list.new) }
     ensures items { list.new.items ≡ list.old.items }
     ensures few { OnOk result (vec_capacity list.new
-        ≤ max (vec_capacity list.old) (2 * vec_len list.old + PIECE)) }
+        ≤ max (vec_capacity list.old) (2 * vec_len list.old + MAX_CLEARED)) }
 {
     if list.len() == list.capacity() {
-        list.reserve_exact(wanted.min(list.len().max(PIECE)))?;
+        list.reserve_exact(wanted.min(list.len().max(MAX_CLEARED)))?;
     }
     Ok(())
 }
 
 // Calls the source once, for at most the wanted bytes, and appends what comes to the list.
-fn read_onto<R: Source>(source: &mut R, list: &mut Vec<u8>, wanted: usize) -> Result<usize, Fault>
+fn read_appending<R: Source>(
+    source: &mut R,
+    list: &mut Vec<u8>,
+    wanted: usize,
+) -> Result<usize, Fault>
     requires { 0 < wanted }
     ensures comes { IfOk result (λ k. Comes (R.remaining source.old)
         (R.remaining source.new) list.old.items list.new.items wanted k) }
@@ -88,9 +93,9 @@ fn read_onto<R: Source>(source: &mut R, list: &mut Vec<u8>, wanted: usize) -> Re
 {
     make_room(list, wanted)?;
     let start = list.len();
-    let room = (list.capacity() - start).min(PIECE).min(wanted);
+    let room = (list.capacity() - start).min(MAX_CLEARED).min(wanted);
     list.resize(start + room, 0)?;
-    let count = read_behind(source, list, start, room)?;
+    let count = read_after(source, list, start, room)?;
     list.truncate(start + count);
     Ok(count)
 }
@@ -99,26 +104,26 @@ fn read_onto<R: Source>(source: &mut R, list: &mut Vec<u8>, wanted: usize) -> Re
 fn read_part<R: Source>(
     limits: &Limits,
     source: &mut R,
-    parts: &mut Parts,
-    awaited: Awaited,
+    parts: &mut PartialMessage,
+    awaited: Expectation,
 ) -> Result<usize, Fault>
     requires { Undecided limits.now parts.old awaited }
-    ensures fits { OnOk result (Fits limits.now parts.new awaited) }
+    ensures fits { OnOk result (FitsExpectation limits.now parts.new awaited) }
     ensures comes { IfOk result (λ k. Comes (R.remaining source.old)
-        (R.remaining source.new) (bytes_of parts.old) (bytes_of parts.new)
-        (wanted_of parts.old awaited) k) }
+        (R.remaining source.new) (received_bytes parts.old) (received_bytes parts.new)
+        (bytes_needed parts.old awaited) k) }
     ensures fewer { IfOk result (λ k. (R.bound source.new + k) ≤ R.bound source.old) }
     ensures lost { OnErr result (Keeps (R.remaining source.old) (R.remaining source.new)) }
     ensures only { IfErr result IsOutside }
     ensures failures { FailsAs (R.failures source.old) (R.failures source.new) result }
     ensures memory { IfErr result (λ fault. fault ≡ Fault.OutOfMemory → HasSize awaited) }
 {
-    let wants = wanted(limits, parts, awaited);
+    let wants = bytes_needed(limits, parts, awaited);
     match awaited {
-        Awaited::Mark => parts.start.read(source, wants),
-        Awaited::Size => parts.start.read(source, wants),
-        Awaited::Metadata(_) => read_onto(source, &mut parts.meta, wants),
-        Awaited::Body(_) => parts.body.read(source, wants),
+        Expectation::Continuation => parts.start.read(source, wants),
+        Expectation::Size => parts.start.read(source, wants),
+        Expectation::Metadata(_) => read_appending(source, &mut parts.meta, wants),
+        Expectation::Body(_) => parts.body.read(source, wants),
     }
 }
 
@@ -128,12 +133,12 @@ pub fn read_on<R: Source>(
     alloc: Global,
     limits: &Limits,
     source: &mut R,
-    parts: &mut Parts,
-    awaited: Awaited,
-) -> (usize, Result<Step, Fault>)
+    parts: &mut PartialMessage,
+    awaited: Expectation,
+) -> (usize, Result<MessageStep, Fault>)
     requires { Undecided limits.now parts.old awaited }
     ensures reads { ReadsOn limits.now (R.remaining source.old)
-        (R.remaining source.new) (bytes_of parts.old) parts.new result.0 result.1 }
+        (R.remaining source.new) (received_bytes parts.old) parts.new result.0 result.1 }
     ensures fewer { OnOk result.1 ((R.bound source.new + result.0) ≤ R.bound source.old) }
     ensures failures { FailsAs (R.failures source.old) (R.failures source.new) result.1 }
     ensures memory { IfErr result.1 (λ fault. fault ≡ Fault.OutOfMemory → HasSize awaited) }

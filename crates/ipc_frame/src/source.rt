@@ -1,6 +1,6 @@
 ghost use Rattle.std.specs.Prelude.{ℕ, List, Option, Some, ◌≤◌, ◌+◌, length, IfOk};
 ghost use Rattle.std.specs.Io.KnownBytes.{ReadConsumes};
-ghost use Rattle.ipc_frame.specs.Failures.{Counts};
+ghost use Rattle.ipc_frame.specs.Failures.{CountsFailures};
 ghost use Rattle.ipc_frame.specs.Texts.{failed_text};
 
 use std::error::Error;
@@ -39,5 +39,5 @@ pub trait Source {
         ensures count { IfOk result (λ k. k ≤ length into.new) }
         ensures bytes { ReadConsumes (remaining self.old) (remaining self.new) result into.new }
         ensures fewer { IfOk result (λ k. (bound self.new + k) ≤ bound self.old) }
-        ensures failures { Counts (failures self.old) (failures self.new) result };
+        ensures failures { CountsFailures (failures self.old) (failures self.new) result };
 }

@@ -1,21 +1,21 @@
 ghost use Rattle.std.specs.Prelude.{◌≡◌, ◌++◌, IfErr};
 ghost use Rattle.ipc_frame.specs.Frames.{IsSized};
-ghost use Rattle.ipc_frame.specs.Parts.{Fits, HasSize, Undecided, bytes_of};
+ghost use Rattle.ipc_frame.specs.Parts.{FitsExpectation, HasSize, Undecided, received_bytes};
 ghost use Rattle.ipc_frame.specs.Steps.{Concludes, FeedsOn};
 
 use crate::body::Body;
 use crate::decision::{Decision, decide};
 use crate::frame::Frame;
-use crate::parts::{Awaited, Parts, extend, wanted};
-use crate::start::Start;
+use crate::message_prefix::MessagePrefix;
+use crate::partial_message::{Expectation, PartialMessage, bytes_needed, extend};
 use ipc_model::{Fault, Limits};
 use std::alloc::Global;
 use std::mem::replace;
 
 // What is known of a message whose bytes came: more are awaited, or it is whole.
 #[derive(Drop)]
-pub enum Step {
-    More(Awaited),
+pub enum MessageStep {
+    More(Expectation),
     Whole(Frame),
 }
 
@@ -24,24 +24,24 @@ pub enum Step {
 pub fn conclude(
     alloc: Global,
     limits: &Limits,
-    parts: &mut Parts,
-    awaited: Awaited,
-) -> Result<Step, Fault>
-    requires { Fits limits.now parts.old awaited }
-    ensures concludes { Concludes limits.now (bytes_of parts.old) parts.new result }
+    parts: &mut PartialMessage,
+    awaited: Expectation,
+) -> Result<MessageStep, Fault>
+    requires { FitsExpectation limits.now parts.old awaited }
+    ensures concludes { Concludes limits.now (received_bytes parts.old) parts.new result }
     ensures memory { IfErr result (λ fault. fault ≡ Fault.OutOfMemory → HasSize awaited) }
 {
     match decide(alloc, limits, parts, awaited)? {
-        Decision::More(awaited) => Ok(Step::More(awaited)),
+        Decision::More(awaited) => Ok(MessageStep::More(awaited)),
         Decision::End => {
-            *parts = Parts::new(alloc);
-            Ok(Step::Whole(Frame::End))
+            *parts = PartialMessage::new(alloc);
+            Ok(MessageStep::Whole(Frame::End))
         }
         Decision::Message(head) => {
-            parts.start = Start::new();
+            parts.start = MessagePrefix::new();
             let meta = replace(&mut parts.meta, Vec::new(alloc));
             let body = replace(&mut parts.body, Body::new(alloc)).into_list();
-            Ok(Step::Whole(Frame::Message { meta, head, body }))
+            Ok(MessageStep::Whole(Frame::Message { meta, head, body }))
         }
     }
 }
@@ -50,25 +50,25 @@ pub fn conclude(
 pub fn feed_on(
     alloc: Global,
     limits: &Limits,
-    parts: &mut Parts,
-    awaited: Awaited,
+    parts: &mut PartialMessage,
+    awaited: Expectation,
     piece: &[u8],
-) -> Result<(usize, Step), Fault>
+) -> Result<(usize, MessageStep), Fault>
     requires { Undecided limits.now parts.old awaited }
-    ensures feeds { FeedsOn limits.now (bytes_of parts.old) piece.now parts.new result }
+    ensures feeds { FeedsOn limits.now (received_bytes parts.old) piece.now parts.new result }
     ensures memory { IfErr result (λ fault. fault ≡ Fault.OutOfMemory
-        → IsSized limits.now (bytes_of parts.old ++ piece.now)) }
+        → IsSized limits.now (received_bytes parts.old ++ piece.now)) }
 {
     let mut awaited = awaited;
     let mut taken = 0;
     while taken < piece.len() {
-        let count = wanted(limits, parts, awaited).min(piece.len() - taken);
+        let count = bytes_needed(limits, parts, awaited).min(piece.len() - taken);
         extend(limits, parts, awaited, &piece[taken..taken + count])?;
         taken += count;
         match conclude(alloc, limits, parts, awaited)? {
-            Step::More(next) => awaited = next,
-            Step::Whole(frame) => return Ok((taken, Step::Whole(frame))),
+            MessageStep::More(next) => awaited = next,
+            MessageStep::Whole(frame) => return Ok((taken, MessageStep::Whole(frame))),
         }
     }
-    Ok((taken, Step::More(awaited)))
+    Ok((taken, MessageStep::More(awaited)))
 }

@@ -6,7 +6,7 @@ use Rattle.ipc_model.specs.Answers.{◌>>=◌}
 use Rattle.ipc_meta.specs.Budgets.{Reading}
 use Rattle.ipc_meta.specs.declared.budget.Budget.{Budget}
 use Rattle.ipc_model.specs.declared.fault.Fault.{Fault}
-use Rattle.ipc_meta.specs.Lifts.{lift}
+use Rattle.ipc_meta.specs.FlatFaults.{map_fault}
 use Rattle.ipc_meta.specs.Reading.{each, with_front}
 
 -- the tables from the i-th of n on, with so many fields left
@@ -15,7 +15,7 @@ from_ith f b p i n left = each f b (p + i * 4) (n - i) left
 
 -- the first of the tables that are left
 each_next : {X : Type 0} (f : TableView → Reading X) (b : List ℕ) (p i n : ℕ) (left : Budget) → i < n
-    → from_ith f b p i n left ≡ (lift (table_from b (p + i * 4)) >>= λ t. f t left >>= λ x. from_ith f b p (i + 1) n x.1
+    → from_ith f b p i n left ≡ (map_fault (table_from b (p + i * 4)) >>= λ t. f t left >>= λ x. from_ith f b p (i + 1) n x.1
     >>= λ xs. Ok (x.0 ∷ xs.0, xs.1))
 unfolding each
 each_next f b p i n left h =
@@ -26,7 +26,7 @@ each_next f b p i n left h =
 -- one more is read
 pub each_more : {X : Type 0} (f : TableView → Reading X) (b : List ℕ) (p i n : ℕ) (left after : Budget) (t : TableView) (x : X)
     (front : List X) → i < n
-    → lift (table_from b (p + i * 4)) ≡ Ok t → f t left ≡ Ok (x, after)
+    → map_fault (table_from b (p + i * 4)) ≡ Ok t → f t left ≡ Ok (x, after)
     → with_front front (from_ith f b p i n left) ≡ with_front (front ++ x ∷ []) (from_ith f b p (i + 1) n after)
 each_more f b p i n left after t x front h e g = rw (each_next f b p i n left h, e, g) (go (from_ith f b p (i + 1) n after))
   where
@@ -36,14 +36,14 @@ each_more f b p i n left after t x front h e g = rw (each_next f b p i n left h,
 
 -- no table is there
 pub each_no_table : {X : Type 0} (f : TableView → Reading X) (b : List ℕ) (p i n : ℕ) (left : Budget) (d : Fault) (front : List X) → i < n
-    → lift (table_from b (p + i * 4)) ≡ Err d
+    → map_fault (table_from b (p + i * 4)) ≡ Err d
     → with_front front (from_ith f b p i n left) ≡ Err d
 each_no_table f b p i n left d front h e = rw (each_next f b p i n left h, e) refl
 
 -- one is refused
 pub each_refused : {X : Type 0} (f : TableView → Reading X) (b : List ℕ) (p i n : ℕ) (left : Budget) (t : TableView) (d : Fault)
     (front : List X) → i < n
-    → lift (table_from b (p + i * 4)) ≡ Ok t → f t left ≡ Err d
+    → map_fault (table_from b (p + i * 4)) ≡ Ok t → f t left ≡ Err d
     → with_front front (from_ith f b p i n left) ≡ Err d
 each_refused f b p i n left t d front h e g = rw (each_next f b p i n left h, e, g) refl
 

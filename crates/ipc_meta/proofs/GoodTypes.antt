@@ -17,7 +17,7 @@ use Rattle.ipc_model.specs.declared.fault.Fault.TheVariants.{BadType}
 use Rattle.ipc_model.specs.declared.schema.DataType.{DataType}
 use Rattle.ipc_model.specs.declared.schema.DataType.TheVariants as type
 use Rattle.ipc_model.specs.declared.schema.DateUnit.TheVariants as date
-use Rattle.ipc_meta.specs.Lifts.{lift}
+use Rattle.ipc_meta.specs.FlatFaults.{map_fault}
 use Rattle.ipc_meta.specs.Tables.{ok_or, unit_of, int_at, fixed_at, date_at, timestamp_at, type_of, type_in, is_type_code, code_at, type_at}
 use Rattle.ipc_meta.specs.Tables.{fixed_list_at, time_at, duration_at}
 use Rattle.ipc_meta.proofs.Sound.{bind_ok, lift_ok}
@@ -45,18 +45,18 @@ stated t n i = within (slot_of t.bytes t.at 0 4) i
     within (Ok o) e = stated_small t.bytes o n (cc)
     within (Err d) e = absurd (cc)
 
-fixed_good : (t : TableView) (κ : DataType) → (lift (scalar t 0 4 int32 (pos 0)) >>= fixed_at) ≡ Ok κ → HasGoodType κ
+fixed_good : (t : TableView) (κ : DataType) → (map_fault (scalar t 0 4 int32 (pos 0)) >>= fixed_at) ≡ Ok κ → HasGoodType κ
 fixed_good t κ h =
-    let w = bind_ok (lift (scalar t 0 4 int32 (pos 0))) _ κ h in
+    let w = bind_ok (map_fault (scalar t 0 4 int32 (pos 0))) _ κ h in
     go w.0 (lift_ok (scalar t 0 4 int32 (pos 0)) w.0 w.1) w.2
   where
     go : (z : ℤ) → scalar t 0 4 int32 (pos 0) ≡ Ok z → fixed_at z ≡ Ok κ → HasGoodType κ
     go (pos n) i e = let same : type.FixedSizeBinary n ≡ κ = cc in subst HasGoodType same (stated t n i)
     go (negsuc n) i e = absurd (cc)
 
-fixed_list_good : (t : TableView) (κ : DataType) → (lift (scalar t 0 4 int32 (pos 0)) >>= fixed_list_at) ≡ Ok κ → HasGoodType κ
+fixed_list_good : (t : TableView) (κ : DataType) → (map_fault (scalar t 0 4 int32 (pos 0)) >>= fixed_list_at) ≡ Ok κ → HasGoodType κ
 fixed_list_good t κ h =
-    let w = bind_ok (lift (scalar t 0 4 int32 (pos 0))) _ κ h in
+    let w = bind_ok (map_fault (scalar t 0 4 int32 (pos 0))) _ κ h in
     go w.0 (lift_ok (scalar t 0 4 int32 (pos 0)) w.0 w.1) w.2
   where
     go : (z : ℤ) → scalar t 0 4 int32 (pos 0) ≡ Ok z → fixed_list_at z ≡ Ok κ → HasGoodType κ
@@ -75,21 +75,21 @@ date_good (negsuc n) κ h = absurd (cc)
 
 timestamp_good : (t : TableView) (κ : DataType) → timestamp_at t ≡ Ok κ → HasGoodType κ
 timestamp_good t κ h =
-    let w = bind_ok (lift (scalar t 0 2 int16 (pos 0))) _ κ h in
+    let w = bind_ok (map_fault (scalar t 0 2 int16 (pos 0))) _ κ h in
     let u = bind_ok (ok_or BadType (unit_of w.0)) _ κ w.2 in
-    let z = bind_ok (lift (field t 1 text_of)) _ κ u.2 in
+    let z = bind_ok (map_fault (field t 1 text_of)) _ κ u.2 in
     other_good κ (type.Timestamp u.0 z.0) tt (cc)
 
 time_good : (t : TableView) (κ : DataType) → time_at t ≡ Ok κ → HasGoodType κ
 time_good t κ h =
-    let n = bind_ok (lift (scalar t 0 2 int16 (pos 1))) _ κ h in
+    let n = bind_ok (map_fault (scalar t 0 2 int16 (pos 1))) _ κ h in
     let u = bind_ok (ok_or BadType (unit_of n.0)) _ κ n.2 in
-    let w = bind_ok (lift (scalar t 1 4 int32 (pos 32))) _ κ u.2 in
+    let w = bind_ok (map_fault (scalar t 1 4 int32 (pos 32))) _ κ u.2 in
     choose (int_eq w.0 (pos (width (time_bits u.0)))) _ _ _ w.2 (λ i h. other_good κ (type.Time u.0) tt (cc)) (λ i h. absurd (cc))
 
 duration_good : (t : TableView) (κ : DataType) → duration_at t ≡ Ok κ → HasGoodType κ
 duration_good t κ h =
-    let n = bind_ok (lift (scalar t 0 2 int16 (pos 1))) _ κ h in
+    let n = bind_ok (map_fault (scalar t 0 2 int16 (pos 1))) _ κ h in
     let u = bind_ok (ok_or BadType (unit_of n.0)) _ κ n.2 in
     other_good κ (type.Duration u.0) tt (cc)
 
@@ -102,7 +102,7 @@ type_good code t κ h =
     choose (code == 4) _ _ _ h (λ i h. other_good κ type.Binary tt (cc)) (λ n4 h.
     choose (code == 5) _ _ _ h (λ i h. other_good κ type.Utf8 tt (cc)) (λ n5 h.
     choose (code == 6) _ _ _ h (λ i h. other_good κ type.Bool tt (cc)) (λ n6 h.
-    choose (code == 8) _ _ _ h (λ i h. let w = bind_ok (lift (scalar t 0 2 int16 (pos 1))) _ κ h in date_good w.0 κ w.2) (λ n8 h.
+    choose (code == 8) _ _ _ h (λ i h. let w = bind_ok (map_fault (scalar t 0 2 int16 (pos 1))) _ κ h in date_good w.0 κ w.2) (λ n8 h.
     choose (code == 9) _ _ _ h (λ i h. time_good t κ h) (λ n9 h.
     choose (code == 10) _ _ _ h (λ i h. timestamp_good t κ h) (λ n10 h.
     choose (code == 12) _ _ _ h (λ i h. other_good κ type.List tt (cc)) (λ n12 h.
@@ -116,7 +116,7 @@ pub good_type : (t : TableView) (κ : DataType) → type_at t ≡ Ok κ → HasG
 unfolding type_at
 good_type t κ h =
     let code = bind_ok (code_at t) _ κ h in
-    choose (is_type_code code.0) _ _ _ code.2 (λ known h. let o = bind_ok (lift (field t 3 table_from)) _ κ h in go code.0 o.0 o.2)
+    choose (is_type_code code.0) _ _ _ code.2 (λ known h. let o = bind_ok (map_fault (field t 3 table_from)) _ κ h in go code.0 o.0 o.2)
     (λ other h. absurd (cc))
   where
     go : (code : ℕ) (o : Option TableView) → type_in code o ≡ Ok κ → HasGoodType κ

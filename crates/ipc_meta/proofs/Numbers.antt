@@ -5,7 +5,7 @@ use Rattle.ipc_scalar.specs.declared.fault.FlatFault.{FlatFault}
 use Rattle.ipc_scalar.specs.Faulty.{◌>>=◌, where_some}
 use Rattle.ipc_scalar.specs.Flat.{slot_of, elements_of}
 use Rattle.ipc_flat.specs.Views.{TableView, Structs, field, structs_from}
-use Rattle.ipc_meta.specs.Lifts.{lift}
+use Rattle.ipc_meta.specs.FlatFaults.{map_fault}
 use Rattle.ipc_meta.proofs.Sound.{lift_ok}
 use Rattle.std.specs.Prelude.{slice_range, ℤ}
 use Rattle.std.specs.Int.{w64, cast_signed}
@@ -62,7 +62,7 @@ width_or d (Ok (Some s)) = s.width
 width_or d r = d
 
 -- structs that were asked for with a width have it
-pub structs_width : (w : ℕ) (t : TableView) (k : ℕ) (s : Structs) → lift (field t k (structs_from w)) ≡ Ok (Some s) → s.width ≡ w
+pub structs_width : (w : ℕ) (t : TableView) (k : ℕ) (s : Structs) → map_fault (field t k (structs_from w)) ≡ Ok (Some s) → s.width ≡ w
 unfolding field structs_from width_or
 structs_width w t k s h =
     let f = lift_ok (slot_of t.bytes t.at k 4 >>= where_some (structs_from w t.bytes)) (Some s) h in
@@ -79,7 +79,7 @@ structs_width w t k s h =
     go (Err e) i = absurd (cc)
 
 -- the pairs of numbers in a field are those of the structs of 16 bytes in its vector
-pub numbers_are : (t : TableView) (k : ℕ) (s : Structs) → lift (field t k (structs_from 16)) ≡ Ok (Some s)
+pub numbers_are : (t : TableView) (k : ℕ) (s : Structs) → map_fault (field t k (structs_from 16)) ≡ Ok (Some s)
     → numbers_at t k ≡ Ok (number_pairs s.bytes s.at s.len)
 unfolding numbers_at
 numbers_are t k s h = rw h refl

@@ -10,12 +10,13 @@ use Rattle.ipc_scalar.specs.Faulty.{◌>>=◌ as ◌flat_then◌}
 use Rattle.ipc_model.specs.Answers.{◌>>=◌}
 use Rattle.ipc_model.specs.declared.fault.Fault.{Fault}
 use Rattle.ipc_model.specs.declared.fault.Fault.TheVariants as f
-use Rattle.ipc_meta.specs.Lifts.{fault_of, lift}
+use Rattle.ipc_meta.specs.FlatFaults.{fault_of, map_fault}
 use Rattle.ipc_meta.specs.declared.head.BatchHead.{BatchHead}
 use Rattle.ipc_meta.specs.Tables.{flag_at, vector_at}
 use Rattle.ipc_meta.specs.Heads.{numbers_at}
 use Rattle.ipc_meta.specs.Reading.{batch_read, when_plain}
-use Rattle.ipc_meta.specs.Reached.{Kind, record_batch, number, table, text, tables, structs, LooksAt, compression, length, nodes, buffers}
+use Rattle.ipc_meta.specs.Reached.{TableKind, record_batch, number, table, text, tables, structs, ReadsField, compression, length, nodes}
+use Rattle.ipc_meta.specs.Reached.{buffers}
 use Rattle.ipc_meta.specs.Reached.{HasTable, IsIllFormed, HasIllFormed, at_field, HasOtherText, at_text}
 use Rattle.ipc_meta.specs.Causes.{Cause}
 use Rattle.ipc_meta.proofs.Texts.{no_slot, no_table_in, no_tables_in, no_structs_in}
@@ -34,7 +35,7 @@ choose true x y z h this other = this refl h
 choose false x y z h this other = other refl h
 
 -- a FlatBuffer's fault is that of a text, or that something is ill-formed
-pub illegible : (limits : Limits) → {A : Type 0} (b : List ℕ) (r : Result A FlatFault) (e : Fault) → lift r ≡ Err e
+pub illegible : (limits : Limits) → {A : Type 0} (b : List ℕ) (r : Result A FlatFault) (e : Fault) → map_fault r ≡ Err e
     → (r ≡ Err flat.NotUtf8 → HasOtherText b)
     → (IsIllFormed r → HasIllFormed b) → Cause limits b e
 illegible limits b (Ok x) e h other ill = absurd (cc)
@@ -44,57 +45,60 @@ illegible limits b (Err flat.OutOfBounds) e h other ill = let same : f.BadFlat �
 illegible limits b (Err flat.BadVtable) e h other ill = let same : f.BadFlat ≡ e = cc in subst (Cause limits b) same (ill refl)
 
 -- the first step of a reading fails where its last one can't
-before_last : {A B : Type 0} (r : Result A FlatFault) (last : A → B) (e : Fault) → lift (r flat_then (λ x. Ok (last x))) ≡ Err e
-    → lift r ≡ Err e
+before_last : {A B : Type 0} (r : Result A FlatFault) (last : A → B) (e : Fault) → map_fault (r flat_then (λ x. Ok (last x))) ≡ Err e
+    → map_fault r ≡ Err e
 before_last (Ok x) last e h = absurd (cc)
 before_last (Err d) last e h = let same : fault_of d ≡ e = cc in ap Err same
 
 -- a number that can't be read has no place
-pub bad_number : (limits : Limits) → {X : Type 0} (b : List ℕ) (kind : Kind) (t : TableView) (k w : ℕ) (read : List ℕ → ℕ
+pub bad_number : (limits : Limits) → {X : Type 0} (b : List ℕ) (kind : TableKind) (t : TableView) (k w : ℕ) (read : List ℕ → ℕ
     → X) (x : X) (e : Fault)
-    → HasTable b kind t → LooksAt kind k (number w) → lift (scalar t k w read x) ≡ Err e → Cause limits b e
+    → HasTable b kind t → ReadsField kind k (number w) → map_fault (scalar t k w read x) ≡ Err e → Cause limits b e
 unfolding scalar
 bad_number limits b kind t k w read x e has look h =
     let none = before_last (slot_of t.bytes t.at k w) (or_default (read t.bytes) x) e h in
     illegible limits b (slot_of t.bytes t.at k w) e none (λ i. absurd (no_slot t.bytes t.at k w i)) (at_field has look)
 
 -- where a truth value in a field can't be read, the fault's cause is true of the metadata
-pub bad_flag : (limits : Limits) (b : List ℕ) (kind : Kind) (t : TableView) (k : ℕ) (e : Fault) → HasTable b kind t
-    → LooksAt kind k (number 1)
+pub bad_flag : (limits : Limits) (b : List ℕ) (kind : TableKind) (t : TableView) (k : ℕ) (e : Fault) → HasTable b kind t
+    → ReadsField kind k (number 1)
     → flag_at t k ≡ Err e → Cause limits b e
 unfolding flag_at
-bad_flag limits b kind t k e has look h = step (lift (scalar t k 1 byte 0)) _ e h (bad_number limits b kind t k 1 byte 0 e has look)
+bad_flag limits b kind t k e has look h = step (map_fault (scalar t k 1 byte 0)) _ e h (bad_number limits b kind t k 1 byte 0 e has look)
     (λ n is bad. absurd (cc))
 
 -- where the table in a field can't be read, the fault's cause is true of the metadata
-pub bad_table : (limits : Limits) (b : List ℕ) (kind : Kind) (t : TableView) (k : ℕ) (e : Fault) → HasTable b kind t → LooksAt kind k table
-    → lift (field t k table_from) ≡ Err e → Cause limits b e
+pub bad_table : (limits : Limits) (b : List ℕ) (kind : TableKind) (t : TableView) (k : ℕ) (e : Fault) → HasTable b kind t
+    → ReadsField kind k table
+    → map_fault (field t k table_from) ≡ Err e → Cause limits b e
 bad_table limits b kind t k e has look h = illegible limits b (field t k table_from) e h (λ i. absurd (no_table_in t k i)) (at_field has
     look)
 
 -- the value of a union
 pub bad_value : (limits : Limits) (b : List ℕ) (t : TableView) (k : ℕ) (e : Fault) → (IsIllFormed (field t k table_from) → HasIllFormed b)
-    → lift (field t k table_from) ≡ Err e → Cause limits b e
+    → map_fault (field t k table_from) ≡ Err e → Cause limits b e
 bad_value limits b t k e ill h = illegible limits b (field t k table_from) e h (λ i. absurd (no_table_in t k i)) ill
 
 -- where the text in a field can't be read, the fault's cause is true of the metadata
-pub bad_text : (limits : Limits) (b : List ℕ) (kind : Kind) (t : TableView) (k : ℕ) (e : Fault) → HasTable b kind t → LooksAt kind k text
-    → lift (field t k text_of) ≡ Err e → Cause limits b e
+pub bad_text : (limits : Limits) (b : List ℕ) (kind : TableKind) (t : TableView) (k : ℕ) (e : Fault) → HasTable b kind t
+    → ReadsField kind k text
+    → map_fault (field t k text_of) ≡ Err e → Cause limits b e
 bad_text limits b kind t k e has look h = illegible limits b (field t k text_of) e h (at_text has look) (at_field has look)
 
-bad_structs : (limits : Limits) (b : List ℕ) (kind : Kind) (t : TableView) (k : ℕ) (e : Fault) → HasTable b kind t → LooksAt kind k structs
+bad_structs : (limits : Limits) (b : List ℕ) (kind : TableKind) (t : TableView) (k : ℕ) (e : Fault) → HasTable b kind t
+    → ReadsField kind k structs
     → numbers_at t k ≡ Err e → Cause limits b e
 unfolding numbers_at
-bad_structs limits b kind t k e has look h = step (lift (field t k (structs_from 16))) _ e h
+bad_structs limits b kind t k e has look h = step (map_fault (field t k (structs_from 16))) _ e h
     (λ none. illegible limits b (field t k (structs_from 16)) e none (λ i. absurd (no_structs_in t k i)) (at_field has look))
     (λ o is bad. absurd (cc))
 
 -- where the vector of tables in a field can't be read, the fault's cause is true of the metadata
-pub bad_vector : (limits : Limits) (b : List ℕ) (kind : Kind) (t : TableView) (k : ℕ) (e : Fault) → HasTable b kind t
-    → LooksAt kind k tables
+pub bad_vector : (limits : Limits) (b : List ℕ) (kind : TableKind) (t : TableView) (k : ℕ) (e : Fault) → HasTable b kind t
+    → ReadsField kind k tables
     → vector_at t k ≡ Err e → Cause limits b e
 unfolding vector_at
-bad_vector limits b kind t k e has look h = step (lift (field t k (elements_from 4))) _ e h
+bad_vector limits b kind t k e has look h = step (map_fault (field t k (elements_from 4))) _ e h
     (λ none. illegible limits b (field t k (elements_from 4)) e none (λ i. absurd (no_tables_in t k i)) (λ ill. at_field has look (inl
     ill)))
     (λ o is bad. absurd (cc))
@@ -103,16 +107,16 @@ bad_vector limits b kind t k e has look h = step (lift (field t k (elements_from
 
 -- what a batch without compression states
 abbrev plain_batch : TableView → Result BatchHead Fault
-plain_batch t = lift (scalar t 0 8 int64 (pos 0)) >>= λ n. numbers_at t 1 >>= λ ns. numbers_at t 2
+plain_batch t = map_fault (scalar t 0 8 int64 (pos 0)) >>= λ n. numbers_at t 1 >>= λ ns. numbers_at t 2
     >>= λ bs. Ok (record { length = n; nodes = ns; buffers = bs })
 
 -- where a RecordBatch table can't be read, the fault's cause is true of the metadata
 pub batch_refused : (limits : Limits) (b : List ℕ) (t : TableView) (e : Fault) → HasTable b record_batch t → batch_read t ≡ Err e
     → Cause limits b e
 unfolding batch_read
-batch_refused limits b t e has h = step (lift (field t 3 table_from)) _ e h (bad_table limits b record_batch t 3 e has compression) go
+batch_refused limits b t e has h = step (map_fault (field t 3 table_from)) _ e h (bad_table limits b record_batch t 3 e has compression) go
   where
-    go : (o : Option TableView) → lift (field t 3 table_from) ≡ Ok o → when_plain o (plain_batch t) ≡ Err e → Cause limits b e
+    go : (o : Option TableView) → map_fault (field t 3 table_from) ≡ Ok o → when_plain o (plain_batch t) ≡ Err e → Cause limits b e
     go (Some c) i h = let same : f.Compressed ≡ e = cc in subst (Cause limits b) same (
       t,
       has,
@@ -123,6 +127,6 @@ batch_refused limits b t e has h = step (lift (field t 3 table_from)) _ e h (bad
       ),
     )
     go None i h =
-        step (lift (scalar t 0 8 int64 (pos 0))) _ e h (bad_number limits b record_batch t 0 8 int64 (pos 0) e has length) (λ n i h.
+        step (map_fault (scalar t 0 8 int64 (pos 0))) _ e h (bad_number limits b record_batch t 0 8 int64 (pos 0) e has length) (λ n i h.
         step (numbers_at t 1) _ e h (bad_structs limits b record_batch t 1 e has nodes) (λ ns i h.
         step (numbers_at t 2) _ e h (bad_structs limits b record_batch t 2 e has buffers) (λ bs i h. absurd (cc))))

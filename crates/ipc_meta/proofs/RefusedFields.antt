@@ -10,14 +10,15 @@ use Rattle.ipc_model.specs.declared.fault.Fault.TheVariants as f
 use Rattle.ipc_model.specs.declared.schema.Field.{Field}
 use Rattle.ipc_meta.specs.declared.budget.Budget.{Budget}
 use Rattle.ipc_meta.specs.Budgets.{Reading, less_fields, less_text, less_pairs}
-use Rattle.ipc_meta.specs.Lifts.{lift}
+use Rattle.ipc_meta.specs.FlatFaults.{map_fault}
 use Rattle.ipc_meta.specs.Tables.{text_at, flag_at, vector_at, type_at, dictionary_at}
 use Rattle.ipc_meta.specs.Reading.{each, text_read, pair_read, pairs_read, type_read, fields_read, field_read}
 use Rattle.ipc_meta.specs.Reached as r
-use Rattle.ipc_meta.specs.Reached.{Kind, schema, batch_message, column, key_value, text, tables, LooksAt, HasTable, Element, IsDeep}
+use Rattle.ipc_meta.specs.Reached.{TableKind, schema, batch_message, column, key_value, text, tables, ReadsField, HasTable, Element, IsDeep}
 use Rattle.ipc_meta.specs.Reached.{at_field}
-use Rattle.ipc_meta.specs.Totals.{or_zero, sum_tables, count_in, sum_in, text_in, pair_text_in, own_text, tree, fields_stated, text_stated}
-use Rattle.ipc_meta.specs.Totals.{pairs_stated}
+use Rattle.ipc_meta.specs.Totals.{or_zero, sum_tables, count_in, sum_in, text_len_at, pair_text_in, own_text, tree, total_fields}
+use Rattle.ipc_meta.specs.Totals.{total_text}
+use Rattle.ipc_meta.specs.Totals.{total_pairs}
 use Rattle.ipc_meta.specs.Totals.{message_pairs}
 use Rattle.ipc_meta.specs.Causes.{Cause, in_schema, in_batch}
 use Rattle.ipc_meta.proofs.Sound.{lift_ok}
@@ -36,7 +37,7 @@ pub record Stated : Type 0 where
 
 -- by a Schema table
 abbrev pub by_schema : Limits → TableView → Stated
-by_schema limits s = record { fields = fields_stated limits s; text = text_stated limits s; pairs = pairs_stated limits s }
+by_schema limits s = record { fields = total_fields limits s; text = total_text limits s; pairs = total_pairs limits s }
 
 -- by the pairs of a record batch's message, which has as many fields as may be
 abbrev pub by_message : Limits → TableView → Stated
@@ -86,7 +87,7 @@ pairs_counted limits b all n left e hs room h =
     < n = grind (arith, nat_tests) in subst (Cause limits b) same (hs (inr (omega (arith, room, more)))))
 
 fields_counted : (limits : Limits) (b : List ℕ) (s : TableView) (n : ℕ) (left : Budget) (e : Fault) → HasTable b schema s
-    → limits.fields + n ≤ fields_stated limits s + left.fields → less_fields n left ≡ Err e → Cause limits b e
+    → limits.fields + n ≤ total_fields limits s + left.fields → less_fields n left ≡ Err e → Cause limits b e
 fields_counted limits b s n left e hs room h =
     choose (nat_le n left.fields) _ _ _ h (λ i k. absurd (cc))
     (λ i k. let same : f.TooManyFields ≡ e = cc in let more : left.fields
@@ -94,15 +95,16 @@ fields_counted limits b s n left e hs room h =
 
 -- ---- texts
 
-text_refused : (limits : Limits) (b : List ℕ) (all : Stated) (kind : Kind) (t : TableView) (k : ℕ) (left : Budget) (e : Fault)
+text_refused : (limits : Limits) (b : List ℕ) (all : Stated) (kind : TableKind) (t : TableView) (k : ℕ) (left : Budget) (e : Fault)
     → TellsOverrun limits b all
-    → limits.text + text_in t k ≤ all.text + left.text → HasTable b kind t → LooksAt kind k text
+    → limits.text + text_len_at t k ≤ all.text + left.text → HasTable b kind t → ReadsField kind k text
     → text_read t k left ≡ Err e → Cause limits b e
 unfolding text_read text_at
 text_refused limits b all kind t k left e hs room has look h =
-    step (text_at t k) _ e h (λ h. step (lift (field t k text_of)) _ e h (bad_text limits b kind t k e has look) (λ o i bad. absurd (cc)))
+    step (text_at t k) _ e h (λ h. step (map_fault (field t k text_of)) _ e h (bad_text limits b kind t k e has look)
+    (λ o i bad. absurd (cc)))
     (λ x i h.
-    let size : text_in t k ≡ length x = ap (or_zero length) i in
+    let size : text_len_at t k ≡ length x = ap (or_zero length) i in
     step (less_text (length x) left) _ e h (text_counted limits b all (length x) left e hs (omega (arith, room, size))) (λ l i bad. absurd
     (cc)))
 
@@ -125,7 +127,7 @@ Takes {X} g wa wb wc = (t : TableView) (left : Budget) (x : X × Budget) → g t
 each_refused : {limits : Limits} → {X P : Type 0} (g : TableView → Reading X) (wa wb wc : TableView
     → ℕ) (all : Stated) (z : List ℕ) (e : Fault)
     → Takes g wa wb wc → (n p : ℕ) (left : Budget) → Room limits all left (sum_tables wa z p n) (sum_tables wb z p n) (sum_tables wc z p n)
-    → each g z p n left ≡ Err e → ((i : ℕ) → i < n → lift (table_from z (p + i * 4)) ≡ Err e → P)
+    → each g z p n left ≡ Err e → ((i : ℕ) → i < n → map_fault (table_from z (p + i * 4)) ≡ Err e → P)
     → ((i : ℕ) (u : TableView) (l : Budget) → i < n → table_from z (p + i * 4) ≡ Ok u → Room limits all l (wa u) (wb u) (wc u)
     → g u l ≡ Err e → P)
     → P
@@ -133,7 +135,7 @@ unfolding each sum_tables
 each_refused {limits} g wa wb wc all z e takes zero p left room h lost bad = absurd (cc)
 each_refused {limits} g wa wb wc all z e takes (suc n) p left room h lost bad =
     let first : p + 0 * 4 ≡ p = omega arith in
-    step (lift (table_from z p)) _ e h (λ h. lost 0 (omega arith) (rw first h)) (λ u i h.
+    step (map_fault (table_from z p)) _ e h (λ h. lost 0 (omega arith) (rw first h)) (λ u i h.
     let at : table_from z p ≡ Ok u = lift_ok (table_from z p) u i in
     let now : Room limits all left (wa u + sum_tables wa z (p + 4) n) (wb u + sum_tables wb z (p + 4) n) (wc u + sum_tables wc z (p + 4) n)
     = subst (λ o. Room limits all left (or_zero wa o + sum_tables wa z (p + 4) n) (or_zero wb o + sum_tables wb z (p + 4) n)
@@ -151,8 +153,8 @@ each_refused {limits} g wa wb wc all z e takes (suc n) p left room h lost bad =
 
 -- the tables of a vector
 elements_refused : {limits : Limits} → {X : Type 0} (g : TableView → Reading X) (wa wb wc : TableView
-    → ℕ) (b : List ℕ) (all : Stated) (kind : Kind)
-    (t : TableView) (k : ℕ) (es : Elements) (left : Budget) (e : Fault) → Takes g wa wb wc → HasTable b kind t → LooksAt kind k tables
+    → ℕ) (b : List ℕ) (all : Stated) (kind : TableKind)
+    (t : TableView) (k : ℕ) (es : Elements) (left : Budget) (e : Fault) → Takes g wa wb wc → HasTable b kind t → ReadsField kind k tables
     → vector_at t k ≡ Ok es → Room limits all left (sum_tables wa es.bytes es.at es.len) (sum_tables wb es.bytes es.at es.len)
     (sum_tables wc es.bytes es.at es.len)
     → ((u : TableView) (l : Budget) → Element t k u → Room limits all l (wa u) (wb u) (wc u) → g u l ≡ Err e → Cause limits b e)
@@ -164,9 +166,9 @@ elements_refused {limits} g wa wb wc b all kind t k es left e takes has look is 
     (λ i u m l at room h. bad u m (es, i, is, l, at) room h)
 
 -- where the pairs of a table can't be read with what is left, the fault's cause is true of the metadata
-pub pairs_refused : {limits : Limits} → (b : List ℕ) (all : Stated) (kind : Kind) (t : TableView) (k : ℕ) (left : Budget) (e : Fault)
+pub pairs_refused : {limits : Limits} → (b : List ℕ) (all : Stated) (kind : TableKind) (t : TableView) (k : ℕ) (left : Budget) (e : Fault)
     → TellsOverrun limits b all
-    → Room limits all left 0 (sum_in pair_text_in t k) (count_in t k) → HasTable b kind t → LooksAt kind k tables
+    → Room limits all left 0 (sum_in pair_text_in t k) (count_in t k) → HasTable b kind t → ReadsField kind k tables
     → ((u : TableView) → Element t k u → HasTable b key_value u) → pairs_read t k left ≡ Err e → Cause limits b e
 unfolding pairs_read
 pairs_refused {limits} b all kind t k left e hs room has look pair h =
@@ -186,7 +188,7 @@ pairs_refused {limits} b all kind t k left e hs room has look pair h =
 -- ---- fields
 
 counted_type_refused : (limits : Limits) (b : List ℕ) (s t : TableView) (left : Budget) (e : Fault) → HasTable b schema s
-    → limits.text + or_zero kind_text (type_at t) ≤ text_stated limits s + left.text → HasTable b column t → type_read t left ≡ Err e
+    → limits.text + or_zero kind_text (type_at t) ≤ total_text limits s + left.text → HasTable b column t → type_read t left ≡ Err e
     → Cause limits b e
 unfolding type_read
 counted_type_refused limits b s t left e hs room has h =
@@ -197,10 +199,10 @@ counted_type_refused limits b s t left e hs room has h =
     absurd (cc)))
 
 fields_refused : {limits : Limits} → (g : TableView → Reading Field) (wa wb wc : TableView
-    → ℕ) (b : List ℕ) (s : TableView) (kind : Kind) (t : TableView)
+    → ℕ) (b : List ℕ) (s : TableView) (kind : TableKind) (t : TableView)
     (k : ℕ) (left : Budget) (e : Fault) → HasTable b schema s → Takes g wa wb wc
     → Room limits (by_schema limits s) left (count_in t k + sum_in wa t k) (sum_in wb t k) (sum_in wc t k) → HasTable b kind t
-    → LooksAt kind k tables
+    → ReadsField kind k tables
     → ((u : TableView) (l : Budget) → Element t k u → Room limits (by_schema limits s) l (wa u) (wb u) (wc u) → g u l ≡ Err e
     → Cause limits b e)
     → fields_read g t k left ≡ Err e → Cause limits b e
@@ -237,7 +239,7 @@ field_refused {limits} b s (suc depth) n t left e hs room deep is has h =
       room.text,
     )) has r.name) (λ name i h.
     let one : Room limits (by_schema limits s) name.1 (count_in t 5 + wa) (zone + words + wb) (count_in t 6 + wc) =
-    later (by_schema limits s) left name.1 0 (text_in t 0) 0 _ _ _ _ _ _ room (text_spent t 0 left name i) (omega arith) (omega arith)
+    later (by_schema limits s) left name.1 0 (text_len_at t 0) 0 _ _ _ _ _ _ room (text_spent t 0 left name i) (omega arith) (omega arith)
     (omega arith) in
     step (flag_at t 1) _ e h (bad_flag limits b column t 1 e has r.nullable) (λ nullable i h.
     step (type_read t name.1) _ e h (counted_type_refused limits b s t name.1 e hs (omega (arith, one.text)) has) (λ κ j h.

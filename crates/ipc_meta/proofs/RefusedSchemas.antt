@@ -30,7 +30,7 @@ use Rattle.ipc_meta.proofs.Totals.{Totals, schema_totals}
 use Rattle.ipc_meta.proofs.Sound.{fields_sound, field_sound}
 use Rattle.ipc_meta.specs.declared.budget.Budget.{Budget}
 use Rattle.ipc_meta.specs.Reading.{pairs_read, fields_read, field_read}
-use Rattle.ipc_meta.specs.Totals.{fields_stated, text_stated, pairs_stated}
+use Rattle.ipc_meta.specs.Totals.{total_fields, total_text, total_pairs}
 use Rattle.std.proofs.lemmas.List.Sums.{sum_by-cons}
 use Rattle.ipc_model.specs.declared.limits.Limits.{Limits}
 
@@ -112,9 +112,9 @@ nested limits b s e h = go e.dictionary refl
 
 -- what the fields before have with these ones is no more than the Schema table states
 record Within (limits : Limits) (s : TableView) (a : Before) (es : List Entry) : Type 0 where
-  fields : a.fields + length es ≤ fields_stated limits s
-  text : a.text + sum_by (λ e. e.text) es ≤ text_stated limits s
-  pairs : a.pairs + sum_by (λ e. e.pairs) es ≤ pairs_stated limits s
+  fields : a.fields + length es ≤ total_fields limits s
+  text : a.text + sum_by (λ e. e.text) es ≤ total_text limits s
+  pairs : a.pairs + sum_by (λ e. e.pairs) es ≤ total_pairs limits s
 
 within_after : {limits : Limits} → (s : TableView) (a : Before) (e : Entry) (es : List Entry) → Within limits s a (e ∷ es)
     → Within limits s (after a e) es

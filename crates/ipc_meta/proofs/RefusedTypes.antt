@@ -12,12 +12,13 @@ use Rattle.ipc_model.specs.Ranges.{width}
 use Rattle.ipc_model.specs.declared.schema.TimeUnit.{TimeUnit}
 use Rattle.ipc_model.specs.declared.fault.Fault.{Fault}
 use Rattle.ipc_model.specs.declared.fault.Fault.TheVariants as f
-use Rattle.ipc_meta.specs.Lifts.{lift}
+use Rattle.ipc_meta.specs.FlatFaults.{map_fault}
 use Rattle.ipc_meta.specs.Tables.{flag_at, bits_of, ok_or, unit_of, int_at, date_at, fixed_at, timestamp_at, type_of, type_in, is_type_code}
 use Rattle.ipc_meta.specs.Tables.{fixed_list_at, time_in, time_at, duration_at}
-use Rattle.ipc_meta.specs.Tables.{code_at, type_at, index_in, index_at, dictionary_in, dictionary_at}
+use Rattle.ipc_meta.specs.Tables.{code_at, type_at, index_type_at, index_at, dictionary_in, dictionary_at}
 use Rattle.ipc_meta.specs.Reached as r
-use Rattle.ipc_meta.specs.Reached.{Kind, schema, column, type_value, dictionary_encoding, index_type, number, tables, LooksAt, HasTable}
+use Rattle.ipc_meta.specs.Reached.{TableKind, schema, column, type_value, dictionary_encoding, index_type, number, tables, ReadsField}
+use Rattle.ipc_meta.specs.Reached.{HasTable}
 use Rattle.ipc_meta.specs.Reached.{Element}
 use Rattle.ipc_meta.specs.Causes.{Cause, IsNoType, other_width, other_date_unit, other_time_unit, negative_width, no_table, no_type}
 use Rattle.ipc_meta.specs.Causes.{negative_size, other_time_of_day_unit, other_time_of_day_width, other_duration_unit}
@@ -29,11 +30,12 @@ ok_or_err : {X : Type 0} (d e : Fault) (o : Option X) → ok_or d o ≡ Err e �
 ok_or_err d e None h = (refl, cc)
 ok_or_err d e (Some x) h = absurd (cc)
 
-int_refused : (limits : Limits) (b : List ℕ) (kind : Kind) (t : TableView) (d e : Fault) → HasTable b kind t → LooksAt kind 0 (number 4)
-    → LooksAt kind 1 (number 1) → int_at d t ≡ Err e
+int_refused : (limits : Limits) (b : List ℕ) (kind : TableKind) (t : TableView) (d e : Fault) → HasTable b kind t
+    → ReadsField kind 0 (number 4)
+    → ReadsField kind 1 (number 1) → int_at d t ≡ Err e
     → ((w : ℤ) → scalar t 0 4 int32 (pos 0) ≡ Ok w → bits_of w ≡ None → d ≡ e → Cause limits b e) → Cause limits b e
 int_refused limits b kind t d e has width signed h other =
-    step (lift (scalar t 0 4 int32 (pos 0))) _ e h (bad_number limits b kind t 0 4 int32 (pos 0) e has width) (λ w i h.
+    step (map_fault (scalar t 0 4 int32 (pos 0))) _ e h (bad_number limits b kind t 0 4 int32 (pos 0) e has width) (λ w i h.
     step (ok_or d (bits_of w)) _ e h (λ h. let none = ok_or_err d e (bits_of w) h in other w
     (lift_ok (scalar t 0 4 int32 (pos 0)) w i) none.0 none.1) (λ x j h.
     step (flag_at t 1) _ e h (bad_flag limits b kind t 1 e has signed) (λ g k h. absurd (cc))))
@@ -57,11 +59,12 @@ fixed_list_refused (negsuc n) e h = (cc, refl)
 timestamp_refused : (limits : Limits) (b : List ℕ) (t : TableView) (e : Fault) → HasTable b (type_value 10) t → timestamp_at t ≡ Err e
     → (f.BadType ≡ e → IsNoType 10 t → Cause limits b e) → Cause limits b e
 timestamp_refused limits b t e has h bad =
-    step (lift (scalar t 0 2 int16 (pos 0))) _ e h (bad_number limits b (type_value 10) t 0 2 int16 (pos 0) e has r.time_unit) (λ w i h.
+    step (map_fault (scalar t 0 2 int16 (pos 0))) _ e h (bad_number limits b (type_value 10) t 0 2 int16 (pos 0) e has r.time_unit)
+    (λ w i h.
     step (ok_or f.BadType (unit_of w)) _ e h
     (λ h. let p = ok_or_err f.BadType e (unit_of w) h in bad p.1 (other_time_unit (w, lift_ok (scalar t 0 2 int16 (pos 0)) w i, p.0)))
     (λ x j h.
-    step (lift (field t 1 text_of)) _ e h (bad_text limits b (type_value 10) t 1 e has r.timezone) (λ g k h. absurd (cc))))
+    step (map_fault (field t 1 text_of)) _ e h (bad_text limits b (type_value 10) t 1 e has r.timezone) (λ g k h. absurd (cc))))
 
 ok_or_ok : {X : Type 0} (d : Fault) (o : Option X) (x : X) → ok_or d o ≡ Ok x → o ≡ Some x
 ok_or_ok d None x h = absurd (cc)
@@ -76,12 +79,14 @@ time_in_refused unit w e h =
 time_refused : (limits : Limits) (b : List ℕ) (t : TableView) (e : Fault) → HasTable b (type_value 9) t → time_at t ≡ Err e
     → (f.BadType ≡ e → IsNoType 9 t → Cause limits b e) → Cause limits b e
 time_refused limits b t e has h bad =
-    step (lift (scalar t 0 2 int16 (pos 1))) _ e h (bad_number limits b (type_value 9) t 0 2 int16 (pos 1) e has r.time_of_day_unit) (λ n i
+    step (map_fault (scalar t 0 2 int16 (pos 1))) _ e h (bad_number limits b (type_value 9) t 0 2 int16 (pos 1) e has r.time_of_day_unit)
+    (λ n i
     h.
     let unit_there = lift_ok (scalar t 0 2 int16 (pos 1)) n i in
     step (ok_or f.BadType (unit_of n)) _ e h
     (λ h. let p = ok_or_err f.BadType e (unit_of n) h in bad p.1 (other_time_of_day_unit (n, unit_there, p.0))) (λ unit j h.
-    step (lift (scalar t 1 4 int32 (pos 32))) _ e h (bad_number limits b (type_value 9) t 1 4 int32 (pos 32) e has r.time_of_day_width) (λ
+    step (map_fault (scalar t 1 4 int32 (pos 32))) _ e h (bad_number limits b (type_value 9) t 1 4 int32 (pos 32) e has r.time_of_day_width)
+    (λ
     w k h.
     let p = time_in_refused unit w e h in
     bad p.0 (other_time_of_day_width (n, unit_there, ok_or_ok f.BadType (unit_of n) unit j)
@@ -90,7 +95,8 @@ time_refused limits b t e has h bad =
 duration_refused : (limits : Limits) (b : List ℕ) (t : TableView) (e : Fault) → HasTable b (type_value 18) t → duration_at t ≡ Err e
     → (f.BadType ≡ e → IsNoType 18 t → Cause limits b e) → Cause limits b e
 duration_refused limits b t e has h bad =
-    step (lift (scalar t 0 2 int16 (pos 1))) _ e h (bad_number limits b (type_value 18) t 0 2 int16 (pos 1) e has r.duration_unit) (λ n i h.
+    step (map_fault (scalar t 0 2 int16 (pos 1))) _ e h (bad_number limits b (type_value 18) t 0 2 int16 (pos 1) e has r.duration_unit)
+    (λ n i h.
     step (ok_or f.BadType (unit_of n)) _ e h
     (λ h. let p = ok_or_err f.BadType e (unit_of n) h in bad p.1 (other_duration_unit (n, lift_ok (scalar t 0 2 int16 (pos 1)) n i, p.0)))
     (λ unit j h. absurd (cc)))
@@ -116,18 +122,18 @@ type_of_refused limits b code t e known has h =
     choose (code == 4) _ _ _ h (λ i h. absurd (cc)) (λ n4 h.
     choose (code == 5) _ _ _ h (λ i h. absurd (cc)) (λ n5 h.
     choose (code == 6) _ _ _ h (λ i h. absurd (cc)) (λ n6 h.
-    choose (code == 8) _ _ _ h (λ i h. step (lift (scalar t 0 2 int16 (pos 1))) _ e h
+    choose (code == 8) _ _ _ h (λ i h. step (map_fault (scalar t 0 2 int16 (pos 1))) _ e h
     (bad_number limits b (type_value 8) t 0 2 int16 (pos 1) e (at 8 i) r.date_unit)
     (λ z j h. let p = date_refused z e h in bad 8 i p.0 (other_date_unit (z, lift_ok (scalar t 0 2 int16 (pos 1)) z j, p.1)))) (λ n8 h.
     choose (code == 9) _ _ _ h (λ i h. time_refused limits b t e (at 9 i) h (bad 9 i)) (λ n9 h.
     choose (code == 10) _ _ _ h (λ i h. timestamp_refused limits b t e (at 10 i) h (bad 10 i)) (λ n10 h.
     choose (code == 12) _ _ _ h (λ i h. absurd (cc)) (λ n12 h.
     choose (code == 13) _ _ _ h (λ i h. absurd (cc)) (λ n13 h.
-    choose (code == 15) _ _ _ h (λ i h. step (lift (scalar t 0 4 int32 (pos 0))) _ e h
+    choose (code == 15) _ _ _ h (λ i h. step (map_fault (scalar t 0 4 int32 (pos 0))) _ e h
     (bad_number limits b (type_value 15) t 0 4 int32 (pos 0) e (at 15 i) r.byte_width)
     (λ z j h. let p = fixed_refused z e h in bad 15 i p.0 (negative_width (z, lift_ok (scalar t 0 4 int32 (pos 0)) z j, p.1))))
     (λ n15 h.
-    choose (code == 16) _ _ _ h (λ i h. step (lift (scalar t 0 4 int32 (pos 0))) _ e h
+    choose (code == 16) _ _ _ h (λ i h. step (map_fault (scalar t 0 4 int32 (pos 0))) _ e h
     (bad_number limits b (type_value 16) t 0 4 int32 (pos 0) e (at 16 i) r.list_size)
     (λ z j h. let p = fixed_list_refused z e h in bad 16 i p.0 (negative_size (z, lift_ok (scalar t 0 4 int32 (pos 0)) z j, p.1))))
     (λ n16 h.
@@ -150,7 +156,7 @@ unfolding type_at
 type_refused limits b t e has h =
     step (code_at t) _ e h (bad_code limits b t e has) (λ code c i.
     choose (is_type_code code) _ _ _ i (λ known i.
-    step (lift (field t 3 table_from)) _ e i (bad_value limits b t 3 e (r.at_type has c known))
+    step (map_fault (field t 3 table_from)) _ e i (bad_value limits b t 3 e (r.at_type has c known))
     (λ o j k. in_table code o known c (lift_ok (field t 3 table_from) o j) k))
     (λ other i. let same : f.UnsupportedType code ≡ e = cc in subst (Cause limits b) same (t, has, (c, other))))
   where
@@ -163,9 +169,10 @@ type_refused limits b t e has h =
 
 index_refused : (limits : Limits) (b : List ℕ) (t : TableView) (e : Fault) → HasTable b dictionary_encoding t → index_at t ≡ Err e
     → Cause limits b e
-index_refused limits b t e has h = step (lift (field t 1 table_from)) _ e h (bad_table limits b dictionary_encoding t 1 e has r.indices) go
+index_refused limits b t e has h = step (map_fault (field t 1 table_from)) _ e h
+    (bad_table limits b dictionary_encoding t 1 e has r.indices) go
   where
-    go : (o : Option TableView) → lift (field t 1 table_from) ≡ Ok o → index_in o ≡ Err e → Cause limits b e
+    go : (o : Option TableView) → map_fault (field t 1 table_from) ≡ Ok o → index_type_at o ≡ Err e → Cause limits b e
     go None i h = absurd (cc)
     go (Some v) i h =
         let it : HasTable b index_type v = r.of_index has (lift_ok (field t 1 table_from) (Some v) i) in
@@ -176,13 +183,14 @@ index_refused limits b t e has h = step (lift (field t 1 table_from)) _ e h (bad
 pub dictionary_refused : (limits : Limits) (b : List ℕ) (t : TableView) (e : Fault) → HasTable b column t → dictionary_at t ≡ Err e
     → Cause limits b e
 unfolding dictionary_at
-dictionary_refused limits b t e has h = step (lift (field t 4 table_from)) _ e h (bad_table limits b column t 4 e has r.dictionary) go
+dictionary_refused limits b t e has h = step (map_fault (field t 4 table_from)) _ e h (bad_table limits b column t 4 e has r.dictionary) go
   where
-    go : (o : Option TableView) → lift (field t 4 table_from) ≡ Ok o → dictionary_in o ≡ Err e → Cause limits b e
+    go : (o : Option TableView) → map_fault (field t 4 table_from) ≡ Ok o → dictionary_in o ≡ Err e → Cause limits b e
     go None i h = absurd (cc)
     go (Some d) i h =
         let it : HasTable b dictionary_encoding d = r.of_encoding has (lift_ok (field t 4 table_from) (Some d) i) in
-        step (lift (scalar d 0 8 int64 (pos 0))) _ e h (bad_number limits b dictionary_encoding d 0 8 int64 (pos 0) e it r.dictionary_id)
+        step (map_fault (scalar d 0 8 int64 (pos 0))) _ e h (bad_number limits b dictionary_encoding d 0 8 int64 (pos 0) e it
+        r.dictionary_id)
         (λ id j h.
         step (index_at d) _ e h (index_refused limits b d e it) (λ x k h.
         step (flag_at d 2) _ e h (bad_flag limits b dictionary_encoding d 2 e it r.is_ordered) (λ g l h. absurd (cc))))

@@ -12,7 +12,7 @@ use Rattle.ipc_model.specs.declared.schema.Field.TheOpen.{Field-F}
 use Rattle.ipc_model.specs.Entries.{kind_text}
 use Rattle.ipc_meta.specs.declared.budget.Budget.{Budget}
 use Rattle.ipc_meta.specs.Budgets.{Reading, less_fields, less_text, less_pairs}
-use Rattle.ipc_meta.specs.Lifts.{lift}
+use Rattle.ipc_meta.specs.FlatFaults.{map_fault}
 use Rattle.ipc_meta.specs.Tables.{text_at, flag_at, vector_at, type_at, dictionary_at}
 use Rattle.ipc_meta.specs.Fields.{TablesAt, VectorAt, PairAt, field_step, FieldAt}
 use Rattle.ipc_meta.specs.declared.head.BatchHead.{BatchHead}
@@ -25,7 +25,7 @@ bind_ok (Ok x) f y h = (x, refl, h)
 bind_ok (Err e) f y h = absurd (cc)
 
 -- what is answered once FlatBuffers faults have the names of the reader's is what was answered before
-pub lift_ok : {A : Type 0} (r : Result A FlatFault) (x : A) → lift r ≡ Ok x → r ≡ Ok x
+pub lift_ok : {A : Type 0} (r : Result A FlatFault) (x : A) → map_fault r ≡ Ok x → r ≡ Ok x
 lift_ok (Ok y) x h = cc
 lift_ok (Err e) x h = absurd (cc)
 
@@ -53,7 +53,7 @@ each_sound f At s b zero p left after xs h =
     let e = left_parts [] xs left after h in
     subst (λ zs. TablesAt At b p 0 zs) e.0 refl
 each_sound f At s b (suc n) p left after xs h =
-    let a = bind_ok (lift (table_from b p)) _ _ h in
+    let a = bind_ok (map_fault (table_from b p)) _ _ h in
     let c = bind_ok (f a.0 left) _ _ a.2 in
     let r = bind_ok (each f b (p + 4) n c.0.1) _ _ c.2 in
     let e = left_parts (c.0.0 ∷ r.0.0) xs r.0.1 after r.2 in
@@ -175,10 +175,10 @@ batch_same a b h = cc
 pub batch_sound : (t : TableView) (batch : BatchHead) → batch_read t ≡ Ok batch → BatchAt t batch
 unfolding batch_read
 batch_sound t batch h =
-    let o = bind_ok (lift (field t 3 table_from)) _ _ h in
-    let plain = plain_ok o.0 (lift (scalar t 0 8 int64 (pos 0)) >>= λ n. numbers_at t 1 >>= λ nodes. numbers_at t 2
+    let o = bind_ok (map_fault (field t 3 table_from)) _ _ h in
+    let plain = plain_ok o.0 (map_fault (scalar t 0 8 int64 (pos 0)) >>= λ n. numbers_at t 1 >>= λ nodes. numbers_at t 2
     >>= λ buffers. Ok (record { length = n; nodes = nodes; buffers = buffers })) batch o.2 in
-    let n = bind_ok (lift (scalar t 0 8 int64 (pos 0))) _ _ plain.1 in
+    let n = bind_ok (map_fault (scalar t 0 8 int64 (pos 0))) _ _ plain.1 in
     let nodes = bind_ok (numbers_at t 1) _ _ n.2 in
     let buffers = bind_ok (numbers_at t 2) _ _ nodes.2 in
     let read : BatchHead = record { length = n.0; nodes = nodes.0; buffers = buffers.0 } in

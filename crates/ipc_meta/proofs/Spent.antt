@@ -8,10 +8,10 @@ use Rattle.ipc_model.specs.declared.schema.DataType.{DataType}
 use Rattle.ipc_model.specs.declared.schema.Field.{Field}
 use Rattle.ipc_meta.specs.declared.budget.Budget.{Budget}
 use Rattle.ipc_meta.specs.Budgets.{Reading, less_fields, less_text, less_pairs}
-use Rattle.ipc_meta.specs.Lifts.{lift}
+use Rattle.ipc_meta.specs.FlatFaults.{map_fault}
 use Rattle.ipc_meta.specs.Tables.{text_at, flag_at, vector_at, type_at, dictionary_at}
 use Rattle.ipc_meta.specs.Reading.{each, text_read, pair_read, pairs_read, type_read, fields_read, field_read}
-use Rattle.ipc_meta.specs.Totals.{or_zero, sum_tables, count_in, sum_in, text_in, pair_text_in, own_text, tree}
+use Rattle.ipc_meta.specs.Totals.{or_zero, sum_tables, count_in, sum_in, text_len_at, pair_text_in, own_text, tree}
 use Rattle.ipc_meta.proofs.Sound.{bind_ok, lift_ok, left_parts}
 use Rattle.ipc_meta.proofs.Refused.{choose}
 
@@ -58,14 +58,14 @@ joined l m n a b c x y z h k = record {
 
 -- a text that was read takes its length from the budget
 pub text_spent : (t : TableView) (k : ℕ) (left : Budget) (x : List ℕ × Budget) → text_read t k left ≡ Ok x
-    → Spent left x.1 0 (text_in t k) 0
+    → Spent left x.1 0 (text_len_at t k) 0
 unfolding text_read
 text_spent t k left x h =
     let a = bind_ok (text_at t k) _ x h in
     let l = bind_ok (less_text (length a.0) left) _ x a.2 in
     let e = left_parts a.0 x.0 l.0 x.1 l.2 in
-    let size : text_in t k ≡ length a.0 = ap (or_zero length) a.1 in
-    subst (λ m. Spent left m 0 (text_in t k) 0) e.1 (rw size (less_text_spent (length a.0) left l.0 l.1))
+    let size : text_len_at t k ≡ length a.0 = ap (or_zero length) a.1 in
+    subst (λ m. Spent left m 0 (text_len_at t k) 0) e.1 (rw size (less_text_spent (length a.0) left l.0 l.1))
 
 -- a pair that was read takes the lengths of its key and its value from the budget
 pub pair_spent : (t : TableView) (left : Budget) (x : (List ℕ × List ℕ) × Budget) → pair_read t left ≡ Ok x
@@ -76,7 +76,7 @@ pair_spent t left x h =
     let v = bind_ok (text_read t 1 k.0.1) _ x k.2 in
     let e = left_parts (k.0.0, v.0.0) x.0 v.0.1 x.1 v.2 in
     subst (λ m. Spent left m 0 (pair_text_in t) 0) e.1
-    (joined left k.0.1 v.0.1 0 (text_in t 0) 0 0 (text_in t 1) 0 (text_spent t 0 left k.0 k.1) (text_spent t 1 k.0.1 v.0 v.1))
+    (joined left k.0.1 v.0.1 0 (text_len_at t 0) 0 0 (text_len_at t 1) 0 (text_spent t 0 left k.0 k.1) (text_spent t 1 k.0.1 v.0 v.1))
 
 -- tables that were read one after another take from the budget what each of them takes, added up
 pub each_spent : {X : Type 0} (g : TableView → Reading X) (wa wb wc : TableView → ℕ)
@@ -88,7 +88,7 @@ each_spent g wa wb wc s z zero p left x h = let e =
     left_parts [] x.0 left x.1 h in subst (λ m. Spent left m 0 0 0) e.1
     (record { fields = omega arith; text = omega arith; pairs = omega arith })
 each_spent g wa wb wc s z (suc n) p left x h =
-    let a = bind_ok (lift (table_from z p)) _ x h in
+    let a = bind_ok (map_fault (table_from z p)) _ x h in
     let c = bind_ok (g a.0 left) _ x a.2 in
     let r = bind_ok (each g z (p + 4) n c.0.1) _ x c.2 in
     let e = left_parts (c.0.0 ∷ r.0.0) x.0 r.0.1 x.1 r.2 in
@@ -225,7 +225,7 @@ each_taken b zero p left after ps h =
     subst (λ qs. Spent left after 0 (pair_text qs) 0 × (length qs ≡ 0)) e.0
     (subst (λ m. Spent left m 0 0 0) e.1 (record { fields = omega arith; text = omega arith; pairs = omega arith }), refl)
 each_taken b (suc n) p left after ps h =
-    let a = bind_ok (lift (table_from b p)) _ _ h in
+    let a = bind_ok (map_fault (table_from b p)) _ _ h in
     let c = bind_ok (pair_read a.0 left) _ _ a.2 in
     let r = bind_ok (each pair_read b (p + 4) n c.0.1) _ _ c.2 in
     let e = left_parts (c.0.0 ∷ r.0.0) ps r.0.1 after r.2 in

@@ -3,10 +3,10 @@ use Rattle.std.proofs.Common.{◌≡◌, ◌∙◌, ap, ℕ, List}
 use Rattle.std.specs.Prelude.{Option, None, Some, Result, Ok, ⊤}
 use Rattle.ipc_scalar.specs.declared.fault.FlatFault.{FlatFault}
 use Rattle.ipc_scalar.specs.Faulty.{◌>>=◌, where_some}
-use Rattle.ipc_scalar.specs.Flat.{slot_of, table_of, elements_of}
+use Rattle.ipc_scalar.specs.Flat.{slot_of, table_position, elements_of}
 use Rattle.ipc_flat.specs.Views.{TableView, or_default, table_from, scalar, field, elements_from, structs_from}
 use Rattle.ipc_build.specs.Trees.{Tree}
-use Rattle.ipc_build.specs.Encodes.{TableStands, EncodesTable, in_table}
+use Rattle.ipc_build.specs.Encodes.{IsTablePlaced, EncodesTable, in_table}
 
 abbrev pub Any : ℕ → ℕ → Type 0
 Any w p = ⊤
@@ -17,7 +17,7 @@ tab b t = record { bytes = b; at = t }
 
 -- a table at t has these fields, and no others
 pub record Holds (b : List ℕ) (t : ℕ) (f : Tree) : Type 0 where
-  pub stands : TableStands Any b t f
+  pub stands : IsTablePlaced Any b t f
   pub lies : EncodesTable Any b (in_table t) f
 
 -- a number whose field has a place in the bytes is the one there
@@ -46,7 +46,7 @@ unfolding field
 field_absent b t k f h = ap (λ (r : Result (Option ℕ) FlatFault). r >>= where_some (f b)) h
 
 -- where an offset leads to a table, that table is read
-pub table_there : (b : List ℕ) (p u : ℕ) → table_of b p ≡ Ok u → table_from b p ≡ Ok (tab b u)
+pub table_there : (b : List ℕ) (p u : ℕ) → table_position b p ≡ Ok u → table_from b p ≡ Ok (tab b u)
 unfolding table_from
 table_there b p u h = ap (λ (r : Result ℕ FlatFault). r >>= λ t. Ok (tab b t)) h
 

@@ -11,7 +11,7 @@ use Rattle.ipc_model.specs.declared.schema.Dictionary.{Dictionary}
 use Rattle.ipc_model.specs.declared.schema.Field.{Field}
 use Rattle.ipc_meta.specs.declared.budget.Budget.{Budget}
 use Rattle.ipc_meta.specs.Budgets.{Reading, less_fields, less_pairs}
-use Rattle.ipc_meta.specs.Lifts.{lift}
+use Rattle.ipc_meta.specs.FlatFaults.{map_fault}
 use Rattle.ipc_meta.specs.Tables.{flag_at, vector_at, dictionary_at}
 use Rattle.ipc_meta.specs.Reading.{text_read, type_read, pairs_read, fields_read, field_read, each}
 
@@ -72,13 +72,14 @@ pub no_fields : (left : Budget) → less_fields 0 left ≡ Ok left
 no_fields left = rw (leb-zero left.fields, sub-zero left.fields) refl
 
 -- an absent vector has nothing in it
-pub pairs_absent : (t : TableView) (k : ℕ) (left : Budget) → lift (field t k (elements_from 4)) ≡ Ok None
+pub pairs_absent : (t : TableView) (k : ℕ) (left : Budget) → map_fault (field t k (elements_from 4)) ≡ Ok None
     → pairs_read t k left ≡ Ok ([], left)
 unfolding pairs_read vector_at each
 pairs_absent t k left h = rw (h, no_pairs left) refl
 
 -- an absent vector has no fields in it
-pub fields_absent : (f : TableView → Reading Field) (t : TableView) (k : ℕ) (left : Budget) → lift (field t k (elements_from 4)) ≡ Ok None
+pub fields_absent : (f : TableView → Reading Field) (t : TableView) (k : ℕ) (left : Budget) → map_fault (field t k (elements_from 4))
+    ≡ Ok None
     → fields_read f t k left ≡ Ok ([], left)
 unfolding fields_read vector_at each
 fields_absent f t k left h = rw (h, no_fields left) refl

@@ -3,7 +3,8 @@ use Rattle.std.proofs.Common.{◌≡◌, ap, ℕ, ◌+◌, ◌*◌, Bool, true, 
 use Rattle.std.specs.Prelude.{◌==◌, nat_le, Result, Ok, Err, if◌then◌else◌}
 use Rattle.ipc_scalar.specs.Bytes.{num, int32}
 use Rattle.ipc_scalar.specs.Faulty.{◌>>=◌, ok_if, where_some}
-use Rattle.ipc_scalar.specs.Flat.{back_of, is_vtable, vtable_behind, vtable_of, entry_of, place_of, slot_of, points, table_of, elements_of}
+use Rattle.ipc_scalar.specs.Flat.{back_of, is_vtable, vtable_behind, vtable_of, vtable_entry, place_of, slot_of, points, table_position}
+use Rattle.ipc_scalar.specs.Flat.{elements_of}
 use Rattle.ipc_scalar.specs.declared.fault.FlatFault.{FlatFault}
 use Rattle.ipc_scalar.specs.declared.fault.FlatFault.TheVariants.{OffsetZero, OutOfBounds, BadVtable, NotUtf8}
 use Rattle.ipc_flat.specs.Views.{TableView, table_from, field, elements_from, structs_from}
@@ -33,7 +34,7 @@ no_vtable b t = both (ok_if (nat_le (t + 4) (length b)) OutOfBounds (back_of t (
 -- the place of a field is no text, so it is never refused as one that isn't UTF-8
 pub no_slot : (b : List ℕ) (t k w : ℕ) → NoText (slot_of b t k w)
 unfolding slot_of
-no_slot b t k w = both (vtable_of b t) _ (no_vtable b t) (λ v. go (entry_of b v k))
+no_slot b t k w = both (vtable_of b t) _ (no_vtable b t) (λ v. go (vtable_entry b v k))
   where
     go : (e : ℕ) → NoText (place_of b t w e)
     go e = by_test (e == 0)
@@ -55,7 +56,7 @@ no_points b p = both (ok_if (nat_le (p + 4) (length b)) OutOfBounds (num b p 4))
 
 -- a table behind an offset is never refused as a text that isn't UTF-8
 pub no_table_from : (b : List ℕ) (p : ℕ) → NoText (table_from b p)
-unfolding table_from table_of
+unfolding table_from table_position
 no_table_from b p = both (points b p >>= λ t. vtable_of b t >>= λ v. Ok t) _
     (both (points b p) _ (no_points b p) (λ t. both (vtable_of b t) _ (no_vtable b t) (λ v h. cc))) (λ t h. cc)
 

@@ -11,8 +11,9 @@ use Rattle.ipc_meta.specs.Budgets.{less_fields}
 use Rattle.ipc_meta.specs.Tables.{flag_at, vector_at, type_at, dictionary_at}
 use Rattle.ipc_meta.specs.Fields.{TablesAt, VectorAt, PairAt}
 use Rattle.ipc_meta.specs.Reading.{text_read, pairs_read, type_read, fields_read, field_read}
-use Rattle.ipc_meta.specs.Totals.{or_zero, sum_tables, count_in, sum_in, text_in, pair_text_in, own_text, tree, fields_stated, text_stated}
-use Rattle.ipc_meta.specs.Totals.{pairs_stated}
+use Rattle.ipc_meta.specs.Totals.{or_zero, sum_tables, count_in, sum_in, text_len_at, pair_text_in, own_text, tree, total_fields}
+use Rattle.ipc_meta.specs.Totals.{total_text}
+use Rattle.ipc_meta.specs.Totals.{total_pairs}
 use Rattle.ipc_meta.proofs.Sound.{Sound, bind_ok, left_parts, each_sound, text_sound, type_sound, pairs_sound}
 use Rattle.ipc_meta.proofs.Entries.{tables_are}
 use Rattle.ipc_meta.proofs.Spent.{children_in, pairs_in}
@@ -90,7 +91,8 @@ text_sum : (a b c x y z u v : ℕ) → a ≡ x → b ≡ y → c ≡ z → u ≡
 text_sum a b c x y z u v h k l m = omega arith
 
 -- a field's own entry before those of its children
-rolled_sums : (n : ℕ) (y : Field-F Field) (t : TableView) → text_in t 0 ≡ length y.name → or_zero kind_text (type_at t) ≡ kind_text y.kind
+rolled_sums : (n : ℕ) (y : Field-F Field) (t : TableView) → text_len_at t 0 ≡ length y.name → or_zero kind_text (type_at t)
+    ≡ kind_text y.kind
     → sum_in pair_text_in t 6 ≡ pair_text y.metadata → count_in t 6 ≡ length y.metadata
     → ((d : ℕ) → (length (all_at d (map preorder y.children)) ≡ count_in t 5 + sum_in (tree children_in n) t 5)
     × (text_of (all_at d (map preorder y.children)) ≡ sum_in (tree own_text n) t 5)
@@ -104,7 +106,7 @@ rolled_sums n y t title zone words number children d =
     let below = all_at (d + 1) (map preorder y.children) in
     let text : text_of (head ∷ below) ≡ own_text t + sum_in (tree own_text n) t 5
     = sum_by-cons (λ (e : Entry). e.text) head below
-    ∙ text_sum (text_in t 0) (or_zero kind_text (type_at t)) (sum_in pair_text_in t 6) _ _ _ _ _ title zone words sums.1 in
+    ∙ text_sum (text_len_at t 0) (or_zero kind_text (type_at t)) (sum_in pair_text_in t 6) _ _ _ _ _ title zone words sums.1 in
     let pairs : pairs_of (head ∷ below) ≡ pairs_in t + sum_in (tree pairs_in n) t 5
     = sum_by-cons (λ (e : Entry). e.pairs) head below ∙ (ap (λ k. k + pairs_of below) (sym number) ∙ ap (λ k. pairs_in t + k) sums.2) in
     let count : length (head ∷ below) ≡ 1 + (children_in t + sum_in (tree children_in n) t 5) = one_more (length below) _ sums.0 in
@@ -132,7 +134,7 @@ field_sums (suc n) t left after x h =
       metadata = ps.0.0;
     } in
     let e = left_parts (roll-Field y) x cs.0.1 after cs.2 in
-    let title : text_in t 0 ≡ length name.0.0 = ap (or_zero length) (text_sound t 0 left name.0.1 name.0.0 name.1) in
+    let title : text_len_at t 0 ≡ length name.0.0 = ap (or_zero length) (text_sound t 0 left name.0.1 name.0.0 name.1) in
     let zone : or_zero kind_text (type_at t) ≡ kind_text κ.0.0 = ap (or_zero kind_text) (type_sound t name.0.1 κ.0.1 κ.0.0 κ.1) in
     let pairs = pairs_sound t 6 κ.0.1 ps.0.1 ps.0.0 ps.1 in
     let children = fields_sums n (field_sums n) t 5 ps.0.1 cs.0.1 cs.0.0 cs.1 in
@@ -141,9 +143,9 @@ field_sums (suc n) t left after x h =
 
 -- a schema that was read has what its table states
 pub record Totals (limits : Limits) (t : TableView) (fs : List Field) (own : List (List ℕ × List ℕ)) : Type 0 where
-  pub fields : length (entries fs) ≡ fields_stated limits t
-  pub text : pair_text own + text_of (entries fs) ≡ text_stated limits t
-  pub pairs : length own + pairs_of (entries fs) ≡ pairs_stated limits t
+  pub fields : length (entries fs) ≡ total_fields limits t
+  pub text : pair_text own + text_of (entries fs) ≡ total_text limits t
+  pub pairs : length own + pairs_of (entries fs) ≡ total_pairs limits t
 
 -- a schema that was read has as many fields, bytes of text and pairs as its Schema table states
 pub schema_totals : {limits : Limits} → (t : TableView) (left mid after : Budget) (fs : List Field) (own : List (List ℕ × List ℕ))

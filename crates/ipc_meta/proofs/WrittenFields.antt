@@ -13,7 +13,7 @@ use Rattle.ipc_model.specs.declared.schema.Field.{Field, roll-Field, ind-Field, 
 use Rattle.ipc_model.specs.declared.schema.Field.TheOpen.{Field-F}
 use Rattle.ipc_build.specs.Trees.{Tree}
 use Rattle.ipc_build.specs.Encodes.{HasField, EncodesTable}
-use Rattle.ipc_meta.specs.Lifts.{lift}
+use Rattle.ipc_meta.specs.FlatFaults.{map_fault}
 use Rattle.ipc_meta.specs.Tables.{text_at, flag_at, type_at, dictionary_in, dictionary_at}
 use Rattle.ipc_meta.specs.Fields.{VectorAt, PairAt, FieldAt}
 use Rattle.ipc_meta.specs.Written.{flag, with_text, with_byte, with_table, with_tables, with_pairs, with_dictionary, type_tree, field_tree}
@@ -61,7 +61,7 @@ PartsAt name nullable κ o cs ps t =
 
 no_dictionary : (b : List ℕ) (t : ℕ) → field (tab b t) 4 table_from ≡ Ok None → dictionary_at (tab b t) ≡ Ok None
 unfolding dictionary_at
-no_dictionary b t h = ap (λ (r : Result (Option TableView) FlatFault). lift r >>= dictionary_in) h
+no_dictionary b t h = ap (λ (r : Result (Option TableView) FlatFault). map_fault r >>= dictionary_in) h
 
 parts_there : (b : List ℕ) (t : ℕ) (name : List ℕ) (nullable : Bool) (κ : DataType) (o : Option Dictionary) (cs : List Field)
     (ps : List (List ℕ × List ℕ)) → HasGoodType κ

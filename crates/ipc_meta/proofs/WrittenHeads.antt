@@ -10,12 +10,12 @@ use Rattle.ipc_model.specs.WellFormed.{WellFormed}
 use Rattle.ipc_model.specs.declared.schema.Schema.{Schema}
 use Rattle.ipc_build.specs.Trees.{Tree}
 use Rattle.ipc_build.specs.Encodes.{HasField, EncodesTable, EncodesPairs, Encodes}
-use Rattle.ipc_meta.specs.Lifts.{lift}
+use Rattle.ipc_meta.specs.FlatFaults.{map_fault}
 use Rattle.ipc_model.specs.Entries.{AllowPairs}
 use Rattle.ipc_meta.specs.Fields.{SchemaAt, FieldAt, VectorAt, PairAt}
 use Rattle.ipc_meta.specs.declared.head.BatchHead.{BatchHead}
 use Rattle.ipc_meta.specs.declared.head.Head.TheVariants as head
-use Rattle.ipc_meta.specs.Heads.{number_pairs, pairs_in, numbers_at, BatchAt, DictionaryAt, HeadOf}
+use Rattle.ipc_meta.specs.Heads.{number_pairs, struct_pairs, numbers_at, BatchAt, DictionaryAt, HeadOf}
 use Rattle.ipc_meta.specs.Written.{field_tree, schema_tree, batch_tree, message_tree, schema_message, batch_message}
 use Rattle.ipc_meta.specs.Written.{dictionary_batch_tree, dictionary_message}
 use Rattle.ipc_meta.proofs.Standing.{Any, tab, Holds, scalar_there, scalar_absent, field_there, field_absent, table_there, structs_there}
@@ -53,7 +53,7 @@ numbers_there : (b : List ℕ) (t k p q : ℕ) (xs : List (ℤ × ℤ)) → slot
     → EncodesPairs Any b (q + 4) xs → numbers_at (tab b t) k ≡ Ok xs
 unfolding numbers_at structs
 numbers_there b t k p q xs s e lies =
-    ap (λ (r : Result (Option Structs) FlatFault). lift r >>= λ o. Ok (pairs_in o))
+    ap (λ (r : Result (Option Structs) FlatFault). map_fault r >>= λ o. Ok (struct_pairs o))
     (field_there b t k p (structs_from 16) (structs b (q + 4) (length xs)) s (structs_there b p (q + 4) (length xs) 16 e))
     ∙ ap Ok (pairs_read b (q + 4) xs lies)
 

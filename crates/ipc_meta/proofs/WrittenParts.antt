@@ -10,7 +10,7 @@ use Rattle.ipc_model.specs.Answers.{◌>>=◌}
 use Rattle.ipc_build.specs.Trees.{Tree, tables_of}
 use Rattle.ipc_build.specs.Layout.{members}
 use Rattle.ipc_build.specs.Encodes.{HasField, EncodesTable, in_table, in_vector}
-use Rattle.ipc_meta.specs.Lifts.{lift}
+use Rattle.ipc_meta.specs.FlatFaults.{map_fault}
 use Rattle.ipc_meta.specs.Tables.{or_else, no_elements, text_at, flag_at, vector_at}
 use Rattle.ipc_meta.specs.Fields.{TablesAt, VectorAt, PairAt}
 use Rattle.ipc_meta.specs.Written.{flag, pair_tree, with_pairs}
@@ -19,7 +19,7 @@ use Rattle.ipc_meta.proofs.Standing.{Any, tab, Holds, scalar_there, field_there,
 -- a text that was written in a field is read there
 pub text_there : (b : List ℕ) (t k p : ℕ) (s : List ℕ) → slot_of b t k 4 ≡ Ok (Some p) → text_of b p ≡ Ok s → text_at (tab b t) k ≡ Ok s
 unfolding text_at
-text_there b t k p s h g = ap (λ (r : Result (Option (List ℕ)) FlatFault). lift r >>= λ o. Ok (or_else [] o))
+text_there b t k p s h g = ap (λ (r : Result (Option (List ℕ)) FlatFault). map_fault r >>= λ o. Ok (or_else [] o))
     (field_there b t k p text_of s h g)
 
 flag_read : (v : Bool) → nat_lt 0 (flag v) ≡ v
@@ -30,7 +30,7 @@ flag_read false = refl
 pub flag_there : (b : List ℕ) (t k p : ℕ) (v : Bool) → slot_of b t k 1 ≡ Ok (Some p) → num b p 1 ≡ flag v → flag_at (tab b t) k ≡ Ok v
 unfolding flag_at
 flag_there b t k p v h g =
-    ap (λ (r : Result ℕ FlatFault). lift r >>= λ n. Ok (nat_lt 0 n)) (scalar_there b t k 1 p byte 0 h)
+    ap (λ (r : Result ℕ FlatFault). map_fault r >>= λ n. Ok (nat_lt 0 n)) (scalar_there b t k 1 p byte 0 h)
     ∙ (ap (λ (n : ℕ). Ok (nat_lt 0 n)) g ∙ ap Ok (flag_read v))
 
 -- a vector that was written in a field is read there
@@ -38,13 +38,13 @@ pub vector_there : (b : List ℕ) (t k p q n : ℕ) → slot_of b t k 4 ≡ Ok (
     → vector_at (tab b t) k ≡ Ok (record { bytes = b; at = q; len = n })
 unfolding vector_at
 vector_there b t k p q n h g =
-    ap (λ (r : Result (Option Elements) FlatFault). lift r >>= λ o. Ok (no_elements (tab b t) o))
+    ap (λ (r : Result (Option Elements) FlatFault). map_fault r >>= λ o. Ok (no_elements (tab b t) o))
     (field_there b t k p (elements_from 4) (record { bytes = b; at = q; len = n }) h (elements_there b p q n 4 g))
 
 -- where no vector was written in a field, one of no elements is read
 pub vector_absent : (b : List ℕ) (t k : ℕ) → slot_of b t k 4 ≡ Ok None → vector_at (tab b t) k ≡ Ok (record { bytes = b; at = 0; len = 0 })
 unfolding vector_at
-vector_absent b t k h = ap (λ (r : Result (Option Elements) FlatFault). lift r >>= λ o. Ok (no_elements (tab b t) o))
+vector_absent b t k h = ap (λ (r : Result (Option Elements) FlatFault). map_fault r >>= λ o. Ok (no_elements (tab b t) o))
     (field_absent b t k (elements_from 4) h)
 
 module _ {X : Type 0} (tree : X → Tree) (At : X → TableView → Type 0) where

@@ -5,7 +5,7 @@ use Rattle.std.specs.Int.{w32, cast_signed}
 use Rattle.std.proofs.Math.Facts.{to_z_pos}
 use Rattle.ipc_scalar.specs.Bytes.{num, byte, int16, int32, int64}
 use Rattle.ipc_scalar.specs.declared.fault.FlatFault.{FlatFault}
-use Rattle.ipc_scalar.specs.Flat.{slot_of, table_of, text_of}
+use Rattle.ipc_scalar.specs.Flat.{slot_of, table_position, text_of}
 use Rattle.ipc_flat.specs.Views.{TableView, table_from, scalar, field}
 use Rattle.ipc_model.specs.Answers.{◌>>=◌}
 use Rattle.ipc_model.specs.WellFormed.{HasGoodType}
@@ -24,9 +24,9 @@ use Rattle.ipc_model.specs.declared.schema.DataType.TheVariants as t
 use Rattle.ipc_model.specs.declared.schema.IndexType.{IndexType}
 use Rattle.ipc_model.specs.declared.schema.Dictionary.{Dictionary}
 use Rattle.ipc_build.specs.Encodes.{EncodesTable, HasField}
-use Rattle.ipc_meta.specs.Lifts.{lift}
+use Rattle.ipc_meta.specs.FlatFaults.{map_fault}
 use Rattle.ipc_meta.specs.Tables.{bits_of, ok_or, int_at, fixed_at, date_at, unit_of, timestamp_at, type_of, type_in, is_type_code}
-use Rattle.ipc_meta.specs.Tables.{when_type, code_at, type_at, flag_at, index_in, index_at, dictionary_in, dictionary_at}
+use Rattle.ipc_meta.specs.Tables.{when_type, code_at, type_at, flag_at, index_type_at, index_at, dictionary_in, dictionary_at}
 use Rattle.ipc_meta.specs.Tables.{fixed_list_at, time_in, time_at, duration_at}
 use Rattle.ipc_meta.specs.Written.{int_tree, date_code, time_code, type_tree, dictionary_tree}
 use Rattle.ipc_model.specs.TypeCodes.{type_code}
@@ -48,22 +48,22 @@ unfolding EncodesTable
 int_there e b u bits signed h =
     let size = h.lies.0 in
     let sign = h.lies.1.0 in
-    ap (λ (r : Result ℤ FlatFault). lift r >>= λ w. ok_or e (bits_of w) >>= λ c. flag_at (tab b u) 1 >>= λ s. Ok (integer c s))
+    ap (λ (r : Result ℤ FlatFault). map_fault r >>= λ w. ok_or e (bits_of w) >>= λ c. flag_at (tab b u) 1 >>= λ s. Ok (integer c s))
     (scalar_there b u 0 4 size.0 int32 (pos 0) size.1.0)
     ∙ (ap (λ (z : ℤ). ok_or e (bits_of z) >>= λ c. flag_at (tab b u) 1 >>= λ s. Ok (integer c s)) size.3
     ∙ (ap (λ (r : Result IntBits Fault). r >>= λ c. flag_at (tab b u) 1 >>= λ s. Ok (integer c s)) (bits_there e bits)
     ∙ ap (λ (r : Result Bool Fault). r >>= λ s. Ok (integer bits s)) (flag_there b u 1 sign.0 signed sign.1.0 sign.3)))
 
 fixed_there : (b : List ℕ) (u n p : ℕ) → slot_of b u 0 4 ≡ Ok (Some p) → int32 b p ≡ cast_signed w32 n → n ≤ 2 ^ 31 - 1
-    → (lift (scalar (tab b u) 0 4 int32 (pos 0)) >>= fixed_at) ≡ Ok (t.FixedSizeBinary n)
+    → (map_fault (scalar (tab b u) 0 4 int32 (pos 0)) >>= fixed_at) ≡ Ok (t.FixedSizeBinary n)
 fixed_there b u n p s e h =
-    ap (λ (r : Result ℤ FlatFault). lift r >>= fixed_at) (scalar_there b u 0 4 p int32 (pos 0) s)
+    ap (λ (r : Result ℤ FlatFault). map_fault r >>= fixed_at) (scalar_there b u 0 4 p int32 (pos 0) s)
     ∙ (ap fixed_at e ∙ ap fixed_at (to_z_pos w32 (omega (arith, h))))
 
 fixed_list_there : (b : List ℕ) (u n p : ℕ) → slot_of b u 0 4 ≡ Ok (Some p) → int32 b p ≡ cast_signed w32 n → n ≤ 2 ^ 31 - 1
-    → (lift (scalar (tab b u) 0 4 int32 (pos 0)) >>= fixed_list_at) ≡ Ok (t.FixedSizeList n)
+    → (map_fault (scalar (tab b u) 0 4 int32 (pos 0)) >>= fixed_list_at) ≡ Ok (t.FixedSizeList n)
 fixed_list_there b u n p s e h =
-    ap (λ (r : Result ℤ FlatFault). lift r >>= fixed_list_at) (scalar_there b u 0 4 p int32 (pos 0) s)
+    ap (λ (r : Result ℤ FlatFault). map_fault r >>= fixed_list_at) (scalar_there b u 0 4 p int32 (pos 0) s)
     ∙ (ap fixed_list_at e ∙ ap fixed_list_at (to_z_pos w32 (omega (arith, h))))
 
 date_read : (unit : DateUnit) → date_at (date_code unit) ≡ Ok (t.Date unit)
@@ -71,8 +71,8 @@ date_read date.Day = refl
 date_read date.Millisecond = refl
 
 date_there : (b : List ℕ) (u p : ℕ) (unit : DateUnit) → slot_of b u 0 2 ≡ Ok (Some p) → int16 b p ≡ date_code unit
-    → (lift (scalar (tab b u) 0 2 int16 (pos 1)) >>= date_at) ≡ Ok (t.Date unit)
-date_there b u p unit s e = ap (λ (r : Result ℤ FlatFault). lift r >>= date_at) (scalar_there b u 0 2 p int16 (pos 1) s)
+    → (map_fault (scalar (tab b u) 0 2 int16 (pos 1)) >>= date_at) ≡ Ok (t.Date unit)
+date_there b u p unit s e = ap (λ (r : Result ℤ FlatFault). map_fault r >>= date_at) (scalar_there b u 0 2 p int16 (pos 1) s)
     ∙ (ap date_at e ∙ date_read unit)
 
 unit_read : (unit : TimeUnit) → ok_or BadType (unit_of (time_code unit)) ≡ Ok unit
@@ -95,11 +95,11 @@ timestamp_there : (b : List ℕ) (u : ℕ) (unit : TimeUnit) (zone : Option (Lis
 unfolding EncodesTable
 timestamp_there b u unit zone h =
     let place = h.lies.0 in
-    ap (λ (r : Result ℤ FlatFault). lift r >>= λ n. ok_or BadType (unit_of n) >>= λ c. lift (field (tab b u) 1 text_of)
+    ap (λ (r : Result ℤ FlatFault). map_fault r >>= λ n. ok_or BadType (unit_of n) >>= λ c. map_fault (field (tab b u) 1 text_of)
     >>= λ z. timestamp c z) (scalar_there b u 0 2 place.0 int16 (pos 0) place.1.0)
-    ∙ (ap (λ (m : ℤ). ok_or BadType (unit_of m) >>= λ c. lift (field (tab b u) 1 text_of) >>= λ z. timestamp c z) place.3
-    ∙ (ap (λ (r : Result TimeUnit Fault). r >>= λ c. lift (field (tab b u) 1 text_of) >>= λ z. timestamp c z) (unit_read unit)
-    ∙ ap (λ (r : Result (Option (List ℕ)) FlatFault). lift r >>= λ z. timestamp unit z) (zone_there b u unit zone h)))
+    ∙ (ap (λ (m : ℤ). ok_or BadType (unit_of m) >>= λ c. map_fault (field (tab b u) 1 text_of) >>= λ z. timestamp c z) place.3
+    ∙ (ap (λ (r : Result TimeUnit Fault). r >>= λ c. map_fault (field (tab b u) 1 text_of) >>= λ z. timestamp c z) (unit_read unit)
+    ∙ ap (λ (r : Result (Option (List ℕ)) FlatFault). map_fault r >>= λ z. timestamp unit z) (zone_there b u unit zone h)))
 
 width_read : (unit : TimeUnit) → time_in unit (pos (width (time_bits unit))) ≡ Ok (t.Time unit)
 width_read time.Second = refl
@@ -112,11 +112,11 @@ unfolding EncodesTable
 time_there b u unit h =
     let place = h.lies.0 in
     let size = h.lies.1.0 in
-    ap (λ (r : Result ℤ FlatFault). lift r >>= λ n. ok_or BadType (unit_of n) >>= λ c. lift (scalar (tab b u) 1 4 int32 (pos 32))
+    ap (λ (r : Result ℤ FlatFault). map_fault r >>= λ n. ok_or BadType (unit_of n) >>= λ c. map_fault (scalar (tab b u) 1 4 int32 (pos 32))
     >>= time_in c) (scalar_there b u 0 2 place.0 int16 (pos 1) place.1.0)
-    ∙ (ap (λ (m : ℤ). ok_or BadType (unit_of m) >>= λ c. lift (scalar (tab b u) 1 4 int32 (pos 32)) >>= time_in c) place.3
-    ∙ (ap (λ (r : Result TimeUnit Fault). r >>= λ c. lift (scalar (tab b u) 1 4 int32 (pos 32)) >>= time_in c) (unit_read unit)
-    ∙ (ap (λ (r : Result ℤ FlatFault). lift r >>= time_in unit) (scalar_there b u 1 4 size.0 int32 (pos 32) size.1.0)
+    ∙ (ap (λ (m : ℤ). ok_or BadType (unit_of m) >>= λ c. map_fault (scalar (tab b u) 1 4 int32 (pos 32)) >>= time_in c) place.3
+    ∙ (ap (λ (r : Result TimeUnit Fault). r >>= λ c. map_fault (scalar (tab b u) 1 4 int32 (pos 32)) >>= time_in c) (unit_read unit)
+    ∙ (ap (λ (r : Result ℤ FlatFault). map_fault r >>= time_in unit) (scalar_there b u 1 4 size.0 int32 (pos 32) size.1.0)
     ∙ (ap (time_in unit) size.3 ∙ width_read unit))))
 
 abbrev duration : TimeUnit → Result DataType Fault
@@ -127,7 +127,7 @@ duration_there : (b : List ℕ) (u : ℕ) (unit : TimeUnit) → Holds b u (type_
 unfolding EncodesTable
 duration_there b u unit h =
     let place = h.lies.0 in
-    ap (λ (r : Result ℤ FlatFault). lift r >>= λ n. ok_or BadType (unit_of n) >>= λ c. duration c)
+    ap (λ (r : Result ℤ FlatFault). map_fault r >>= λ n. ok_or BadType (unit_of n) >>= λ c. duration c)
     (scalar_there b u 0 2 place.0 int16 (pos 1) place.1.0)
     ∙ (ap (λ (m : ℤ). ok_or BadType (unit_of m) >>= λ c. duration c) place.3
     ∙ ap (λ (r : Result TimeUnit Fault). r >>= λ c. duration c) (unit_read unit))
@@ -167,16 +167,17 @@ coded t.Struct = refl
 
 -- a type whose code and table were written in a field is the one that is read
 pub type_there : (b : List ℕ) (t c p u : ℕ) (κ : DataType) → slot_of b t 2 1 ≡ Ok (Some c) → num b c 1 ≡ type_code κ
-    → slot_of b t 3 4 ≡ Ok (Some p) → table_of b p ≡ Ok u
+    → slot_of b t 3 4 ≡ Ok (Some p) → table_position b p ≡ Ok u
     → HasGoodType κ → Holds b u (type_tree κ) → type_at (tab b t) ≡ Ok κ
 unfolding type_at code_at
 type_there b t c p u κ sc e sp table good h =
-    ap (λ (r : Result ℕ FlatFault). lift r >>= λ code. when_type code (lift (field (tab b t) 3 table_from) >>= type_in code))
+    ap (λ (r : Result ℕ FlatFault). map_fault r >>= λ code. when_type code (map_fault (field (tab b t) 3 table_from) >>= type_in code))
     (scalar_there b t 2 1 c byte 0 sc)
-    ∙ (ap (λ (n : ℕ). when_type n (lift (field (tab b t) 3 table_from) >>= type_in n)) e
-    ∙ (ap (λ (k : Bool). if k then (lift (field (tab b t) 3 table_from) >>= type_in (type_code κ)) else Err (UnsupportedType (type_code κ)))
+    ∙ (ap (λ (n : ℕ). when_type n (map_fault (field (tab b t) 3 table_from) >>= type_in n)) e
+    ∙ (ap (λ (k : Bool). if k then (map_fault (field (tab b t) 3 table_from) >>= type_in (type_code κ)) else Err
+    (UnsupportedType (type_code κ)))
     (coded κ)
-    ∙ (ap (λ (r : Result (Option TableView) FlatFault). lift r >>= type_in (type_code κ))
+    ∙ (ap (λ (r : Result (Option TableView) FlatFault). map_fault r >>= type_in (type_code κ))
     (field_there b t 3 p table_from (tab b u) sp (table_there b p u table))
     ∙ type_table b u κ good h)))
 
@@ -185,10 +186,10 @@ type_there b t c p u κ sc e sp table good h =
 abbrev encoding : ℤ → IndexType → Bool → Result (Option Dictionary) Fault
 encoding id index ordered = Ok (Some (record { id = id; index = index; ordered = ordered }))
 
-index_there : (b : List ℕ) (u p v : ℕ) (index : IndexType) → slot_of b u 1 4 ≡ Ok (Some p) → table_of b p ≡ Ok v
+index_there : (b : List ℕ) (u p v : ℕ) (index : IndexType) → slot_of b u 1 4 ≡ Ok (Some p) → table_position b p ≡ Ok v
     → Holds b v (int_tree index.bits index.signed) → index_at (tab b u) ≡ Ok index
 index_there b u p v index s table h =
-    ap (λ (r : Result (Option TableView) FlatFault). lift r >>= index_in)
+    ap (λ (r : Result (Option TableView) FlatFault). map_fault r >>= index_type_at)
     (field_there b u 1 p table_from (tab b v) s (table_there b p v table))
     ∙ int_there BadIndexType b v index.bits index.signed h
 
@@ -198,7 +199,7 @@ encoding_there b u d h =
     let id = h.lies.0 in
     let index = h.lies.1.0 in
     let order = h.lies.1.1.0 in
-    ap (λ (r : Result ℤ FlatFault). lift r >>= λ z. index_at (tab b u) >>= λ x. flag_at (tab b u) 2 >>= λ o. encoding z x o)
+    ap (λ (r : Result ℤ FlatFault). map_fault r >>= λ z. index_at (tab b u) >>= λ x. flag_at (tab b u) 2 >>= λ o. encoding z x o)
     (scalar_there b u 0 8 id.0 int64 (pos 0) id.1.0)
     ∙ (ap (λ (z : ℤ). index_at (tab b u) >>= λ x. flag_at (tab b u) 2 >>= λ o. encoding z x o) id.3
     ∙ (ap (λ (r : Result IndexType Fault). r >>= λ x. flag_at (tab b u) 2 >>= λ o. encoding d.id x o)
@@ -206,10 +207,10 @@ encoding_there b u d h =
     ∙ ap (λ (r : Result Bool Fault). r >>= λ o. encoding d.id d.index o) (flag_there b u 2 order.0 d.ordered order.1.0 order.3)))
 
 -- a dictionary whose table was written in a field is the one that is read
-pub dictionary_there : (b : List ℕ) (t p u : ℕ) (d : Dictionary) → slot_of b t 4 4 ≡ Ok (Some p) → table_of b p ≡ Ok u
+pub dictionary_there : (b : List ℕ) (t p u : ℕ) (d : Dictionary) → slot_of b t 4 4 ≡ Ok (Some p) → table_position b p ≡ Ok u
     → Holds b u (dictionary_tree d) → dictionary_at (tab b t) ≡ Ok (Some d)
 unfolding dictionary_at
 dictionary_there b t p u d s table h =
-    ap (λ (r : Result (Option TableView) FlatFault). lift r >>= dictionary_in)
+    ap (λ (r : Result (Option TableView) FlatFault). map_fault r >>= dictionary_in)
     (field_there b t 4 p table_from (tab b u) s (table_there b p u table))
     ∙ encoding_there b u d h

@@ -9,7 +9,7 @@ use Rattle.ipc_model.specs.declared.fault.Fault.{Fault}
 use Rattle.ipc_meta.specs.declared.head.BatchHead.{BatchHead}
 use Rattle.ipc_meta.specs.declared.head.Head.{Head}
 use Rattle.ipc_meta.specs.declared.head.Head.TheVariants as head
-use Rattle.ipc_meta.specs.Lifts.{lift}
+use Rattle.ipc_meta.specs.FlatFaults.{map_fault}
 use Rattle.ipc_meta.specs.Tables.{flag_at}
 use Rattle.ipc_model.specs.Entries.{AllowPairs}
 use Rattle.ipc_meta.specs.Fields.{SchemaAt, VectorAt, PairAt}
@@ -24,14 +24,14 @@ number_pairs b p zero = []
 number_pairs b p (suc n) = (int64 b p, int64 b (p + 8)) ∷ number_pairs b (p + 16) n
 
 -- the pairs of numbers of a vector of structs; an absent vector has none
-abbrev pub pairs_in : Option Structs → List (ℤ × ℤ)
-pairs_in None = []
-pairs_in (Some s) = number_pairs s.bytes s.at s.len
+abbrev pub struct_pairs : Option Structs → List (ℤ × ℤ)
+struct_pairs None = []
+struct_pairs (Some s) = number_pairs s.bytes s.at s.len
 
 -- the structs in field k: FieldNode (length, null_count; Message.fbs) or Buffer (offset, length;
 -- Schema.fbs), 16 bytes each
 unfoldable pub numbers_at : TableView → ℕ → Result (List (ℤ × ℤ)) Fault
-numbers_at t k = lift (field t k (structs_from 16)) >>= λ o. Ok (pairs_in o)
+numbers_at t k = map_fault (field t k (structs_from 16)) >>= λ o. Ok (struct_pairs o)
 
 -- Message.fbs, table RecordBatch: the table t states this head of a batch: 0 length, 1 nodes, 2
 -- buffers, 3 compression (table BodyCompression, absent if nothing is compressed)

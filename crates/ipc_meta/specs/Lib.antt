@@ -1,4 +1,4 @@
-pub mod Lifts
+pub mod FlatFaults
 pub mod Budgets
 pub mod Tables
 pub mod Fields

@@ -8,73 +8,73 @@ use Rattle.ipc_flat.specs.Views.{structs_from}
 use Rattle.ipc_scalar.specs.declared.fault.FlatFault.{FlatFault}
 use Rattle.ipc_scalar.specs.declared.fault.FlatFault.TheVariants.{NotUtf8}
 use Rattle.ipc_model.specs.declared.fault.Fault.TheVariants.{BadFlat}
-use Rattle.ipc_meta.specs.Lifts.{lift}
+use Rattle.ipc_meta.specs.FlatFaults.{map_fault}
 use Rattle.ipc_meta.specs.Tables.{vector_at, code_at, is_type_code}
 
 -- the kinds of tables that are read; a type's table carries its code in union Type. The message of
 -- a record batch has the kind `batch_message` besides `message`
-pub data Kind : Type 0 where
-  message : Kind
-  batch_message : Kind
-  schema : Kind
-  column : Kind
-  key_value : Kind
-  type_value : ℕ → Kind
-  dictionary_encoding : Kind
-  index_type : Kind
-  dictionary_batch : Kind
-  record_batch : Kind
+pub data TableKind : Type 0 where
+  message : TableKind
+  batch_message : TableKind
+  schema : TableKind
+  column : TableKind
+  key_value : TableKind
+  type_value : ℕ → TableKind
+  dictionary_encoding : TableKind
+  index_type : TableKind
+  dictionary_batch : TableKind
+  record_batch : TableKind
 
 -- what a field of a table holds: a number of this many bytes, or the offset of a table, a text, or
 -- a vector of tables or of structs of 16 bytes
-pub data Held : Type 0 where
-  number : ℕ → Held
-  table : Held
-  text : Held
-  tables : Held
-  structs : Held
+pub data FieldContent : Type 0 where
+  number : ℕ → FieldContent
+  table : FieldContent
+  text : FieldContent
+  tables : FieldContent
+  structs : FieldContent
 
 -- the fields that are read, each with its number in its table (Message.fbs, Schema.fbs). The values
 -- of the unions MessageHeader and Type are not listed, since they are read only if their codes are
 -- known
-pub data LooksAt : Kind → ℕ → Held → Type 0 where
-  version : LooksAt message 0 (number 2)
-  header_type : LooksAt message 1 (number 1)
-  body_length : LooksAt message 3 (number 8)
-  batch_metadata : LooksAt batch_message 4 tables
-  endianness : LooksAt schema 0 (number 2)
-  fields : LooksAt schema 1 tables
-  schema_metadata : LooksAt schema 2 tables
-  name : LooksAt column 0 text
-  nullable : LooksAt column 1 (number 1)
-  type_type : LooksAt column 2 (number 1)
-  dictionary : LooksAt column 4 table
-  children : LooksAt column 5 tables
-  field_metadata : LooksAt column 6 tables
-  key : LooksAt key_value 0 text
-  value : LooksAt key_value 1 text
-  bit_width : LooksAt (type_value 2) 0 (number 4)
-  is_signed : LooksAt (type_value 2) 1 (number 1)
-  date_unit : LooksAt (type_value 8) 0 (number 2)
-  time_of_day_unit : LooksAt (type_value 9) 0 (number 2)
-  time_of_day_width : LooksAt (type_value 9) 1 (number 4)
-  time_unit : LooksAt (type_value 10) 0 (number 2)
-  timezone : LooksAt (type_value 10) 1 text
-  byte_width : LooksAt (type_value 15) 0 (number 4)
-  list_size : LooksAt (type_value 16) 0 (number 4)
-  duration_unit : LooksAt (type_value 18) 0 (number 2)
-  dictionary_id : LooksAt dictionary_encoding 0 (number 8)
-  indices : LooksAt dictionary_encoding 1 table
-  is_ordered : LooksAt dictionary_encoding 2 (number 1)
-  index_bit_width : LooksAt index_type 0 (number 4)
-  index_is_signed : LooksAt index_type 1 (number 1)
-  id : LooksAt dictionary_batch 0 (number 8)
-  values : LooksAt dictionary_batch 1 table
-  is_delta : LooksAt dictionary_batch 2 (number 1)
-  length : LooksAt record_batch 0 (number 8)
-  nodes : LooksAt record_batch 1 structs
-  buffers : LooksAt record_batch 2 structs
-  compression : LooksAt record_batch 3 table
+pub data ReadsField : TableKind → ℕ → FieldContent → Type 0 where
+  version : ReadsField message 0 (number 2)
+  header_type : ReadsField message 1 (number 1)
+  body_length : ReadsField message 3 (number 8)
+  batch_metadata : ReadsField batch_message 4 tables
+  endianness : ReadsField schema 0 (number 2)
+  fields : ReadsField schema 1 tables
+  schema_metadata : ReadsField schema 2 tables
+  name : ReadsField column 0 text
+  nullable : ReadsField column 1 (number 1)
+  type_type : ReadsField column 2 (number 1)
+  dictionary : ReadsField column 4 table
+  children : ReadsField column 5 tables
+  field_metadata : ReadsField column 6 tables
+  key : ReadsField key_value 0 text
+  value : ReadsField key_value 1 text
+  bit_width : ReadsField (type_value 2) 0 (number 4)
+  is_signed : ReadsField (type_value 2) 1 (number 1)
+  date_unit : ReadsField (type_value 8) 0 (number 2)
+  time_of_day_unit : ReadsField (type_value 9) 0 (number 2)
+  time_of_day_width : ReadsField (type_value 9) 1 (number 4)
+  time_unit : ReadsField (type_value 10) 0 (number 2)
+  timezone : ReadsField (type_value 10) 1 text
+  byte_width : ReadsField (type_value 15) 0 (number 4)
+  list_size : ReadsField (type_value 16) 0 (number 4)
+  duration_unit : ReadsField (type_value 18) 0 (number 2)
+  dictionary_id : ReadsField dictionary_encoding 0 (number 8)
+  indices : ReadsField dictionary_encoding 1 table
+  is_ordered : ReadsField dictionary_encoding 2 (number 1)
+  index_bit_width : ReadsField index_type 0 (number 4)
+  index_is_signed : ReadsField index_type 1 (number 1)
+  id : ReadsField dictionary_batch 0 (number 8)
+  values : ReadsField dictionary_batch 1 table
+  is_delta : ReadsField dictionary_batch 2 (number 1)
+  length : ReadsField record_batch 0 (number 8)
+  nodes : ReadsField record_batch 1 structs
+  buffers : ReadsField record_batch 2 structs
+  compression : ReadsField record_batch 3 table
 
 -- u is one of the tables to which the offsets of the vector in field k of t point (FlatBuffers
 -- binary format, "Strings and Vectors")
@@ -95,7 +95,7 @@ Header t code u = (scalar t 1 1 byte 0 ≡ Ok code) × (field t 2 table_from ≡
 -- the metadata b has the table t of this kind. The root table is the Message; every other table is
 -- reached from one that b has, as its header, data, column, child, pair, type, dictionary or index
 -- type
-pub data HasTable (b : List ℕ) : Kind → TableView → Type 0 where
+pub data HasTable (b : List ℕ) : TableKind → TableView → Type 0 where
   of_root : {t : TableView} → table_from b 0 ≡ Ok t → HasTable b message t
   of_schema : {t u : TableView} → HasTable b message t → Header t 1 u → HasTable b schema u
   of_dictionary : {t u : TableView} → HasTable b message t → Header t 2 u
@@ -127,11 +127,11 @@ pub data IsDeep (t : TableView) : ℕ → TableView → Type 0 where
 -- the result is a fault of an offset, a vtable or a range, so not of a text
 -- (FlatBuffers binary format)
 abbrev pub IsIllFormed : {X : Type 0} → Result X FlatFault → Type 0
-IsIllFormed r = lift r ≡ Err BadFlat
+IsIllFormed r = map_fault r ≡ Err BadFlat
 
 -- field k of t, or what its offset points to, is ill-formed; for a vector of tables, also one of
 -- its tables
-abbrev pub HoldsIllFormed : TableView → ℕ → Held → Type 0
+abbrev pub HoldsIllFormed : TableView → ℕ → FieldContent → Type 0
 HoldsIllFormed t k (number width) = IsIllFormed (slot_of t.bytes t.at k width)
 HoldsIllFormed t k table = IsIllFormed (field t k table_from)
 HoldsIllFormed t k text = IsIllFormed (field t k text_of)
@@ -145,8 +145,8 @@ HoldsIllFormed t k structs = IsIllFormed (field t k (structs_from 16))
 -- code is read
 pub data HasIllFormed (b : List ℕ) : Type 0 where
   no_root : IsIllFormed (table_from b 0) → HasIllFormed b
-  at_field : {kind : Kind} {held : Held} {t : TableView} {k : ℕ} → HasTable b kind t
-      → LooksAt kind k held → HoldsIllFormed t k held → HasIllFormed b
+  at_field : {kind : TableKind} {held : FieldContent} {t : TableView} {k : ℕ} → HasTable b kind t
+      → ReadsField kind k held → HoldsIllFormed t k held → HasIllFormed b
   at_header : {t : TableView} {code : ℕ} → HasTable b message t → scalar t 1 1 byte 0 ≡ Ok code
       → IsHeaderCode code → IsIllFormed (field t 2 table_from) → HasIllFormed b
   at_type : {t : TableView} {code : ℕ} → HasTable b column t → code_at t ≡ Ok code
@@ -154,5 +154,5 @@ pub data HasIllFormed (b : List ℕ) : Type 0 where
 
 -- a text that is read is not UTF-8 (FlatBuffers binary format, "Strings and Vectors")
 pub data HasOtherText (b : List ℕ) : Type 0 where
-  at_text : {kind : Kind} {t : TableView} {k : ℕ} → HasTable b kind t → LooksAt kind k text
+  at_text : {kind : TableKind} {t : TableView} {k : ℕ} → HasTable b kind t → ReadsField kind k text
       → field t k text_of ≡ Err NotUtf8 → HasOtherText b

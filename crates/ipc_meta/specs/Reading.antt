@@ -16,13 +16,14 @@ use Rattle.ipc_model.specs.declared.schema.DataType.{DataType}
 use Rattle.ipc_model.specs.declared.schema.Field.{Field, roll-Field}
 use Rattle.ipc_meta.specs.declared.budget.Budget.{Budget}
 use Rattle.ipc_meta.specs.Budgets.{Reading, less_fields, less_text, less_pairs}
-use Rattle.ipc_meta.specs.Lifts.{lift}
+use Rattle.ipc_meta.specs.FlatFaults.{map_fault}
 use Rattle.ipc_meta.specs.Tables.{text_at, flag_at, vector_at, type_at, dictionary_at}
 
 -- what f reads of the n tables to which the offsets from p on point, one after another
 unfoldable pub each : {X : Type 0} → (TableView → Reading X) → List ℕ → ℕ → ℕ → Reading (List X)
 each f b p zero left = Ok ([], left)
-each f b p (suc n) left = lift (table_from b p) >>= λ t. f t left >>= λ x. each f b (p + 4) n x.1
+each f b p (suc n) left = map_fault (table_from b p) >>= λ t. f t left >>= λ x.
+    each f b (p + 4) n x.1
     >>= λ xs. Ok (x.0 ∷ xs.0, xs.1)
 
 -- the list that was read, with `front` before it
@@ -92,8 +93,8 @@ when_plain (Some t) r = Err Compressed
 -- buffers
 unfoldable pub batch_read : TableView → Result BatchHead Fault
 batch_read t =
-    lift (field t 3 table_from) >>= λ o. when_plain o (
-    lift (scalar t 0 8 int64 (pos 0)) >>= λ n.
+    map_fault (field t 3 table_from) >>= λ o. when_plain o (
+    map_fault (scalar t 0 8 int64 (pos 0)) >>= λ n.
     numbers_at t 1 >>= λ nodes.
     numbers_at t 2 >>= λ buffers.
     Ok (record { length = n; nodes = nodes; buffers = buffers }))

@@ -20,7 +20,7 @@ use Rattle.ipc_model.specs.declared.schema.DataType.{DataType}
 use Rattle.ipc_model.specs.declared.schema.DataType.TheVariants as t
 use Rattle.ipc_model.specs.declared.schema.IndexType.{IndexType}
 use Rattle.ipc_model.specs.declared.schema.Dictionary.{Dictionary}
-use Rattle.ipc_meta.specs.Lifts.{lift}
+use Rattle.ipc_meta.specs.FlatFaults.{map_fault}
 
 -- the value, or d if it is absent
 abbrev pub or_else : {X : Type 0} → X → Option X → X
@@ -29,12 +29,12 @@ or_else d (Some x) = x
 
 -- the text in field k; an absent one is empty (FlatBuffers binary format, "Strings and Vectors")
 unfoldable pub text_at : TableView → ℕ → Result (List ℕ) Fault
-text_at t k = lift (field t k text_of) >>= λ o. Ok (or_else [] o)
+text_at t k = map_fault (field t k text_of) >>= λ o. Ok (or_else [] o)
 
 -- the truth value in field k: an absent byte and 0 are false, any other is true (FlatBuffers binary
 -- format, "Tables")
 unfoldable pub flag_at : TableView → ℕ → Result Bool Fault
-flag_at t k = lift (scalar t k 1 byte 0) >>= λ n. Ok (nat_lt 0 n)
+flag_at t k = map_fault (scalar t k 1 byte 0) >>= λ n. Ok (nat_lt 0 n)
 
 -- the vector, or an empty one if it is absent
 abbrev pub no_elements : TableView → Option Elements → Elements
@@ -43,7 +43,7 @@ no_elements t (Some es) = es
 
 -- the vector of offsets of tables in field k; an absent one is empty
 unfoldable pub vector_at : TableView → ℕ → Result Elements Fault
-vector_at t k = lift (field t k (elements_from 4)) >>= λ o. Ok (no_elements t o)
+vector_at t k = map_fault (field t k (elements_from 4)) >>= λ o. Ok (no_elements t o)
 
 -- the width of an integer, which is 8, 16, 32 or 64 bits (Schema.fbs, table Int, bitWidth)
 abbrev pub bits_of : ℤ → Option IntBits
@@ -65,7 +65,8 @@ map_ok f (Err e) = Err e
 -- Schema.fbs, table Int: the integer type that the table states: 0 bitWidth, 1 is_signed; any other
 -- width is the fault e
 abbrev pub int_at : Fault → TableView → Result IndexType Fault
-int_at e v = lift (scalar v 0 4 int32 (pos 0)) >>= λ w. ok_or e (bits_of w) >>= λ b. flag_at v 1
+int_at e v = map_fault (scalar v 0 4 int32 (pos 0)) >>= λ w. ok_or e (bits_of w) >>= λ b.
+    flag_at v 1
     >>= λ s. Ok (record { bits = b; signed = s })
 
 -- Schema.fbs, table FixedSizeBinary, 0 byteWidth: the width in bytes, which is not negative
@@ -96,8 +97,8 @@ unit_of (negsuc n) = None
 -- Schema.fbs, table Timestamp: the type that the table states: 0 unit, 1 timezone; the timezone may
 -- be absent, and a present one may be empty
 abbrev pub timestamp_at : TableView → Result DataType Fault
-timestamp_at v = lift (scalar v 0 2 int16 (pos 0)) >>= λ u. ok_or BadType (unit_of u)
-    >>= λ u. lift (field v 1 text_of) >>= λ z. Ok (t.Timestamp u z)
+timestamp_at v = map_fault (scalar v 0 2 int16 (pos 0)) >>= λ u. ok_or BadType (unit_of u)
+    >>= λ u. map_fault (field v 1 text_of) >>= λ z. Ok (t.Timestamp u z)
 
 -- a time of this unit, if `bits` is the width that its unit needs (Schema.fbs, table Time, 1
 -- bitWidth)
@@ -108,13 +109,13 @@ time_in unit bits =
 -- Schema.fbs, table Time: the type that the table states: 0 unit, which is MILLISECOND if absent, 1
 -- bitWidth, which is 32 if absent
 abbrev pub time_at : TableView → Result DataType Fault
-time_at v = lift (scalar v 0 2 int16 (pos 1)) >>= λ u. ok_or BadType (unit_of u)
-    >>= λ u. lift (scalar v 1 4 int32 (pos 32)) >>= time_in u
+time_at v = map_fault (scalar v 0 2 int16 (pos 1)) >>= λ u. ok_or BadType (unit_of u)
+    >>= λ u. map_fault (scalar v 1 4 int32 (pos 32)) >>= time_in u
 
 -- Schema.fbs, table Duration: the type that the table states: 0 unit, which is MILLISECOND if
 -- absent
 abbrev pub duration_at : TableView → Result DataType Fault
-duration_at v = lift (scalar v 0 2 int16 (pos 1)) >>= λ u. ok_or BadType (unit_of u)
+duration_at v = map_fault (scalar v 0 2 int16 (pos 1)) >>= λ u. ok_or BadType (unit_of u)
     >>= λ u. Ok (t.Duration u)
 
 -- Schema.fbs, union Type: the type with this code and table: Null 1, Int 2, Binary 4, Utf8 5, Bool
@@ -127,13 +128,13 @@ type_of code v =
     else (if code == 4 then Ok t.Binary
     else (if code == 5 then Ok t.Utf8
     else (if code == 6 then Ok t.Bool
-    else (if code == 8 then (lift (scalar v 0 2 int16 (pos 1)) >>= date_at)
+    else (if code == 8 then (map_fault (scalar v 0 2 int16 (pos 1)) >>= date_at)
     else (if code == 9 then time_at v
     else (if code == 10 then timestamp_at v
     else (if code == 12 then Ok t.List
     else (if code == 13 then Ok t.Struct
-    else (if code == 15 then (lift (scalar v 0 4 int32 (pos 0)) >>= fixed_at)
-    else (if code == 16 then (lift (scalar v 0 4 int32 (pos 0)) >>= fixed_list_at)
+    else (if code == 15 then (map_fault (scalar v 0 4 int32 (pos 0)) >>= fixed_at)
+    else (if code == 16 then (map_fault (scalar v 0 4 int32 (pos 0)) >>= fixed_list_at)
     else (if code == 18 then duration_at v
     else Err (UnsupportedType code)))))))))))))
 
@@ -144,7 +145,7 @@ type_in code (Some v) = type_of code v
 
 -- Schema.fbs, table Field: the code of the field's type: 2 the type's code in union Type
 unfoldable pub code_at : TableView → Result ℕ Fault
-code_at f = lift (scalar f 2 1 byte 0)
+code_at f = map_fault (scalar f 2 1 byte 0)
 
 -- Schema.fbs, union Type: the code is that of a type that `type_of` reads
 unfoldable pub is_type_code : ℕ → Bool
@@ -162,27 +163,28 @@ when_type code r = if is_type_code code then r else Err (UnsupportedType code)
 -- Schema.fbs, table Field: the field's type: 2 the type's code, 3 the type's table, which is read
 -- only if the code is a known type's
 unfoldable pub type_at : TableView → Result DataType Fault
-type_at f = code_at f >>= λ code. when_type code (lift (field f 3 table_from) >>= type_in code)
+type_at f = code_at f >>= λ code. when_type code (map_fault (field f 3 table_from) >>= type_in code)
 
 -- Schema.fbs, table DictionaryEncoding, indexType: an Int table; if it is absent, indices are
 -- signed and have 32 bits
-abbrev pub index_in : Option TableView → Result IndexType Fault
-index_in None = Ok (record { bits = B32; signed = true })
-index_in (Some v) = int_at BadIndexType v
+abbrev pub index_type_at : Option TableView → Result IndexType Fault
+index_type_at None = Ok (record { bits = B32; signed = true })
+index_type_at (Some v) = int_at BadIndexType v
 
 -- Schema.fbs, table DictionaryEncoding: the type of the indices: 1 indexType
 abbrev pub index_at : TableView → Result IndexType Fault
-index_at d = lift (field d 1 table_from) >>= index_in
+index_at d = map_fault (field d 1 table_from) >>= index_type_at
 
 -- Schema.fbs, table DictionaryEncoding: the dictionary that the table states, if there is one: 0
 -- id, 1 indexType, 2 isOrdered
 abbrev pub dictionary_in : Option TableView → Result (Option Dictionary) Fault
 dictionary_in None = Ok None
 dictionary_in (Some d) =
-    lift (scalar d 0 8 int64 (pos 0)) >>= λ id. index_at d >>= λ index. flag_at d 2 >>= λ ordered.
+    map_fault (scalar d 0 8 int64 (pos 0)) >>= λ id. index_at d >>= λ index. flag_at d 2
+    >>= λ ordered.
     Ok (Some (record { id = id; index = index; ordered = ordered }))
 
 -- Schema.fbs, table Field: the field's dictionary: 4 dictionary, absent if the values are not
 -- dictionary-encoded
 unfoldable pub dictionary_at : TableView → Result (Option Dictionary) Fault
-dictionary_at f = lift (field f 4 table_from) >>= dictionary_in
+dictionary_at f = map_fault (field f 4 table_from) >>= dictionary_in

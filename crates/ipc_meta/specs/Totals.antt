@@ -26,12 +26,12 @@ abbrev pub sum_in : (TableView → ℕ) → TableView → ℕ → ℕ
 sum_in w t k = or_zero (λ es. sum_tables w es.bytes es.at es.len) (vector_at t k)
 
 -- how many bytes the text in field k has
-abbrev pub text_in : TableView → ℕ → ℕ
-text_in t k = or_zero length (text_at t k)
+abbrev pub text_len_at : TableView → ℕ → ℕ
+text_len_at t k = or_zero length (text_at t k)
 
 -- how many bytes a KeyValue table's key and value have
 abbrev pub pair_text_in : TableView → ℕ
-pair_text_in t = text_in t 0 + text_in t 1
+pair_text_in t = text_len_at t 0 + text_len_at t 1
 
 -- the number of the field of a Schema table that holds its fields (Schema.fbs, table Schema)
 abbrev pub schema_fields : ℕ
@@ -55,7 +55,7 @@ field_pairs = 6
 
 -- how many bytes a Field table's own name, timezone, keys and values have
 abbrev pub own_text : TableView → ℕ
-own_text t = text_in t 0 + or_zero kind_text (type_at t) + sum_in pair_text_in t field_pairs
+own_text t = text_len_at t 0 + or_zero kind_text (type_at t) + sum_in pair_text_in t field_pairs
 
 -- the sum of w over a Field table and those below it, at most `depth` levels
 unfoldable pub tree : (TableView → ℕ) → ℕ → TableView → ℕ
@@ -69,14 +69,14 @@ over_fields limits w t = sum_in (tree w limits.depth) t schema_fields
 
 -- how many fields a Schema table has, descendants included, down to one level below the greatest
 -- depth
-abbrev pub fields_stated : Limits → TableView → ℕ
-fields_stated limits t = count_in t schema_fields + over_fields limits (λ u. count_in u
+abbrev pub total_fields : Limits → TableView → ℕ
+total_fields limits t = count_in t schema_fields + over_fields limits (λ u. count_in u
     field_children) t
 
 -- how many bytes the names, timezones, keys and values of a Schema table and of its fields have
-abbrev pub text_stated : Limits → TableView → ℕ
-text_stated limits t = sum_in pair_text_in t schema_pairs + over_fields limits own_text t
+abbrev pub total_text : Limits → TableView → ℕ
+total_text limits t = sum_in pair_text_in t schema_pairs + over_fields limits own_text t
 
 -- how many pairs of key and value a Schema table and its fields have
-abbrev pub pairs_stated : Limits → TableView → ℕ
-pairs_stated limits t = count_in t schema_pairs + over_fields limits (λ u. count_in u field_pairs) t
+abbrev pub total_pairs : Limits → TableView → ℕ
+total_pairs limits t = count_in t schema_pairs + over_fields limits (λ u. count_in u field_pairs) t

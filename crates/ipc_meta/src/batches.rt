@@ -7,8 +7,8 @@ ghost use Rattle.ipc_meta.specs.Reached.{HasTable, dictionary_batch};
 ghost use Rattle.ipc_meta.specs.Causes.{Cause};
 ghost use Rattle.ipc_model.specs.declared.limits.Limits.{Limits};
 
+use crate::flat_faults::map_fault;
 use crate::head::BatchHead;
-use crate::lifted::lifted;
 use crate::types::read_flag;
 use ipc_flat::TableRef;
 use ipc_model::{Fault, Items};
@@ -30,7 +30,7 @@ fn number_pair(bytes: &[u8]) -> (i64, i64)
 fn read_numbers(alloc: Global, table: &TableRef<'_>, slot: u16) -> Result<Items<(i64, i64)>, Fault>
     ensures { AnswersUnlessOutOfMemory (λ ns. ns) result (numbers_at table.now slot) }
 {
-    let Some(structs) = lifted(table.structs(slot, 16))? else {
+    let Some(structs) = map_fault(table.structs(slot, 16))? else {
         return Ok(Items::new(alloc));
     };
     let mut numbers = Vec::with_capacity(alloc, structs.len())?;
@@ -46,10 +46,10 @@ fn read_numbers(alloc: Global, table: &TableRef<'_>, slot: u16) -> Result<Items<
 pub(crate) fn read_batch(alloc: Global, table: &TableRef<'_>) -> Result<BatchHead, Fault>
     ensures { AnswersUnlessOutOfMemory (λ b. b) result (batch_read table.now) }
 {
-    if lifted(table.table(3))?.is_some() {
+    if map_fault(table.table(3))?.is_some() {
         return Err(Fault::Compressed);
     }
-    let length = lifted(table.scalar_i64(0, 0))?;
+    let length = map_fault(table.scalar_i64(0, 0))?;
     let nodes = read_numbers(alloc, table, 1)?;
     let buffers = read_numbers(alloc, table, 2)?;
     Ok(BatchHead {
@@ -72,11 +72,11 @@ pub(crate) fn read_dictionary_batch(
         (λ f. (limits : Limits) (b : List ℕ) → HasTable b dictionary_batch table.now
         → UnlessOutOfMemory f (Cause limits b f)) }
 {
-    let id = lifted(table.scalar_i64(0, 0))?;
+    let id = map_fault(table.scalar_i64(0, 0))?;
     if read_flag(table, 2)? {
         return Err(Fault::DeltaDictionary);
     }
-    match lifted(table.table(1))? {
+    match map_fault(table.table(1))? {
         None => Err(Fault::BadHeader),
         Some(values) => Ok((id, read_batch(alloc, &values)?)),
     }

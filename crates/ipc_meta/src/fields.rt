@@ -4,7 +4,7 @@ ghost use Rattle.ipc_meta.specs.Reading.{text_read, pair_read, pairs_read, field
 ghost use Rattle.ipc_meta.specs.Reading.{only_field};
 
 use crate::budget::Budget;
-use crate::lifted::lifted;
+use crate::flat_faults::map_fault;
 use crate::types::{read_counted_type, read_dictionary, read_flag};
 use ipc_flat::TableRef;
 use ipc_model::{Fault, Field, Items, Limits, Text};
@@ -21,7 +21,7 @@ fn read_text(
     ensures { AnswersUnlessOutOfMemory (λ s. (s, left.new)) result
         (text_read table.now slot left.old) }
 {
-    let text = lifted(table.text(slot))?.unwrap_or("");
+    let text = map_fault(table.text(slot))?.unwrap_or("");
     left.take_text(text.len())?;
     Ok(Text::copied(alloc, text)?)
 }
@@ -49,12 +49,12 @@ pub(crate) fn read_pairs(
         (pairs_read table.now slot left.old) }
 {
     let mut pairs = Vec::new(alloc);
-    let Some(tables) = lifted(table.tables(slot))? else {
+    let Some(tables) = map_fault(table.tables(slot))? else {
         return Ok(Items::from_vec(pairs));
     };
     left.take_pairs(tables.len())?;
     for i in 0..tables.len() {
-        let table = lifted(tables.at(i))?;
+        let table = map_fault(tables.at(i))?;
         pairs.push(read_pair(alloc, &table, left)?)?;
     }
     Ok(Items::from_vec(pairs))
@@ -75,12 +75,12 @@ pub(crate) fn read_fields(
         (fields_read (field_read depth) table.now slot left.old) }
 {
     let mut fields = Vec::new(alloc);
-    let Some(tables) = lifted(table.tables(slot))? else {
+    let Some(tables) = map_fault(table.tables(slot))? else {
         return Ok(Items::from_vec(fields));
     };
     left.take_fields(tables.len())?;
     for i in 0..tables.len() {
-        let table = lifted(tables.at(i))?;
+        let table = map_fault(tables.at(i))?;
         fields.push(read_field(alloc, &table, depth, left)?)?;
     }
     Ok(Items::from_vec(fields))

@@ -5,9 +5,9 @@
 mod batches;
 mod budget;
 mod fields;
+mod flat_faults;
 pub mod head;
 mod laws;
-mod lifted;
 mod message;
 mod slots;
 mod trees;

@@ -15,8 +15,8 @@ ghost use Rattle.ipc_model.specs.declared.limits.Limits.{Limits};
 use crate::batches::{read_batch, read_dictionary_batch};
 use crate::budget::Budget;
 use crate::fields::{read_fields, read_pairs};
+use crate::flat_faults::map_fault;
 use crate::head::{BatchHead, Head};
-use crate::lifted::lifted;
 use crate::version::VERSION;
 use ipc_flat::{Flat, TableRef};
 use ipc_model::{Fault, Field, Items, Limits, Schema, Text};
@@ -37,7 +37,7 @@ fn check_endianness(table: &TableRef<'_>) -> Result<(), Fault>
     ensures refused { IfErr result
         (λ f. (limits : Limits) (b : List ℕ) → HasTable b schema table.now → Cause limits b f) }
 {
-    if lifted(table.scalar_i16(0, 0))? != 0 {
+    if map_fault(table.scalar_i16(0, 0))? != 0 {
         return Err(Fault::BigEndian);
     }
     Ok(())
@@ -131,11 +131,11 @@ fn read_header(alloc: Global, limits: &Limits, root: &TableRef<'_>) -> Result<He
         (λ f. (b : List ℕ) → HasTable b message root.now
         → UnlessOutOfMemory f (Cause limits.now b f)) }
 {
-    let code = lifted(root.scalar_u8(1, 0))?;
+    let code = map_fault(root.scalar_u8(1, 0))?;
     if !is_header_code(code) {
         return Err(Fault::BadHeader);
     }
-    let Some(table) = lifted(root.table(2))? else {
+    let Some(table) = map_fault(root.table(2))? else {
         return Err(Fault::BadHeader);
     };
     match code {
@@ -159,7 +159,7 @@ fn check_version(root: &TableRef<'_>) -> Result<(), Fault>
     ensures refused { IfErr result
         (λ f. (limits : Limits) (b : List ℕ) → HasTable b message root.now → Cause limits b f) }
 {
-    if lifted(root.scalar_i16(0, 0))? != VERSION {
+    if map_fault(root.scalar_i16(0, 0))? != VERSION {
         return Err(Fault::BadVersion);
     }
     Ok(())
@@ -173,7 +173,7 @@ fn read_body_length(root: &TableRef<'_>) -> Result<u64, Fault>
     ensures refused { IfErr result
         (λ f. (limits : Limits) (b : List ℕ) → HasTable b message root.now → Cause limits b f) }
 {
-    let length = lifted(root.scalar_i64(3, 0))?;
+    let length = map_fault(root.scalar_i64(3, 0))?;
     if length < 0 {
         return Err(Fault::BadBodyLength);
     }
@@ -244,7 +244,7 @@ pub fn read_message(alloc: Global, limits: &Limits, metadata: &[u8]) -> Result<(
         → MatchResult result (λ r. (r.0 ≡ head) × (r.1 ≡ m)) (λ f. f ≡ Fault.OutOfMemory) }
     ensures refused { IfErr result (λ f. UnlessOutOfMemory f (Cause limits.now metadata.now f)) }
 {
-    let root = lifted(Flat::root(metadata))?;
+    let root = map_fault(Flat::root(metadata))?;
     check_version(&root)?;
     let body = read_body_length(&root)?;
     check_body_length(limits, body)?;

@@ -1,7 +1,7 @@
 //! The tables of schemas, batches and messages that the writer makes.
 ghost use Rattle.std.specs.Prelude.{◌≡◌, ◌≤◌, ◌^◌, map, IfOk};
 ghost use Rattle.ipc_build.specs.Trees.{view};
-ghost use Rattle.ipc_model.specs.Greatest.{greatest_body};
+ghost use Rattle.ipc_model.specs.MaxLimits.{max_body};
 ghost use Rattle.ipc_model.specs.declared.schema.Field.{out-Field};
 ghost use Rattle.ipc_meta.specs.Written.{field_tree, schema_tree, batch_tree, message_tree};
 ghost use Rattle.ipc_meta.specs.Written.{schema_message, batch_message};
@@ -101,7 +101,7 @@ fn message_tree(
     body: u64,
     pairs: &Items<(Text, Text)>,
 ) -> Result<FlatTree, AllocError>
-    requires { body ≤ greatest_body }
+    requires { body ≤ max_body }
     ensures { IfOk result (λ t. view t ≡ message_tree code (view header) body pairs.now) }
 {
     let mut slots = vec![in alloc;
@@ -130,7 +130,7 @@ pub(crate) fn batch_message(
     pairs: &Items<(Text, Text)>,
     body: u64,
 ) -> Result<FlatTree, AllocError>
-    requires { body ≤ greatest_body }
+    requires { body ≤ max_body }
     ensures { IfOk result (λ t. view t ≡ batch_message head.now pairs.now body) }
 {
     let header = batch_tree(alloc, head)?;
@@ -145,7 +145,7 @@ pub(crate) fn dictionary_message(
     head: &BatchHead,
     body: u64,
 ) -> Result<FlatTree, AllocError>
-    requires { body ≤ greatest_body }
+    requires { body ≤ max_body }
     ensures { IfOk result (λ t. view t ≡ dictionary_message id head.now body) }
 {
     let header = dictionary_batch_tree(alloc, id, head)?;

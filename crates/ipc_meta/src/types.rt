@@ -8,7 +8,7 @@ ghost use Rattle.ipc_meta.specs.Tables.{dictionary_in, dictionary_at, map_ok};
 ghost use Rattle.ipc_meta.specs.Reading.{type_read};
 
 use crate::budget::Budget;
-use crate::lifted::lifted;
+use crate::flat_faults::map_fault;
 use ipc_flat::TableRef;
 use ipc_model::{DataType, DateUnit, Dictionary, Fault, IndexType, IntBits, Text, TimeUnit};
 use std::alloc::Global;
@@ -44,7 +44,7 @@ fn unit_of(unit: i16) -> Option<TimeUnit>
 pub(crate) fn read_flag(table: &TableRef<'_>, slot: u16) -> Result<bool, Fault>
     ensures { result ≡ flag_at table.now slot }
 {
-    let flag = lifted(table.scalar_u8(slot, 0))?;
+    let flag = map_fault(table.scalar_u8(slot, 0))?;
     Ok(flag > 0)
 }
 
@@ -53,7 +53,7 @@ pub(crate) fn read_flag(table: &TableRef<'_>, slot: u16) -> Result<bool, Fault>
 fn read_int(table: &TableRef<'_>, fault: Fault) -> Result<IndexType, Fault>
     ensures { result ≡ int_at fault table.now }
 {
-    let width = lifted(table.scalar_i32(0, 0))?;
+    let width = map_fault(table.scalar_i32(0, 0))?;
     let Some(bits) = bits_of(width) else {
         return Err(fault);
     };
@@ -97,18 +97,18 @@ fn date_of(unit: i16) -> Result<DataType, Fault>
 fn read_date(table: &TableRef<'_>) -> Result<DataType, Fault>
     ensures { result ≡ type_of 8 table.now }
 {
-    date_of(lifted(table.scalar_i16(0, 1))?)
+    date_of(map_fault(table.scalar_i16(0, 1))?)
 }
 
 // A Time table (Schema.fbs): 0 unit, 1 bitWidth. A width that isn't the unit's is `BadType`.
 fn read_time(table: &TableRef<'_>) -> Result<DataType, Fault>
     ensures { result ≡ time_at table.now }
 {
-    let unit = lifted(table.scalar_i16(0, 1))?;
+    let unit = map_fault(table.scalar_i16(0, 1))?;
     let Some(unit) = unit_of(unit) else {
         return Err(Fault::BadType);
     };
-    let width = lifted(table.scalar_i32(1, 32))?;
+    let width = map_fault(table.scalar_i32(1, 32))?;
     if width != i32::from(unit.time_bits().width()) {
         return Err(Fault::BadType);
     }
@@ -119,7 +119,7 @@ fn read_time(table: &TableRef<'_>) -> Result<DataType, Fault>
 fn read_duration(table: &TableRef<'_>) -> Result<DataType, Fault>
     ensures { result ≡ duration_at table.now }
 {
-    let code = lifted(table.scalar_i16(0, 1))?;
+    let code = map_fault(table.scalar_i16(0, 1))?;
     match unit_of(code) {
         None => Err(Fault::BadType),
         Some(unit) => Ok(DataType::Duration(unit)),
@@ -130,11 +130,11 @@ fn read_duration(table: &TableRef<'_>) -> Result<DataType, Fault>
 fn read_timestamp(alloc: Global, table: &TableRef<'_>) -> Result<DataType, Fault>
     ensures { AnswersUnlessOutOfMemory (λ κ. κ) result (timestamp_at table.now) }
 {
-    let unit = lifted(table.scalar_i16(0, 0))?;
+    let unit = map_fault(table.scalar_i16(0, 0))?;
     let Some(unit) = unit_of(unit) else {
         return Err(Fault::BadType);
     };
-    let timezone = match lifted(table.text(1))? {
+    let timezone = match map_fault(table.text(1))? {
         None => None,
         Some(zone) => Some(Text::copied(alloc, zone)?),
     };
@@ -160,8 +160,8 @@ fn type_of(alloc: Global, code: u8, table: &TableRef<'_>) -> Result<DataType, Fa
         10 => read_timestamp(alloc, table),
         12 => Ok(DataType::List),
         13 => Ok(DataType::Struct),
-        15 => fixed_of(lifted(table.scalar_i32(0, 0))?),
-        16 => fixed_list_of(lifted(table.scalar_i32(0, 0))?),
+        15 => fixed_of(map_fault(table.scalar_i32(0, 0))?),
+        16 => fixed_list_of(map_fault(table.scalar_i32(0, 0))?),
         18 => read_duration(table),
         _ => Err(Fault::UnsupportedType(code)),
     }
@@ -172,7 +172,7 @@ fn type_of(alloc: Global, code: u8, table: &TableRef<'_>) -> Result<DataType, Fa
 fn read_code(field: &TableRef<'_>) -> Result<u8, Fault>
     ensures { result ≡ code_at field.now }
 {
-    lifted(field.scalar_u8(2, 0))
+    map_fault(field.scalar_u8(2, 0))
 }
 
 // Whether `type_of` reads types with this code (Schema.fbs, union Type).
@@ -196,7 +196,7 @@ fn read_type(alloc: Global, field: &TableRef<'_>) -> Result<DataType, Fault>
     if !is_type_code(code) {
         return Err(Fault::UnsupportedType(code));
     }
-    match lifted(field.table(3))? {
+    match map_fault(field.table(3))? {
         None => Err(Fault::BadType),
         Some(table) => type_of(alloc, code, &table),
     }
@@ -234,7 +234,7 @@ pub(crate) fn read_counted_type(
 fn read_index(encoding: &TableRef<'_>) -> Result<IndexType, Fault>
     ensures { result ≡ index_at encoding.now }
 {
-    match lifted(encoding.table(1))? {
+    match map_fault(encoding.table(1))? {
         None => Ok(IndexType {
             bits: IntBits::B32,
             signed: true,
@@ -247,7 +247,7 @@ fn read_index(encoding: &TableRef<'_>) -> Result<IndexType, Fault>
 fn read_encoding(table: &TableRef<'_>) -> Result<Dictionary, Fault>
     ensures { map_ok Some result ≡ dictionary_in (Some table.now) }
 {
-    let id = lifted(table.scalar_i64(0, 0))?;
+    let id = map_fault(table.scalar_i64(0, 0))?;
     let index = read_index(table)?;
     let ordered = read_flag(table, 2)?;
     Ok(Dictionary { id, index, ordered })
@@ -258,7 +258,7 @@ fn read_encoding(table: &TableRef<'_>) -> Result<Dictionary, Fault>
 pub(crate) fn read_dictionary(field: &TableRef<'_>) -> Result<Option<Dictionary>, Fault>
     ensures { result ≡ dictionary_at field.now }
 {
-    match lifted(field.table(4))? {
+    match map_fault(field.table(4))? {
         None => Ok(None),
         Some(table) => Ok(Some(read_encoding(&table)?)),
     }

@@ -19,7 +19,7 @@ use ipc_model::{Items, Limits, Schema, Text, WriteFault};
 use std::alloc::Global;
 
 // The bytes of a message's metadata.
-fn built(alloc: Global, limits: &Limits, tree: &FlatTree) -> Result<Vec<u8>, WriteFault>
+fn finished_metadata(alloc: Global, limits: &Limits, tree: &FlatTree) -> Result<Vec<u8>, WriteFault>
     requires { Ascends (fields 0) (view tree.now) }
     ensures lies { IfOk result (λ b. (rest : List ℕ) → Encodes (b.items ++ rest) (view tree.now)) }
     ensures aligned { IfOk result (λ b. Aligned b.items (view tree.now)) }
@@ -73,7 +73,7 @@ pub fn write_schema(alloc: Global, limits: &Limits, schema: &Schema) -> Result<V
         ⊎ ((f ≡ WriteFault.TooLong) × (limits.now.metadata < schema_room schema.now))) }
 {
     let message = schema_message(alloc, schema)?;
-    built(alloc, limits, &message)
+    finished_metadata(alloc, limits, &message)
 }
 
 // Checks that the body of a batch, which has `body` bytes, and its message's pairs are within the
@@ -126,7 +126,7 @@ pub fn write_batch(
 {
     check_batch(limits, pairs.as_slice(), body)?;
     let message = batch_message(alloc, head, pairs, body)?;
-    built(alloc, limits, &message)
+    finished_metadata(alloc, limits, &message)
 }
 
 /// Returns the size bound, in bytes, of the metadata of a dictionary batch's message (Message.fbs,
@@ -173,5 +173,5 @@ pub fn write_dictionary(
         return Err(WriteFault::TooLong);
     }
     let message = dictionary_message(alloc, id, head, body)?;
-    built(alloc, limits, &message)
+    finished_metadata(alloc, limits, &message)
 }

@@ -3,7 +3,7 @@ use Rattle.std.proofs.Common.{◌≡◌, refl, sym, subst, ℕ, ◌+◌, ◌≤�
 use Rattle.std.proofs.Common.{Option, Some, None, arith}
 use Rattle.std.specs.Prelude.{nat_le, if◌then◌else◌}
 use Rattle.std.proofs.lemmas.Bool.{false≢true}
-use Rattle.ipc_model.specs.FirstFault.{rank, number_of}
+use Rattle.ipc_model.specs.FirstFault.{rank, entry_number}
 use Rattle.ipc_model.specs.SchemaFaults.{Before, after, fault_at, has_good_type, has_fitting_children, has_leaf_dictionary}
 use Rattle.ipc_model.specs.SchemaFaults.{is_little_text, has_conflict}
 use Rattle.ipc_model.specs.Entries.{Entry}
@@ -37,7 +37,7 @@ chain type children fields depth text conflict nested n =
 
 -- a fault has the number, its test fails, and none that is returned before it does
 pub record Told (test : SchemaFault → Bool) (n : ℕ) (x : SchemaFault) : Type 0 where
-  pub number : number_of x ≡ n
+  pub number : entry_number x ≡ n
   pub fails : test x ≡ false
   pub least : (y : SchemaFault) → test y ≡ false → rank x ≤ rank y
 

@@ -6,7 +6,7 @@ use Rattle.std.proofs.lemmas.Bool.{cases_lt, cases_order, false≢true}
 use Rattle.std.proofs.lemmas.Bool.Decides.{nat_tests}
 use Rattle.std.proofs.lemmas.List.Sums.{sum_by-append, sum_by-cons}
 use Rattle.std.proofs.lemmas.Option.{slice_get_past}
-use Rattle.ipc_model.specs.FirstFault.{HasMuchText, HasConflict, Breaks, BreaksAt, rank, number_of, IsFirstAt, IsFirstFault}
+use Rattle.ipc_model.specs.FirstFault.{HasMuchText, HasConflict, BreaksRule, BreaksAt, rank, entry_number, IsFirstAt, IsFirstFault}
 use Rattle.ipc_model.specs.WellFormed.{IsAmong}
 use Rattle.ipc_model.specs.SchemaFaults.{Before, after, scan, unless_at, fault_at, has_good_type, has_fitting_children, has_leaf_dictionary}
 use Rattle.ipc_model.specs.SchemaFaults.{is_little_text, has_conflict, agrees, same_type, at_start, done, verdict_on}
@@ -133,7 +133,7 @@ conflict_both s earlier b e so = (
         (ap b.kinds (sym same) ∙ so.kept h.0 h.1.0 d is_d)))
 
 broken_both : (limits : Limits) (s : Schema) (earlier : List Entry) (b : Before) (e : Entry) → SoFar s earlier b → (y : SchemaFault)
-    → (test_at limits b e y ≡ false) ↔ Breaks limits s earlier e y
+    → (test_at limits b e y ≡ false) ↔ BreaksRule limits s earlier e y
 broken_both limits s earlier b e so (f.BadType m) = not_both (has_good_type e.kind) (good_both e.kind)
 broken_both limits s earlier b e so (f.BadChildren m) = not_both (has_fitting_children e.kind e.children) (fitting_both e.kind e.children)
 broken_both limits s earlier b e so (f.TooManyFields m) = (
@@ -180,7 +180,8 @@ module _ (limits : Limits) (s : Schema) (k : ℕ) (e : Entry) (rest : List Entry
   here_breaks : (y : SchemaFault) → BreaksAt limits s k y → test_at limits b e y ≡ false
   here_breaks y h =
       let same : h.0 ≡ e = cc (head.here, h.1.0) in
-      (broken_both limits s (take k (entries s.fields)) b e so y).1 (subst (λ (x : Entry). Breaks limits s (take k (entries s.fields)) x y)
+      (broken_both limits s (take k (entries s.fields)) b e so y).1 (subst (λ (x : Entry).
+      BreaksRule limits s (take k (entries s.fields)) x y)
       same h.1.1)
 
   first_here : (x : SchemaFault) → AreClean limits s k → fault_at limits b e ≡ Some x → IsFirstAt limits s k x
@@ -279,7 +280,7 @@ first_from_verdict {limits} s x h = by_start (is_little_text limits (at_start s.
 
 -- ---- and back
 
-rank_one : (x y : SchemaFault) → number_of x ≡ number_of y → rank x ≡ rank y → x ≡ y
+rank_one : (x y : SchemaFault) → entry_number x ≡ entry_number y → rank x ≡ rank y → x ≡ y
 rank_one (f.BadType m) (f.BadType n) e r = ap f.BadType e
 rank_one (f.BadChildren m) (f.BadChildren n) e r = ap f.BadChildren e
 rank_one (f.TooManyFields m) (f.TooManyFields n) e r = ap f.TooManyFields e

@@ -5,7 +5,8 @@ use Rattle.std.specs.Prelude.{◌↔◌, ◌==◌, IfErr, IsTrue, if◌then◌el
 use Rattle.std.proofs.lemmas.List.{length-map, map-append}
 use Rattle.std.proofs.lemmas.Bool.{false≢true}
 use Rattle.std.proofs.lemmas.Bool.Decides.{Decides-eqb}
-use Rattle.ipc_model.specs.RowFaults.{Judgement, judge_step, faults, below, here, own_fault, kind_fault, is_null_type, unless, inner_faults}
+use Rattle.ipc_model.specs.RowFaults.{Judgement, judge_step, faults, fault_from_parent, here, own_fault, kind_fault, is_null_type, unless}
+use Rattle.ipc_model.specs.RowFaults.{inner_faults}
 use Rattle.ipc_model.specs.RowFaults.{items_faults, each_faults, row_faults, verdict}
 use Rattle.ipc_model.specs.FirstRowFault.{Place, Placing, inside, items_places, each_places, inner_places, placing_step, places, row_places}
 use Rattle.ipc_model.specs.FirstRowFault.{IsOfVariant, IsOffRange, IsMisfit, IsMisfitAt, IsFirstMisfit, IsFirstRowFault}
@@ -167,23 +168,23 @@ told_append [] qs = refl
 told_append (p ∷ ps) qs = ap (λ (es : List RowFault). told_at (own p) p.path ++ es) (told_append ps qs)
     ∙ sym (append_assoc (told_at (own p) p.path) (all_told ps) (all_told qs))
 
-told_below : (n : ℕ) (o : Option RowCause) (path : List ℕ) → told_at o (n ∷ path) ≡ map (below n) (told_at o path)
+told_below : (n : ℕ) (o : Option RowCause) (path : List ℕ) → told_at o (n ∷ path) ≡ map (fault_from_parent n) (told_at o path)
 told_below n None path = refl
 told_below n (Some x) path = refl
 
-told_inside : (n : ℕ) (ps : List Place) → all_told (map (inside n) ps) ≡ map (below n) (all_told ps)
+told_inside : (n : ℕ) (ps : List Place) → all_told (map (inside n) ps) ≡ map (fault_from_parent n) (all_told ps)
 told_inside n [] = refl
 told_inside n (p ∷ ps) =
     ap (λ (es : List RowFault). told_at (own p) (n ∷ p.path) ++ es) (told_inside n ps)
-    ∙ ap (λ (es : List RowFault). es ++ map (below n) (all_told ps)) (told_below n (own p) p.path)
-    ∙ sym (map-append (below n) (told_at (own p) p.path) (all_told ps))
+    ∙ ap (λ (es : List RowFault). es ++ map (fault_from_parent n) (all_told ps)) (told_below n (own p) p.path)
+    ∙ sym (map-append (fault_from_parent n) (told_at (own p) p.path) (all_told ps))
 
 -- the values inside come after it
 told_both : (n : ℕ) (ps qs : List Place) (es fs : List RowFault) → all_told ps ≡ es → all_told qs ≡ fs
-    → all_told (map (inside n) ps ++ qs) ≡ map (below n) es ++ fs
+    → all_told (map (inside n) ps ++ qs) ≡ map (fault_from_parent n) es ++ fs
 told_both n ps qs es fs one more = told_append (map (inside n) ps) qs
-    ∙ ap (λ (xs : List RowFault). xs ++ all_told qs) (told_inside n ps ∙ ap (λ (xs : List RowFault). map (below n) xs) one)
-    ∙ ap (λ (xs : List RowFault). map (below n) es ++ xs) more
+    ∙ ap (λ (xs : List RowFault). xs ++ all_told qs) (told_inside n ps ∙ ap (λ (xs : List RowFault). map (fault_from_parent n) xs) one)
+    ∙ ap (λ (xs : List RowFault). map (fault_from_parent n) es ++ xs) more
 
 -- ---- a value's faults are those of its places
 

@@ -2,8 +2,8 @@
 use Rattle.std.proofs.Common.{ℕ, List, [], ◌∷◌, arith}
 use Rattle.std.specs.List.{AllByRecursion}
 use Rattle.ipc_model.specs.Entries.{Entry, entries, AllowPairs}
-use Rattle.ipc_model.specs.Greatest.{greatest_metadata, greatest_body, greatest_slots, greatest_fields, greatest_depth, greatest_text}
-use Rattle.ipc_model.specs.Greatest.{greatest_pairs}
+use Rattle.ipc_model.specs.MaxLimits.{max_metadata, max_body, max_slots, max_fields, max_depth, max_text}
+use Rattle.ipc_model.specs.MaxLimits.{max_pairs}
 use Rattle.ipc_model.specs.Limits.{Covers}
 use Rattle.ipc_model.specs.WellFormed.{IsFieldWellFormed, WellFormed}
 use Rattle.ipc_model.specs.declared.schema.Schema.{Schema}
@@ -12,13 +12,13 @@ use Rattle.ipc_model.specs.declared.limits.Limits.{Limits}
 -- the limits that allow most
 pub greatest : Limits
 greatest = record {
-  metadata = greatest_metadata;
-  body = greatest_body;
-  slots = greatest_slots;
-  fields = greatest_fields;
-  depth = greatest_depth;
-  text = greatest_text;
-  pairs = greatest_pairs;
+  metadata = max_metadata;
+  body = max_body;
+  slots = max_slots;
+  fields = max_fields;
+  depth = max_depth;
+  text = max_text;
+  pairs = max_pairs;
   metadata_fits = omega arith;
   body_fits = omega arith;
   slots_fit = omega arith;

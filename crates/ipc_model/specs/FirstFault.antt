@@ -20,21 +20,21 @@ abbrev pub HasConflict : List Entry → Entry → Type 0
 HasConflict earlier e = (a : Entry) × (IsAmong a earlier × ¬ HaveOneType a e)
 
 -- an entry that follows these earlier ones breaks the rule that the fault names
-abbrev pub Breaks : Limits → Schema → List Entry → Entry → SchemaFault → Type 0
-Breaks limits s earlier e (f.BadType number) = ¬ HasGoodType e.kind
-Breaks limits s earlier e (f.BadChildren number) = ¬ HasFittingChildren e.kind e.children
-Breaks limits s earlier e (f.TooManyFields number) = limits.fields < length earlier + 1
-Breaks limits s earlier e (f.TooDeep number) = limits.depth < e.depth
-Breaks limits s earlier e (f.TooMuchText number) = HasMuchText limits s (earlier ++ e ∷ [])
-Breaks limits s earlier e (f.DictionaryConflict number) = HasConflict earlier e
-Breaks limits s earlier e (f.NestedDictionary number) = ¬ (IsSome e.dictionary → IsLeaf e.kind)
-Breaks limits s earlier e f.OutOfMemory = ⊥
+abbrev pub BreaksRule : Limits → Schema → List Entry → Entry → SchemaFault → Type 0
+BreaksRule limits s earlier e (f.BadType number) = ¬ HasGoodType e.kind
+BreaksRule limits s earlier e (f.BadChildren number) = ¬ HasFittingChildren e.kind e.children
+BreaksRule limits s earlier e (f.TooManyFields number) = limits.fields < length earlier + 1
+BreaksRule limits s earlier e (f.TooDeep number) = limits.depth < e.depth
+BreaksRule limits s earlier e (f.TooMuchText number) = HasMuchText limits s (earlier ++ e ∷ [])
+BreaksRule limits s earlier e (f.DictionaryConflict number) = HasConflict earlier e
+BreaksRule limits s earlier e (f.NestedDictionary number) = ¬ (IsSome e.dictionary → IsLeaf e.kind)
+BreaksRule limits s earlier e f.OutOfMemory = ⊥
 
 -- the entry at index k breaks the rule that the fault names
 abbrev pub BreaksAt : Limits → Schema → ℕ → SchemaFault → Type 0
 BreaksAt limits s k fault = (e : Entry)
     × ((slice_get (entries s.fields) k ≡ Some e)
-    × Breaks limits s (take k (entries s.fields)) e fault)
+    × BreaksRule limits s (take k (entries s.fields)) e fault)
 
 -- the rank of a fault: of several faults of one entry, the one of lowest rank is returned
 abbrev pub rank : SchemaFault → ℕ
@@ -48,21 +48,21 @@ rank (f.NestedDictionary number) = 7
 rank f.OutOfMemory = 8
 
 -- the number of the entry that a fault names, counted from 1
-abbrev pub number_of : SchemaFault → ℕ
-number_of (f.BadType number) = number
-number_of (f.BadChildren number) = number
-number_of (f.TooManyFields number) = number
-number_of (f.TooDeep number) = number
-number_of (f.TooMuchText number) = number
-number_of (f.DictionaryConflict number) = number
-number_of (f.NestedDictionary number) = number
-number_of f.OutOfMemory = 0
+abbrev pub entry_number : SchemaFault → ℕ
+entry_number (f.BadType number) = number
+entry_number (f.BadChildren number) = number
+entry_number (f.TooManyFields number) = number
+entry_number (f.TooDeep number) = number
+entry_number (f.TooMuchText number) = number
+entry_number (f.DictionaryConflict number) = number
+entry_number (f.NestedDictionary number) = number
+entry_number f.OutOfMemory = 0
 
 -- the entry at index k has this fault, and none of lower rank; no earlier entry has a fault
 pub record IsFirstAt (limits : Limits) (s : Schema) (k : ℕ) (fault : SchemaFault) : Type 0 where
-  pub number : number_of fault ≡ k + 1
+  pub number : entry_number fault ≡ k + 1
   pub broken : BreaksAt limits s k fault
-  pub told_first : (other : SchemaFault) → BreaksAt limits s k other → rank fault ≤ rank other
+  pub IsReportedFirst : (other : SchemaFault) → BreaksAt limits s k other → rank fault ≤ rank other
   pub none_before : (j : ℕ) → j < k → (other : SchemaFault) → ¬ BreaksAt limits s j other
 
 -- the first fault of a schema: of its own pairs, which are counted before its entries and have the

@@ -85,16 +85,16 @@ is_texts (l.Indices bits signed id) = false
 
 -- each valid slot needs a check of its own: a text has to be UTF-8, and an index has to be that of
 -- a value in its dictionary
-abbrev pub is_judged : Layout → Bool
-is_judged (l.VariableBytes utf8) = utf8
-is_judged (l.Indices bits signed id) = true
-is_judged l.Null = false
-is_judged l.Bits = false
-is_judged (l.Numbers bits signed) = false
-is_judged (l.FixedBytes width) = false
-is_judged l.Lists = false
-is_judged (l.FixedLists size) = false
-is_judged l.Structs = false
+abbrev pub needs_slot_checks : Layout → Bool
+needs_slot_checks (l.VariableBytes utf8) = utf8
+needs_slot_checks (l.Indices bits signed id) = true
+needs_slot_checks l.Null = false
+needs_slot_checks l.Bits = false
+needs_slot_checks (l.Numbers bits signed) = false
+needs_slot_checks (l.FixedBytes width) = false
+needs_slot_checks l.Lists = false
+needs_slot_checks (l.FixedLists size) = false
+needs_slot_checks l.Structs = false
 
 -- each slot holds a signed number of 64 bits
 abbrev pub is_signed_64 : Layout → Bool

@@ -1,8 +1,8 @@
 -- How much one stream, schema or batch may hold. Where no section of the standard is named, a
 -- limit is this project's.
 use Rattle.std.specs.Prelude.{◌≡◌, ℕ, ◌-◌, ◌^◌, ◌≤◌}
-use Rattle.ipc_model.specs.Greatest.{greatest_metadata, greatest_body, greatest_slots}
-use Rattle.ipc_model.specs.Greatest.{greatest_fields, greatest_depth, greatest_text, greatest_pairs}
+use Rattle.ipc_model.specs.MaxLimits.{max_metadata, max_body, max_slots}
+use Rattle.ipc_model.specs.MaxLimits.{max_fields, max_depth, max_text, max_pairs}
 use Rattle.ipc_model.specs.declared.limits.Limits.{Limits}
 
 -- the most bytes that 32-bit offsets can address, whatever the limits (Arrow Columnar Format,
@@ -31,7 +31,7 @@ pub record Covers (limits others : Limits) : Type 0 where
   pub pairs : others.pairs ≤ limits.pairs
 
 -- the limits have these values, in this order
-pub record HaveValues (limits : Limits) (metadata body slots fields depth text
+pub record HaveLimitValues (limits : Limits) (metadata body slots fields depth text
     pairs : ℕ) : Type 0 where
   pub metadata_is : limits.metadata ≡ metadata
   pub body_is : limits.body ≡ body
@@ -43,10 +43,10 @@ pub record HaveValues (limits : Limits) (metadata body slots fields depth text
 
 -- limits may have these values: each is at most its greatest value
 pub record AreAllowed (metadata body slots fields depth text pairs : ℕ) : Type 0 where
-  pub metadata_fits : metadata ≤ greatest_metadata
-  pub body_fits : body ≤ greatest_body
-  pub slots_fit : slots ≤ greatest_slots
-  pub fields_fit : fields ≤ greatest_fields
-  pub depth_fits : depth ≤ greatest_depth
-  pub text_fits : text ≤ greatest_text
-  pub pairs_fit : pairs ≤ greatest_pairs
+  pub metadata_fits : metadata ≤ max_metadata
+  pub body_fits : body ≤ max_body
+  pub slots_fit : slots ≤ max_slots
+  pub fields_fit : fields ≤ max_fields
+  pub depth_fits : depth ≤ max_depth
+  pub text_fits : text ≤ max_text
+  pub pairs_fit : pairs ≤ max_pairs

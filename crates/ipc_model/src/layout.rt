@@ -1,7 +1,7 @@
 //! The layouts of types: which buffers each needs, and how wide numbers are.
 ghost use Rattle.std.specs.Prelude.{◌≡◌};
 ghost use Rattle.ipc_model.specs.Layouts.{type_layout, layout, own_buffers, has_validity};
-ghost use Rattle.ipc_model.specs.Layouts.{is_judged, is_signed_64, is_texts, number_bytes};
+ghost use Rattle.ipc_model.specs.Layouts.{needs_slot_checks, is_signed_64, is_texts, number_bytes};
 ghost use Rattle.ipc_model.specs.Layouts.{time_bits};
 ghost use Rattle.ipc_model.specs.Ranges.{width};
 
@@ -141,8 +141,8 @@ impl Layout {
 
     /// Returns whether each visible slot must be validated by itself: a text must be UTF-8, and an
     /// index must be that of a value in its dictionary.
-    pub fn is_judged(self) -> bool
-        ensures { result ≡ is_judged self }
+    pub fn needs_slot_checks(self) -> bool
+        ensures { result ≡ needs_slot_checks self }
     {
         match self {
             Layout::VariableBytes { utf8 } => utf8,

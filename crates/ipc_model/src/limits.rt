@@ -1,8 +1,8 @@
 //! Limits on what one stream, schema or batch may hold.
 ghost use Rattle.std.specs.Prelude.{◌≤◌, ◌^◌, ◌-◌};
-ghost use Rattle.ipc_model.specs.Greatest.{greatest_metadata, greatest_body, greatest_slots};
-ghost use Rattle.ipc_model.specs.Greatest.{greatest_fields, greatest_depth, greatest_text};
-ghost use Rattle.ipc_model.specs.Greatest.{greatest_pairs};
+ghost use Rattle.ipc_model.specs.MaxLimits.{max_metadata, max_body, max_slots};
+ghost use Rattle.ipc_model.specs.MaxLimits.{max_fields, max_depth, max_text};
+ghost use Rattle.ipc_model.specs.MaxLimits.{max_pairs};
 
 use crate::check::pair_text;
 use ipc_items::Text;
@@ -12,19 +12,19 @@ use ipc_items::Text;
 pub const MAX_DATA: u64 = 0x7fff_ffff;
 
 // The greatest values of the limits.
-const GREATEST_METADATA: u64 = 1 << 28;
+const MAX_METADATA: u64 = 1 << 28;
 
-const GREATEST_BODY: u64 = 1 << 42;
+const MAX_BODY: u64 = 1 << 42;
 
-const GREATEST_SLOTS: u64 = 0x7fff_ffff;
+const MAX_SLOTS: u64 = 0x7fff_ffff;
 
-const GREATEST_FIELDS: u64 = 1 << 20;
+const MAX_FIELDS: u64 = 1 << 20;
 
-pub(crate) const GREATEST_DEPTH: u64 = 64;
+pub(crate) const MAX_DEPTH: u64 = 64;
 
-const GREATEST_TEXT: u64 = 1 << 30;
+const MAX_TEXT: u64 = 1 << 30;
 
-const GREATEST_PAIRS: u64 = 1 << 24;
+const MAX_PAIRS: u64 = 1 << 24;
 
 /// Limits on what one stream, schema or batch may hold, for what a reader accepts and what a writer
 /// makes. Each value is at most its maximum, which is part of the type.
@@ -51,18 +51,18 @@ pub struct Limits {
     /// The maximum number of pairs of key and value of a schema and its fields together, and of one
     /// batch: at most 2^24.
     pub pairs: u64,
-    pub ghost metadata_fits: { metadata ≤ greatest_metadata },
-    pub ghost body_fits: { body ≤ greatest_body },
-    pub ghost slots_fit: { slots ≤ greatest_slots },
-    pub ghost fields_fit: { fields ≤ greatest_fields },
-    pub ghost depth_fits: { depth ≤ greatest_depth },
-    pub ghost text_fits: { text ≤ greatest_text },
-    pub ghost pairs_fit: { pairs ≤ greatest_pairs },
+    pub ghost metadata_fits: { metadata ≤ max_metadata },
+    pub ghost body_fits: { body ≤ max_body },
+    pub ghost slots_fit: { slots ≤ max_slots },
+    pub ghost fields_fit: { fields ≤ max_fields },
+    pub ghost depth_fits: { depth ≤ max_depth },
+    pub ghost text_fits: { text ≤ max_text },
+    pub ghost pairs_fit: { pairs ≤ max_pairs },
 }
 
 impl Limits {
     ghost use Rattle.std.specs.Prelude.{◌↔◌, IsTrue, IsSome, IfSome};
-    ghost use Rattle.ipc_model.specs.Limits.{IsStandard, Covers, HaveValues, AreAllowed};
+    ghost use Rattle.ipc_model.specs.Limits.{IsStandard, Covers, HaveLimitValues, AreAllowed};
     ghost use Rattle.ipc_model.specs.Entries.{AllowPairs};
 
     /// Returns limits that fit what is written in practice: metadata of 2^24 bytes, bodies of 2^40
@@ -92,7 +92,7 @@ impl Limits {
         pairs: u64,
     ) -> Option<Limits>
         ensures values { IfSome result
-            (λ limits. HaveValues limits metadata body slots fields depth text pairs) }
+            (λ limits. HaveLimitValues limits metadata body slots fields depth text pairs) }
         ensures some { IsSome result ↔ AreAllowed metadata body slots fields depth text pairs }
     {
         if !Limits::are_allowed(metadata, body, slots, fields, depth, text, pairs) {
@@ -121,13 +121,13 @@ impl Limits {
     ) -> bool
         ensures { IsTrue result ↔ AreAllowed metadata body slots fields depth text pairs }
     {
-        metadata <= GREATEST_METADATA
-            && body <= GREATEST_BODY
-            && slots <= GREATEST_SLOTS
-            && fields <= GREATEST_FIELDS
-            && depth <= GREATEST_DEPTH
-            && text <= GREATEST_TEXT
-            && pairs <= GREATEST_PAIRS
+        metadata <= MAX_METADATA
+            && body <= MAX_BODY
+            && slots <= MAX_SLOTS
+            && fields <= MAX_FIELDS
+            && depth <= MAX_DEPTH
+            && text <= MAX_TEXT
+            && pairs <= MAX_PAIRS
     }
 
     /// Returns whether no value is below the corresponding value of `others`. Then all that is

@@ -7,7 +7,7 @@ use crate::lanes::Lanes;
 use std::simd::prelude::*;
 
 // The bytes, which are fewer than 64, followed by zeros.
-fn filled(rest: &[u8]) -> [u8; 64]
+fn pad_block(rest: &[u8]) -> [u8; 64]
     requires { length rest.now < 64 }
     ensures { result ≡ rest.now ++ replicate (64 - length rest.now) 0 }
 {
@@ -25,7 +25,7 @@ fn are_at_most<L: Lanes>(bytes: &[u8], most: u64) -> bool
         → num bytes.now (L.width * i) L.width ≤ most) }
 {
     let (blocks, rest) = bytes.as_chunks::<64>();
-    let mut top = L::of(&filled(rest));
+    let mut top = L::of(&pad_block(rest));
     for block in blocks {
         top = top.larger(L::of(block));
     }

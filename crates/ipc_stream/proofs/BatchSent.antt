@@ -18,33 +18,33 @@ use Rattle.ipc_column.specs.Shapes.{shape_of}
 use Rattle.ipc_encode.specs.declared.parts.Parts.{Parts}
 use Rattle.ipc_encode.specs.declared.segments.SegmentedParts.{SegmentedParts}
 use Rattle.ipc_encode.specs.Segments.{AreSegmented}
-use Rattle.ipc_encode.specs.Buffers.{AreLaidOut, columns, row_buffers_with}
-use Rattle.ipc_encode.specs.CountedColumns.{as_rows}
+use Rattle.ipc_encode.specs.Buffers.{AreLaidOut, row_columns, row_buffers_with}
+use Rattle.ipc_encode.specs.ColumnSizes.{as_rows}
 use Rattle.ipc_encode.specs.Indices.{FindsRows}
 use Rattle.ipc_encode.specs.Numbers.{Numbering}
 use Rattle.ipc_encode.proofs.Cutting.{buffers_length, nodes_length}
 use Rattle.ipc_encode.proofs.Ranges.{ranges_length}
-use Rattle.ipc_dictionaries.specs.InForce.{at}
-use Rattle.ipc_dictionaries.specs.ValuesColumns.{columns_for, columns_in}
+use Rattle.ipc_dict_read.specs.InForce.{at}
+use Rattle.ipc_dict_read.specs.ValuesColumns.{columns_for, dictionary_columns}
 use Rattle.ipc_dict.specs.declared.entry.TallyEntry.{TallyEntry}
 use Rattle.ipc_dict.specs.declared.kept.KeptEntry.{KeptEntry}
-use Rattle.ipc_dict.specs.Distinct.{is_seen, seen, seen_all}
+use Rattle.ipc_dict.specs.Distinct.{is_among, with_distinct, with_all_distinct}
 use Rattle.ipc_dict.specs.Noting.{AllFit, of_id}
 use Rattle.ipc_dict.specs.Pairs.{rows_pairs}
 use Rattle.ipc_dict.specs.Planning.{AllSettled, after_all, sends_of, sent_for}
-use Rattle.ipc_dict.specs.SchemaIds.{ids_of, kept_ids, tally_ids, unused}
-use Rattle.ipc_dict.specs.Sending.{AreCounted, batch_values, sent_after, tallied}
+use Rattle.ipc_dict.specs.SchemaIds.{ids_of, kept_ids, tally_ids, empty_entries}
+use Rattle.ipc_dict.specs.Sending.{AreCounted, batch_values, sent_after, tally_of_rows}
 use Rattle.ipc_dict.specs.Within.{AllShort, AllWithin, dictionary_room_of}
 use Rattle.ipc_dict.proofs.Ids.{same_ids}
 use Rattle.ipc_dict.proofs.PairsFit.{column_fine, column_leaf, pair_fits}
 use Rattle.ipc_dict.proofs.Sending.{counted_after, needed_is, sent_is, tallied_ids, tallied_unique, tallied_values}
-use Rattle.ipc_decode.specs.Stream.{InForce, IsMessage, Run, batch, values_in}
-use Rattle.ipc_decode.proofs.Runs.{run_one, run_then}
+use Rattle.ipc_stream_read.specs.Stream.{InForce, IsMessage, Run, batch, values_in}
+use Rattle.ipc_stream_read.proofs.Runs.{run_one, run_then}
 use Rattle.ipc_stream.specs.declared.message.Message.{Message}
-use Rattle.ipc_stream.specs.Dictionaries.{DictionaryMessages, IsInForce, SendsBatch, TellsBatches, sets_none, sets_more}
-use Rattle.ipc_stream.specs.Messages.{SetDictionaries, SetsDictionary, all_bytes, bytes_of}
+use Rattle.ipc_stream.specs.Dictionaries.{DictionaryMessages, IsInForce, SendsBatch, DenotesBatches, sets_none, sets_more}
+use Rattle.ipc_stream.specs.Messages.{SetDictionaries, SetsDictionary, all_bytes, message_bytes}
 use Rattle.ipc_stream.specs.OpenStreams.{CanBeSent}
-use Rattle.ipc_stream.specs.Parts.{TellsRows, head_of}
+use Rattle.ipc_stream.specs.Parts.{DenotesRows, batch_head}
 use Rattle.ipc_stream.proofs.InForce.{sent_run}
 
 -- ---- lists
@@ -56,9 +56,10 @@ all_item P (y ∷ xs) zero x inside is all = subst P (sym is) all.0
 all_item P (y ∷ xs) (suc i) x inside is all = all_item P xs i x (omega (arith, inside)) is all.1
 
 -- the bytes of messages and of one more
-pub bytes_end : (ms : List Message) (m : Message) → all_bytes (ms ++ m ∷ []) ≡ all_bytes ms ++ bytes_of m
-bytes_end [] m = append-nil (bytes_of m)
-bytes_end (x ∷ ms) m = ap (λ (z : List ℕ). bytes_of x ++ z) (bytes_end ms m) ∙ sym (append_assoc (bytes_of x) (all_bytes ms) (bytes_of m))
+pub bytes_end : (ms : List Message) (m : Message) → all_bytes (ms ++ m ∷ []) ≡ all_bytes ms ++ message_bytes m
+bytes_end [] m = append-nil (message_bytes m)
+bytes_end (x ∷ ms) m = ap (λ (z : List ℕ). message_bytes x ++ z) (bytes_end ms m)
+    ∙ sym (append_assoc (message_bytes x) (all_bytes ms) (message_bytes m))
 
 -- one dictionary's message more
 pub set_push : (limits : Limits) (s : Schema) (sends : List (ℤ × List (List Value))) (ms : List Message)
@@ -80,9 +81,9 @@ set_messages limits s (y ∷ sends) (m ∷ ms) h = sets_more h.0 (set_messages l
 -- ---- what can be sent
 
 -- the same of the same column
-pub sent_as : (limits : Limits) (s : Schema) (send : ℤ × List (List Value)) (can : CanBeSent limits s send) (columns : List Field)
-    → columns_for (columns_in s.fields) send.0 ≡ Some columns → columns ≡ can.columns
-sent_as limits s send can columns named = let same : Some columns ≡ Some can.columns = sym named ∙ can.named in cc
+pub sent_as : (limits : Limits) (s : Schema) (send : ℤ × List (List Value)) (can : CanBeSent limits s send) (row_columns : List Field)
+    → columns_for (dictionary_columns s.fields) send.0 ≡ Some row_columns → row_columns ≡ can.columns
+sent_as limits s send can row_columns named = let same : Some row_columns ≡ Some can.columns = sym named ∙ can.named in cc
 
 module _ (limits : Limits) (s : Schema) (rows : List (List Value)) (well : WellFormed limits s)
     (fit : AllByRecursion (RowFits s.fields) rows) where
@@ -105,9 +106,9 @@ module _ (limits : Limits) (s : Schema) (rows : List (List Value)) (well : WellF
       )
 
   seen_pairs : (id : ℤ) (xs vs : List Value) → AllByRecursion (HasPair id) xs → AllByRecursion (HasPair id) vs
-      → AllByRecursion (HasPair id) (seen_all xs vs)
+      → AllByRecursion (HasPair id) (with_all_distinct xs vs)
   seen_pairs id xs [] h k = h
-  seen_pairs id xs (v ∷ vs) h k = seen_pairs id (seen xs v) vs (by (is_seen xs v)) k.1
+  seen_pairs id xs (v ∷ vs) h k = seen_pairs id (with_distinct xs v) vs (by (is_among xs v)) k.1
     where
       last : (ys : List Value) → AllByRecursion (HasPair id) ys → AllByRecursion (HasPair id) (ys ++ v ∷ [])
       last [] h = (k.0, tt)
@@ -117,12 +118,12 @@ module _ (limits : Limits) (s : Schema) (rows : List (List Value)) (well : WellF
       by true = h
       by false = last xs h
 
-  values_fit : (id : ℤ) (columns : List Field) (vs : List Value) → columns_for (columns_in s.fields) id ≡ Some columns
-      → AllByRecursion (HasPair id) vs → AllByRecursion (RowFits columns) (as_rows vs)
-  values_fit id columns [] named h = tt
-  values_fit id columns (v ∷ vs) named h = (
-    pair_fits limits s rows id v columns well fit h.0 named,
-    values_fit id columns vs named h.1,
+  values_fit : (id : ℤ) (row_columns : List Field) (vs : List Value) → columns_for (dictionary_columns s.fields) id ≡ Some row_columns
+      → AllByRecursion (HasPair id) vs → AllByRecursion (RowFits row_columns) (as_rows vs)
+  values_fit id row_columns [] named h = tt
+  values_fit id row_columns (v ∷ vs) named h = (
+    pair_fits limits s rows id v row_columns well fit h.0 named,
+    values_fit id row_columns vs named h.1,
   )
 
   all_can : (es : List TallyEntry) (os : List (Option (List ℕ))) → AllByRecursion (λ e. e.values ≡ batch_values s.fields rows e.id) es
@@ -131,19 +132,19 @@ module _ (limits : Limits) (s : Schema) (rows : List (List Value)) (well : WellF
   all_can (e ∷ es) [] each within short = tt
   all_can (e ∷ es) (Some to ∷ os) each within short = all_can es os each.1 within.1 short.1
   all_can (e ∷ es) (None ∷ os) each within short =
-      let columns = within.0.0 in
+      let row_columns = within.0.0 in
       let named = within.0.1.0 in
-      let leaf = column_leaf limits s e.id columns well named in
-      let same : Some short.0.0 ≡ Some columns = sym short.0.1.0 ∙ named in
-      let one : short.0.0 ≡ columns = cc in
+      let leaf = column_leaf limits s e.id row_columns well named in
+      let same : Some short.0.0 ≡ Some row_columns = sym short.0.1.0 ∙ named in
+      let one : short.0.0 ≡ row_columns = cc in
       let pairs = seen_pairs e.id [] (of_id e.id (rows_pairs s.fields rows)) tt
       (of_id_pairs e.id (rows_pairs s.fields rows) (λ p there. there)) in (
         record {
-          columns = columns;
+          columns = row_columns;
           named = named;
           one = (leaf.0, leaf.1.0, leaf.1.1.0);
-          fine = column_fine limits s e.id columns well named;
-          fit = values_fit e.id columns e.values named (subst (AllByRecursion (HasPair e.id)) (sym each.0) pairs);
+          fine = column_fine limits s e.id row_columns well named;
+          fit = values_fit e.id row_columns e.values named (subst (AllByRecursion (HasPair e.id)) (sym each.0) pairs);
           within = within.0.1.1;
           short = subst (λ cs. dictionary_room_of cs ≤ limits.metadata) one short.0.1.1;
         },
@@ -151,9 +152,10 @@ module _ (limits : Limits) (s : Schema) (rows : List (List Value)) (well : WellF
       )
 
   -- each dictionary that a plan sends can be
-  pub plan_can : (os : List (Option (List ℕ))) → AllWithin limits s.fields (tallied s.fields rows)
-      → AllShort limits s.fields (tallied s.fields rows) → AllByRecursion (CanBeSent limits s) (sends_of (tallied s.fields rows) os)
-  plan_can os within short = all_can (tallied s.fields rows) os (tallied_values s.fields rows) within short
+  pub plan_can : (os : List (Option (List ℕ))) → AllWithin limits s.fields (tally_of_rows s.fields rows)
+      → AllShort limits s.fields (tally_of_rows s.fields rows) → AllByRecursion (CanBeSent limits s)
+      (sends_of (tally_of_rows s.fields rows) os)
+  plan_can os within short = all_can (tally_of_rows s.fields rows) os (tallied_values s.fields rows) within short
 
 -- what is short of the entries without values is short of those with some
 short_same : (limits : Limits) (fields : List Field) (es fs : List TallyEntry) → tally_ids es ≡ tally_ids fs → AllShort limits fields es
@@ -164,11 +166,12 @@ short_same limits fields (e ∷ es) [] same h = absurd cc
 short_same limits fields (e ∷ es) (f ∷ fs) same h =
     let id : e.id ≡ f.id = cc in
     let rest : tally_ids es ≡ tally_ids fs = cc in
-    ((h.0.0, (ap (columns_for (columns_in fields)) (sym id) ∙ h.0.1.0, h.0.1.1)), short_same limits fields es fs rest h.1)
+    ((h.0.0, (ap (columns_for (dictionary_columns fields)) (sym id) ∙ h.0.1.0, h.0.1.1)), short_same limits fields es fs rest h.1)
 
-pub short_tallied : (limits : Limits) (fields : List Field) (rows : List (List Value)) → AllShort limits fields (unused fields)
-    → AllShort limits fields (tallied fields rows)
-short_tallied limits fields rows h = short_same limits fields (unused fields) (tallied fields rows) (sym (tallied_ids fields rows)) h
+pub short_tallied : (limits : Limits) (fields : List Field) (rows : List (List Value)) → AllShort limits fields (empty_entries fields)
+    → AllShort limits fields (tally_of_rows fields rows)
+short_tallied limits fields rows h = short_same limits fields (empty_entries fields) (tally_of_rows fields rows)
+    (sym (tallied_ids fields rows)) h
 
 -- ---- all messages
 
@@ -176,16 +179,16 @@ module _ (limits : Limits) (s : Schema) (b : BatchRows) (kept : List KeptEntry) 
     (ms : List Message) (own : List ℕ) where
   -- what the indices find, where this is in force
   abbrev Tells : Type 0
-  Tells = (ds : Dictionaries) → FindsRows ds known s.fields b.rows → TellsRows limits ds s b own
+  Tells = (ds : Dictionaries) → FindsRows ds known s.fields b.rows → DenotesRows limits ds s b own
 
   -- the indices find their values in what is in force once the batch was sent
   abbrev pub FindsSent : Type 0
-  FindsSent = (ds : Dictionaries) → ((id : ℤ) → at ds id ≡ sent_for (after_all kept (tallied s.fields b.rows) os) id)
-      → AreCounted s.fields (after_all kept (tallied s.fields b.rows) os) → FindsRows ds known s.fields b.rows
+  FindsSent = (ds : Dictionaries) → ((id : ℤ) → at ds id ≡ sent_for (after_all kept (tally_of_rows s.fields b.rows) os) id)
+      → AreCounted s.fields (after_all kept (tally_of_rows s.fields b.rows) os) → FindsRows ds known s.fields b.rows
 
   -- the batch is told where its dictionaries are in force
   tells_own : AreCounted s.fields (sent_after s.fields b.rows kept) → kept_ids kept ≡ ids_of s.fields
-      → AllSettled kept (tallied s.fields b.rows) os → FindsSent → Tells → (o : InForce)
+      → AllSettled kept (tally_of_rows s.fields b.rows) os → FindsSent → Tells → (o : InForce)
       → IsInForce s (sent_after s.fields b.rows kept) o → IsMessage limits (Some o) own (batch b ∷ []) (Some o)
   tells_own counted ids settled finds tells o in_force =
       let after = sent_is s.fields b.rows kept os ids settled in
@@ -194,11 +197,11 @@ module _ (limits : Limits) (s : Schema) (b : BatchRows) (kept : List KeptEntry) 
       tells (values_in o.dictionaries) found o in_force.schema_is refl
 
   -- the messages of its dictionaries bring it there
-  sets_first : kept_ids kept ≡ ids_of s.fields → AllSettled kept (tallied s.fields b.rows) os
-      → SetDictionaries limits s (sends_of (tallied s.fields b.rows) os) ms → (o : InForce) → IsInForce s kept o
+  sets_first : kept_ids kept ≡ ids_of s.fields → AllSettled kept (tally_of_rows s.fields b.rows) os
+      → SetDictionaries limits s (sends_of (tally_of_rows s.fields b.rows) os) ms → (o : InForce) → IsInForce s kept o
       → (τ : InForce) × (IsInForce s (sent_after s.fields b.rows kept) τ × Run limits (Some o) (all_bytes ms) [] (Some τ))
   sets_first ids settled sets o in_force =
-      let entries = tallied s.fields b.rows in
+      let entries = tally_of_rows s.fields b.rows in
       let after = sent_is s.fields b.rows kept os ids settled in
       let first = sent_run limits s kept entries os ms o in_force.schema_is in_force.values_are
       (same_ids kept entries (ids ∙ sym (tallied_ids s.fields b.rows))) (tallied_unique s.fields b.rows) sets in (
@@ -215,7 +218,7 @@ module _ (limits : Limits) (s : Schema) (b : BatchRows) (kept : List KeptEntry) 
   both_told : ((o : InForce) → IsInForce s kept o
       → (τ : InForce) × (IsInForce s (sent_after s.fields b.rows kept) τ × Run limits (Some o) (all_bytes ms) [] (Some τ)))
       → ((o : InForce) → IsInForce s (sent_after s.fields b.rows kept) o
-      → IsMessage limits (Some o) own (batch b ∷ []) (Some o)) → TellsBatches limits s kept (b ∷ []) (all_bytes ms ++ own)
+      → IsMessage limits (Some o) own (batch b ∷ []) (Some o)) → DenotesBatches limits s kept (b ∷ []) (all_bytes ms ++ own)
   both_told sets tells o in_force =
       let first = sets o in_force in
       let τ = first.0 in
@@ -228,9 +231,9 @@ module _ (limits : Limits) (s : Schema) (b : BatchRows) (kept : List KeptEntry) 
       )
 
   -- the messages of a plan's dictionaries, and behind them one that tells the batch where they are in force
-  pub batch_sent : AllFit (tallied s.fields b.rows) → AreCounted s.fields kept → kept_ids kept ≡ ids_of s.fields
-      → AllSettled kept (tallied s.fields b.rows) os → FindsSent
-      → SetDictionaries limits s (sends_of (tallied s.fields b.rows) os) ms → Tells → SendsBatch limits s kept b (all_bytes ms ++ own)
+  pub batch_sent : AllFit (tally_of_rows s.fields b.rows) → AreCounted s.fields kept → kept_ids kept ≡ ids_of s.fields
+      → AllSettled kept (tally_of_rows s.fields b.rows) os → FindsSent
+      → SetDictionaries limits s (sends_of (tally_of_rows s.fields b.rows) os) ms → Tells → SendsBatch limits s kept b (all_bytes ms ++ own)
   batch_sent fit counted ids settled finds sets tells =
       let told = tells_own (counted_after s.fields b.rows kept fit counted) ids settled finds tells in
       record {
@@ -238,7 +241,7 @@ module _ (limits : Limits) (s : Schema) (b : BatchRows) (kept : List KeptEntry) 
         own = own;
         bytes = refl;
         set = subst (λ sends. DictionaryMessages limits s sends (all_bytes ms)) (needed_is s.fields b.rows kept os ids settled)
-            (set_messages limits s (sends_of (tallied s.fields b.rows) os) ms sets);
+            (set_messages limits s (sends_of (tally_of_rows s.fields b.rows) os) ms sets);
         told = told;
         in_turn = both_told (sets_first ids settled sets) told;
       }
@@ -247,18 +250,18 @@ module _ (limits : Limits) (s : Schema) (b : BatchRows) (kept : List KeptEntry) 
 
 -- parts that are laid out have a node and the buffers of each field
 pub laid_counts : (indices : Numbering) (fields : List Field) (rows : List (List Value)) (count : ℕ) (parts : Parts)
-    → AreLaidOut indices fields rows parts → HasCounts fields (head_of count parts)
+    → AreLaidOut indices fields rows parts → HasCounts fields (batch_head count parts)
 laid_counts indices fields rows count parts laid = record {
-  nodes = ap length laid.nodes ∙ nodes_length (shape_of fields) (columns rows);
+  nodes = ap length laid.nodes ∙ nodes_length (shape_of fields) (row_columns rows);
   buffers = ap length laid.buffers ∙ ranges_length (row_buffers_with indices fields rows) 0
-      ∙ buffers_length indices (shape_of fields) (columns rows);
+      ∙ buffers_length indices (shape_of fields) (row_columns rows);
 }
 
 -- so have parts whose body is a list of segments
 pub segmented_counts : (indices : Numbering) (fields : List Field) (rows : List (List Value)) (z : ℤ) (parts : SegmentedParts)
     → AreSegmented indices fields rows parts → HasCounts fields (record { length = z; nodes = parts.nodes; buffers = parts.buffers })
 segmented_counts indices fields rows z parts laid = record {
-  nodes = ap length laid.nodes ∙ nodes_length (shape_of fields) (columns rows);
+  nodes = ap length laid.nodes ∙ nodes_length (shape_of fields) (row_columns rows);
   buffers = ap length laid.buffers ∙ ranges_length (row_buffers_with indices fields rows) 0
-      ∙ buffers_length indices (shape_of fields) (columns rows);
+      ∙ buffers_length indices (shape_of fields) (row_columns rows);
 }

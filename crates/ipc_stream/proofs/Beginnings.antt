@@ -6,14 +6,14 @@ use Rattle.ipc_model.specs.declared.limits.Limits.{Limits}
 use Rattle.ipc_model.specs.declared.schema.Schema.{Schema}
 use Rattle.ipc_model.specs.declared.table.BatchRows.{BatchRows}
 use Rattle.ipc_model.specs.declared.table.Table.{Table}
-use Rattle.ipc_frame.specs.Frames.{eos}
+use Rattle.ipc_frame.specs.Frames.{end_of_stream}
 use Rattle.ipc_frame.proofs.OneFrame.{frame_one}
-use Rattle.ipc_decode.specs.declared.end.End.{End}
-use Rattle.ipc_decode.specs.declared.end.End.TheVariants.{Mark, Closed}
-use Rattle.ipc_decode.specs.Reasons.{Reads}
-use Rattle.ipc_decode.proofs.Reasons.{run_told}
-use Rattle.ipc_decode.specs.Stream.{State, Event, schema, batch, Step, Run, done, more, events_of, Denotes}
-use Rattle.ipc_decode.proofs.OneReading.{IsStop, at_eos, frame_stop, step_one}
+use Rattle.ipc_stream_read.specs.declared.end.End.{End}
+use Rattle.ipc_stream_read.specs.declared.end.End.TheVariants.{Mark, Closed}
+use Rattle.ipc_stream_read.specs.Reasons.{Reads}
+use Rattle.ipc_stream_read.proofs.Reasons.{run_told}
+use Rattle.ipc_stream_read.specs.Stream.{State, Event, schema, batch, Step, Run, done, more, events_of, Denotes}
+use Rattle.ipc_stream_read.proofs.OneReading.{IsStop, at_eos, frame_stop, step_one}
 
 -- of two runs of messages over the same bytes, one up to where a run may stop, the other tells the first events of it
 pub run_begins : {limits : Limits} → {σ τ υ : State} {x y : List ℕ} {es fs : List Event} (a b : List ℕ) → Run limits σ x es τ
@@ -74,9 +74,9 @@ pub holds_marked : {limits : Limits} → (x rest : List ℕ) (t : Table) → Den
 holds_marked x rest t d = record {
   state = d.2.0;
   whole = d.0;
-  rest = eos ++ rest;
+  rest = end_of_stream ++ rest;
   run = d.2.1;
-  joined = sym (append_assoc d.0 eos rest) ∙ ap (λ y. y ++ rest) (sym d.1);
+  joined = sym (append_assoc d.0 end_of_stream rest) ∙ ap (λ y. y ++ rest) (sym d.1);
   stop = at_eos rest;
 }
 
@@ -95,7 +95,7 @@ pub reads_of : {limits : Limits} → (x : List ℕ) (left : Option (List ℕ)) (
 reads_of x left t Mark d closed = record {
   state = d.2.0;
   whole = d.0;
-  rest = eos;
+  rest = end_of_stream;
   joined = d.1;
   run = d.2.1;
   ends = (refl, run_told d.2.1 (λ none. absurd (cc)));

@@ -10,14 +10,15 @@ use Rattle.ipc_dict.specs.declared.kept.KeptEntry.{KeptEntry}
 use Rattle.ipc_dict.specs.SchemaIds.{ids_of}
 use Rattle.ipc_dict.specs.Sending.{sent_after}
 use Rattle.ipc_dict.proofs.Sending.{sent_unsent}
-use Rattle.ipc_decode.specs.Stream.{Event, schema, batch, begun, Run, done, OpensStream}
-use Rattle.ipc_decode.proofs.Runs.{run_then}
+use Rattle.ipc_stream_read.specs.Stream.{Event, schema, batch, initial_state, Run, done, OpensStream}
+use Rattle.ipc_stream_read.proofs.Runs.{run_then}
 use Rattle.ipc_model.specs.declared.table.Table.{Table}
-use Rattle.ipc_stream.specs.Dictionaries.{IsInForce, SendsBatch, SendsBatches, SendsTable, TellsBatches, TellsTable, kept_after, none_sent}
+use Rattle.ipc_stream.specs.Dictionaries.{IsInForce, SendsBatch, SendsBatches, SendsTable, DenotesBatches, DenotesTable, kept_after}
+use Rattle.ipc_stream.specs.Dictionaries.{kept_at_start}
 use Rattle.ipc_stream.specs.Dictionaries.{sends_none, sends_more}
 
 -- behind the schema's message nothing is in force, and nothing was sent
-pub begun_in_force : (s : Schema) → IsInForce s (none_sent s) (begun s)
+pub begun_in_force : (s : Schema) → IsInForce s (kept_at_start s) (initial_state s)
 begun_in_force s = record {
   schema_is = refl;
   values_are = λ id. sym (sent_unsent (ids_of s.fields) id);
@@ -31,8 +32,8 @@ kept_then fields kept (b ∷ front) more = kept_then fields (sent_after fields b
 
 module _ (limits : Limits) (s : Schema) where
   -- messages that tell batches, and behind them some that tell others
-  tells_then : (kept : List KeptEntry) (front more : List BatchRows) (x y : List ℕ) → TellsBatches limits s kept front x
-      → TellsBatches limits s (kept_after s.fields kept front) more y → TellsBatches limits s kept (front ++ more) (x ++ y)
+  tells_then : (kept : List KeptEntry) (front more : List BatchRows) (x y : List ℕ) → DenotesBatches limits s kept front x
+      → DenotesBatches limits s (kept_after s.fields kept front) more y → DenotesBatches limits s kept (front ++ more) (x ++ y)
   tells_then kept front more x y first next = λ o force.
       let a = first o force in
       let b = next a.0 a.1.0 in (
@@ -46,7 +47,7 @@ module _ (limits : Limits) (s : Schema) where
 
   -- the messages of batches tell them
   pub batches_tell : (kept : List KeptEntry) (batches : List BatchRows) (x : List ℕ) → SendsBatches limits s kept batches x
-      → TellsBatches limits s kept batches x
+      → DenotesBatches limits s kept batches x
   batches_tell kept batches x sends_none = λ o force. (o, (force, done))
   batches_tell kept batches x (sends_more {b = b} {batches = rest} {x = u} {y = v} first next) =
       tells_then kept (b ∷ []) rest u v first.in_turn (batches_tell (sent_after s.fields b.rows kept) rest v next)
@@ -67,31 +68,31 @@ module _ (limits : Limits) (s : Schema) where
   -- the messages of a table with one batch more
   pub table_more : (batches : List BatchRows) (b : BatchRows) (x y : List ℕ)
       → SendsTable limits (record { schema = s; batches = batches }) x
-      → SendsBatch limits s (kept_after s.fields (none_sent s) batches) b y
+      → SendsBatch limits s (kept_after s.fields (kept_at_start s) batches) b y
       → SendsTable limits (record { schema = s; batches = batches ++ b ∷ [] }) (x ++ y)
   table_more batches b x y first next = record {
     front = first.front;
     rest = first.rest ++ y;
     bytes = ap (λ (z : List ℕ). z ++ y) first.bytes ∙ append_assoc first.front first.rest y;
     opens = first.opens;
-    sends = batches_more (none_sent s) batches b first.rest y first.sends next;
+    sends = batches_more (kept_at_start s) batches b first.rest y first.sends next;
   }
 
   -- the schema's message, and then those of a table's batches
-  pub table_sends : (batches : List BatchRows) (x y : List ℕ) → OpensStream limits s x → SendsBatches limits s (none_sent s) batches y
+  pub table_sends : (batches : List BatchRows) (x y : List ℕ) → OpensStream limits s x → SendsBatches limits s (kept_at_start s) batches y
       → SendsTable limits (record { schema = s; batches = batches }) (x ++ y)
   table_sends batches x y opens rest = record { front = x; rest = y; bytes = refl; opens = opens; sends = rest }
 
 -- the messages of a table tell it
-pub table_tells : (limits : Limits) (t : Table) (x : List ℕ) → SendsTable limits t x → TellsTable limits t x
+pub table_tells : (limits : Limits) (t : Table) (x : List ℕ) → SendsTable limits t x → DenotesTable limits t x
 table_tells limits t x sent =
     let s = t.schema in
-    let b = batches_tell limits s (none_sent s) t.batches sent.rest sent.sends (begun s) (begun_in_force s) in (
+    let b = batches_tell limits s (kept_at_start s) t.batches sent.rest sent.sends (initial_state s) (begun_in_force s) in (
       b.0,
       (
         b.1.0,
         subst (λ (z : List ℕ). Run limits None z (schema s ∷ map batch t.batches) (Some b.0)) (sym sent.bytes)
-            (run_then None (Some (begun s)) (Some b.0) sent.front sent.rest (schema s ∷ []) (map batch t.batches) sent.opens b.1.1),
+            (run_then None (Some (initial_state s)) (Some b.0) sent.front sent.rest (schema s ∷ []) (map batch t.batches) sent.opens b.1.1),
       ),
     )
 

@@ -9,19 +9,20 @@ use Rattle.ipc_model.specs.declared.limits.Limits.{Limits}
 use Rattle.ipc_model.specs.declared.schema.Schema.{Schema}
 use Rattle.ipc_model.specs.declared.table.BatchRows.{BatchRows}
 use Rattle.ipc_model.specs.declared.value.Value.{Value}
-use Rattle.ipc_encode.specs.Limits.{IsRefused, IsWithin}
-use Rattle.ipc_dict.specs.Noting.{IsFull}
-use Rattle.ipc_dict.specs.Sending.{tallied}
+use Rattle.ipc_encode.specs.Limits.{AreRowsRefused, IsWithin}
+use Rattle.ipc_dict.specs.Noting.{IsIndexOverflow}
+use Rattle.ipc_dict.specs.Sending.{tally_of_rows}
 use Rattle.ipc_dict.specs.Within.{IsOfLimits, IsOverLimit}
 use Rattle.ipc_stream.specs.Dictionaries.{AreDictionariesWithin}
 use Rattle.ipc_stream.specs.Parts.{AcceptsPairs, RefusesPairs}
-use Rattle.ipc_stream.specs.Pushed.{with_rows}
-use Rattle.ipc_stream.specs.Writing.{AcceptsBatch, Misfits, RefusesBatch, long_columns, long_metadata, long_values, many_slots, many_values}
+use Rattle.ipc_stream.specs.PendingBatches.{with_rows}
+use Rattle.ipc_stream.specs.Writing.{AcceptsBatch, AreMismatches, RefusesBatch, long_columns, long_metadata, long_values, many_slots}
+use Rattle.ipc_stream.specs.Writing.{many_values}
 use Rattle.ipc_stream.specs.Writing.{other_pairs}
 
 module _ (limits : Limits) (s : Schema) (b : BatchRows) where
   -- its columns are too long
-  pub lengths_refused : (fault : WriteFault) → IsRefused limits s.fields b.rows fault → RefusesBatch limits s b fault
+  pub lengths_refused : (fault : WriteFault) → AreRowsRefused limits s.fields b.rows fault → RefusesBatch limits s b fault
   lengths_refused w.TooLong h = long_columns h
   lengths_refused w.TooManyRows h = many_slots h
   lengths_refused w.OutOfMemory h = tt
@@ -44,28 +45,28 @@ module _ (limits : Limits) (s : Schema) (b : BatchRows) where
   pairs_refused w.Failed h = absurd h
 
   -- a row does not fit, or memory ran out
-  pub rows_refused : (fault : WriteFault) → (fault ≡ w.OutOfMemory) ⊎ Misfits s.fields b.rows fault → RefusesBatch limits s b fault
+  pub rows_refused : (fault : WriteFault) → (fault ≡ w.OutOfMemory) ⊎ AreMismatches s.fields b.rows fault → RefusesBatch limits s b fault
   rows_refused fault (inl e) = subst (λ (f : WriteFault). RefusesBatch limits s b f) (sym e) tt
   rows_refused fault (inr h) =
       subst (λ (f : WriteFault). RefusesBatch limits s b f) (sym h.told)
-      (subst (λ (f : WriteFault). Misfits s.fields b.rows f) h.told h)
+      (subst (λ (f : WriteFault). AreMismatches s.fields b.rows f) h.told h)
 
   -- the dictionaries have too many or too long values, or memory ran out
-  pub values_refused : (fault : WriteFault) → (fault ≡ w.DictionaryFull → IsFull (tallied s.fields b.rows))
-      → (IsOfLimits fault → IsOverLimit limits s.fields (tallied s.fields b.rows) fault)
+  pub values_refused : (fault : WriteFault) → (fault ≡ w.DictionaryFull → IsIndexOverflow (tally_of_rows s.fields b.rows))
+      → (IsOfLimits fault → IsOverLimit limits s.fields (tally_of_rows s.fields b.rows) fault)
       → ((fault ≡ w.DictionaryFull) ⊎ IsOfLimits fault) ⊎ (fault ≡ w.OutOfMemory) → RefusesBatch limits s b fault
   values_refused fault full over (inl (inl e)) = subst (λ (f : WriteFault). RefusesBatch limits s b f) (sym e) (full e)
   values_refused fault full over (inl (inr (inl e))) =
       subst (λ (f : WriteFault). RefusesBatch limits s b f) (sym e)
-      (long_values (subst (λ (f : WriteFault). IsOverLimit limits s.fields (tallied s.fields b.rows) f) e (over (inl e))))
+      (long_values (subst (λ (f : WriteFault). IsOverLimit limits s.fields (tally_of_rows s.fields b.rows) f) e (over (inl e))))
   values_refused fault full over (inl (inr (inr e))) =
       subst (λ (f : WriteFault). RefusesBatch limits s b f) (sym e)
-      (many_values (subst (λ (f : WriteFault). IsOverLimit limits s.fields (tallied s.fields b.rows) f) e (over (inr e))))
+      (many_values (subst (λ (f : WriteFault). IsOverLimit limits s.fields (tally_of_rows s.fields b.rows) f) e (over (inr e))))
   values_refused fault full over (inr e) = subst (λ (f : WriteFault). RefusesBatch limits s b f) (sym e) tt
 
   -- ---- none of these is a sink that failed
 
-  pub rows_unsent : (fault : WriteFault) → (fault ≡ w.OutOfMemory) ⊎ Misfits s.fields b.rows fault → fault ≡ w.Write → ⊥
+  pub rows_unsent : (fault : WriteFault) → (fault ≡ w.OutOfMemory) ⊎ AreMismatches s.fields b.rows fault → fault ≡ w.Write → ⊥
   rows_unsent fault (inl e) is = absurd (let both = sym e ∙ is in cc)
   rows_unsent fault (inr h) is = absurd (let both = sym h.told ∙ is in cc)
 

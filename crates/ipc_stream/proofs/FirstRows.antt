@@ -14,14 +14,15 @@ use Rattle.ipc_model.specs.declared.schema.Field.{Field}
 use Rattle.ipc_model.specs.declared.schema.Schema.{Schema}
 use Rattle.ipc_model.specs.declared.value.Value.{Value}
 use Rattle.ipc_encode.proofs.Growing.{refused_more}
-use Rattle.ipc_stream.specs.Writing.{RefusesBatch, Misfits, long_columns, long_message, long_metadata, long_values, many_slots, many_values}
+use Rattle.ipc_stream.specs.Writing.{RefusesBatch, AreMismatches, long_columns, long_message, long_metadata, long_values, many_slots}
+use Rattle.ipc_stream.specs.Writing.{many_values}
 use Rattle.ipc_stream.specs.Writing.{other_pairs}
-use Rattle.ipc_stream.specs.Pushed.{RefusesHeld}
+use Rattle.ipc_stream.specs.PendingBatches.{RefusesPending}
 use Rattle.ipc_stream.proofs.OverLimit.{full_more, over_more}
 
 -- the first row that doesn't fit is the first one of more rows
-misfits_more : (fields : List Field) (rows more : List (List Value)) (fault : WriteFault) → Misfits fields rows fault
-    → Misfits fields (rows ++ more) fault
+misfits_more : (fields : List Field) (rows more : List (List Value)) (fault : WriteFault) → AreMismatches fields rows fault
+    → AreMismatches fields (rows ++ more) fault
 misfits_more fields rows more fault m =
     let inside = m.inside in
     let count = length-append rows more in
@@ -39,7 +40,7 @@ misfits_more fields rows more fault m =
 
 -- what a batch that isn't sent is refused for is a cause of refusing it with more rows
 refused_with_more : (limits : Limits) (s : Schema) (pairs : List (List ℕ × List ℕ)) (rows more : List (List Value)) (fault : WriteFault)
-    → RefusesHeld limits s (record { pairs = pairs; rows = rows }) false fault
+    → RefusesPending limits s (record { pairs = pairs; rows = rows }) false fault
     → RefusesBatch limits s (record { pairs = pairs; rows = rows ++ more }) fault
 refused_with_more limits s pairs rows more w.TooLong (long_columns h) = long_columns (refused_more limits s.fields rows more w.TooLong h)
 refused_with_more limits s pairs rows more w.TooLong (long_metadata h) = long_metadata h
@@ -59,7 +60,7 @@ refused_with_more limits s pairs rows more w.DictionaryFull h = full_more s.fiel
 
 -- what the first rows of a batch are refused for is a cause of refusing it
 pub refused_at_first : (limits : Limits) (s : Schema) (pairs : List (List ℕ × List ℕ)) (rows : List (List Value)) (i : ℕ)
-    (fault : WriteFault) → RefusesHeld limits s (record { pairs = pairs; rows = take i rows }) false fault
+    (fault : WriteFault) → RefusesPending limits s (record { pairs = pairs; rows = take i rows }) false fault
     → RefusesBatch limits s (record { pairs = pairs; rows = rows }) fault
 refused_at_first limits s pairs rows i fault h =
     subst (λ (rs : List (List Value)). RefusesBatch limits s (record { pairs = pairs; rows = rs }) fault) (take-append-drop i rows)

@@ -15,32 +15,32 @@ use Rattle.ipc_model.specs.declared.schema.Field.{Field}
 use Rattle.ipc_model.specs.declared.schema.Schema.{Schema}
 use Rattle.ipc_model.specs.declared.table.BatchRows.{BatchRows}
 use Rattle.ipc_model.specs.declared.value.Value.{Value}
-use Rattle.ipc_encode.specs.Limits.{IsRefused, IsWithin}
-use Rattle.ipc_encode.specs.Built.{HasRows}
-use Rattle.ipc_encode.specs.Numbers.{told}
-use Rattle.ipc_dict.specs.Noting.{AllFit, noted_place}
-use Rattle.ipc_dict.specs.Tallied.{Tallied}
+use Rattle.ipc_encode.specs.Limits.{AreRowsRefused, IsWithin}
+use Rattle.ipc_encode.specs.Built.{StoresRows}
+use Rattle.ipc_encode.specs.Numbers.{index_or_zero}
+use Rattle.ipc_dict.specs.Noting.{AllFit, place_of_value}
+use Rattle.ipc_dict.specs.TallyState.{TallyState}
 use Rattle.ipc_dict.specs.Within.{AllWithin}
-use Rattle.ipc_stream.specs.declared.pushed.PushedRows.{PushedRows}
-use Rattle.ipc_stream.specs.Writing.{AcceptsBatch, Misfits, long_columns, long_metadata, many_slots, other_pairs}
+use Rattle.ipc_stream.specs.declared.pending_batch.PendingBatch.{PendingBatch}
+use Rattle.ipc_stream.specs.Writing.{AcceptsBatch, AreMismatches, long_columns, long_metadata, many_slots, other_pairs}
 use Rattle.ipc_stream.specs.Writing.{RefusesBatch}
 use Rattle.ipc_stream.specs.Parts.{AcceptsPairs, RefusesPairs}
-use Rattle.ipc_stream.specs.Pushed.{HoldsBatch, RefusesHeld, no_rows, with_row}
+use Rattle.ipc_stream.specs.PendingBatches.{HoldsBatch, RefusesPending, no_rows, with_row}
 use Rattle.ipc_stream.proofs.HeldTallies.{tally_of}
 use Rattle.ipc_stream.proofs.MessagesWritten.{all_last, misfit}
 
 -- a row behind those that fit, which doesn't, is the first of the batch that doesn't
 pub misfit_last : (fields : List Field) (rows : List (List Value)) (row : List Value) (cause : RowFault) (r : Result Unit RowFault)
     (fault : WriteFault) → AllByRecursion (RowFits fields) rows → (RowFits fields row → IsOk r) → r ≡ verdict (row_faults fields row)
-    → r ≡ Err cause → fault ≡ refusal_of cause (length rows) → Misfits fields (rows ++ row ∷ []) fault
-misfit_last fields rows row cause r fault fit fits judged failed told =
+    → r ≡ Err cause → fault ≡ refusal_of cause (length rows) → AreMismatches fields (rows ++ row ∷ []) fault
+misfit_last fields rows row cause r fault fit fits judged failed index_or_zero =
     let count = length-append rows (row ∷ []) in
     misfit fields (rows ++ row ∷ []) (length rows) row cause r fault (omega (arith, count)) (sym (get_or-append_seam rows row [] row))
-    (subst (AllByRecursion (RowFits fields)) (sym (take-append_seam rows (row ∷ []))) fit) fits judged failed told
+    (subst (AllByRecursion (RowFits fields)) (sym (take-append_seam rows (row ∷ []))) fit) fits judged failed index_or_zero
 
 -- a row that is too long or one too many is refused with the batch that it would be in
 pub refused_row : (limits : Limits) (s : Schema) (b : BatchRows) (row : List Value) (fault : WriteFault)
-    → IsRefused limits s.fields (b.rows ++ row ∷ []) fault → RefusesHeld limits s (with_row b row) false fault
+    → AreRowsRefused limits s.fields (b.rows ++ row ∷ []) fault → RefusesPending limits s (with_row b row) false fault
 refused_row limits s b row w.TooLong h = long_columns h
 refused_row limits s b row w.TooManyRows h = many_slots h
 refused_row limits s b row w.OutOfMemory h = tt
@@ -51,23 +51,24 @@ refused_row limits s b row w.Write h = absurd h
 refused_row limits s b row w.Failed h = absurd h
 
 -- a batch with a row more that fits and is within the limits, as its dictionaries are, is held
-pub held_row : (limits : Limits) (s : Schema) (b : BatchRows) (row : List Value) (old new : PushedRows)
+pub held_row : (limits : Limits) (s : Schema) (b : BatchRows) (row : List Value) (old new : PendingBatch)
     → HoldsBatch limits s b old → RowFits s.fields row → IsWithin limits s.fields (b.rows ++ row ∷ [])
     → new.tally ≡ tally_of limits s.fields (b.rows ++ row ∷ [])
     → AllFit new.tally.entries → AllWithin new.tally.limits new.tally.fields new.tally.entries
-    → HasRows (told (noted_place new.tally.entries)) limits s.fields (b.rows ++ row ∷ []) new.builder → new.pairs ≡ old.pairs
+    → StoresRows (index_or_zero (place_of_value new.tally.entries)) limits s.fields (b.rows ++ row ∷ []) new.builder → new.pairs ≡ old.pairs
     → HoldsBatch limits s (with_row b row) new
 held_row limits s b row old new held fits within tally fit short rows same = record {
   tally = tally;
-  rows = subst (λ (t : Tallied). HasRows (told (noted_place t.entries)) limits s.fields (b.rows ++ row ∷ []) new.builder) tally rows;
+  rows = subst (λ (t : TallyState). StoresRows (index_or_zero (place_of_value t.entries)) limits s.fields (b.rows ++ row ∷ []) new.builder)
+      tally rows;
   pairs = same ∙ held.pairs;
   accepted = record {
     fit = all_last (RowFits s.fields) b.rows row held.accepted.fit fits;
     within = record {
       lengths = within;
       dictionaries = record {
-        counted = subst (λ (t : Tallied). AllFit t.entries) tally fit;
-        lengths = subst (λ (t : Tallied). AllWithin t.limits t.fields t.entries) tally short;
+        counted = subst (λ (t : TallyState). AllFit t.entries) tally fit;
+        lengths = subst (λ (t : TallyState). AllWithin t.limits t.fields t.entries) tally short;
         short_messages = held.accepted.within.dictionaries.short_messages;
       };
       short_metadata = held.accepted.within.short_metadata;
@@ -100,7 +101,7 @@ judged_sent limits s b (Err w.Failed) accepts (inr e) = cc
 
 -- what is told of its pairs is told of it
 pub refused_pairs : (limits : Limits) (s : Schema) (pairs : List (List ℕ × List ℕ)) (fault : WriteFault)
-    → RefusesPairs limits s pairs fault → RefusesHeld limits s (no_rows pairs) false fault
+    → RefusesPairs limits s pairs fault → RefusesPending limits s (no_rows pairs) false fault
 refused_pairs limits s pairs w.TooLong (inl long) = long_metadata long
 refused_pairs limits s pairs w.TooLong (inr other) = other_pairs other
 refused_pairs limits s pairs w.OutOfMemory h = tt

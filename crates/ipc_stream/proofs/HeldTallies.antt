@@ -16,25 +16,25 @@ use Rattle.ipc_model.specs.declared.schema.Schema.{Schema}
 use Rattle.ipc_model.specs.declared.table.BatchRows.{BatchRows}
 use Rattle.ipc_model.specs.declared.value.Value.{Value}
 use Rattle.ipc_encode.specs.declared.builder.Builder.{Builder}
-use Rattle.ipc_encode.specs.Built.{HasRows}
+use Rattle.ipc_encode.specs.Built.{StoresRows}
 use Rattle.ipc_encode.specs.Faults.{write_fault}
 use Rattle.ipc_encode.specs.declared.fault.PushFault.{PushFault}
 use Rattle.ipc_encode.specs.declared.fault.PushFault.TheVariants as push
 use Rattle.ipc_encode.specs.Indices.{AgreeOn}
-use Rattle.ipc_encode.specs.Numbers.{number_or, told}
+use Rattle.ipc_encode.specs.Numbers.{number_or, index_or_zero}
 use Rattle.ipc_encode.proofs.Agreeing.{holds_agreeing}
 use Rattle.ipc_dict.specs.declared.entry.TallyEntry.{TallyEntry}
-use Rattle.ipc_dict.specs.Noting.{IsFull, note_all, noted_place}
+use Rattle.ipc_dict.specs.Noting.{IsIndexOverflow, note_all, place_of_value}
 use Rattle.ipc_dict.specs.Pairs.{Pairs, row_pairs, rows_pairs}
-use Rattle.ipc_dict.specs.SchemaIds.{unused}
-use Rattle.ipc_dict.specs.Sending.{tallied}
-use Rattle.ipc_dict.specs.Tallied.{Tallied}
+use Rattle.ipc_dict.specs.SchemaIds.{empty_entries}
+use Rattle.ipc_dict.specs.Sending.{tally_of_rows}
+use Rattle.ipc_dict.specs.TallyState.{TallyState}
 use Rattle.ipc_dict.specs.Within.{IsOfLimits, IsOverLimit}
 use Rattle.ipc_dict.proofs.Covered.{covered}
 use Rattle.ipc_dict.proofs.CoveredIndices.{pair_placed}
 use Rattle.ipc_dict.proofs.Notes.{note_all-append}
 use Rattle.ipc_dict.proofs.Places.{keeps_places}
-use Rattle.ipc_stream.specs.Pushed.{RefusesHeld, with_row}
+use Rattle.ipc_stream.specs.PendingBatches.{RefusesPending, with_row}
 use Rattle.ipc_stream.specs.Writing.{long_values, many_values}
 
 -- the pairs of rows and of one more
@@ -47,83 +47,88 @@ pairs_end fields (r ∷ rows) row =
 
 -- what is tallied with one row more
 pub tallied_next : (fields : List Field) (rows : List (List Value)) (row : List Value)
-    → tallied fields (rows ++ row ∷ []) ≡ note_all (tallied fields rows) (row_pairs fields row)
+    → tally_of_rows fields (rows ++ row ∷ []) ≡ note_all (tally_of_rows fields rows) (row_pairs fields row)
 tallied_next fields rows row =
-    ap (note_all (unused fields)) (pairs_end fields rows row)
-    ∙ note_all-append (unused fields) (rows_pairs fields rows) (row_pairs fields row)
+    ap (note_all (empty_entries fields)) (pairs_end fields rows row)
+    ∙ note_all-append (empty_entries fields) (rows_pairs fields rows) (row_pairs fields row)
 
 -- each value of the rows keeps the index that it was told, whatever is noted behind them
 places_agree : (limits : Limits) (fields : List Field) (rows all : List (List Value)) (ps : Pairs)
-    → tallied fields all ≡ note_all (tallied fields rows) ps → AllByRecursion (IsFieldWellFormed limits) (entries fields)
-    → AgreeOn (told (noted_place (tallied fields rows))) (told (noted_place (tallied fields all))) fields rows
+    → tally_of_rows fields all ≡ note_all (tally_of_rows fields rows) ps → AllByRecursion (IsFieldWellFormed limits) (entries fields)
+    → AgreeOn (index_or_zero (place_of_value (tally_of_rows fields rows))) (index_or_zero (place_of_value (tally_of_rows fields all)))
+    fields rows
 places_agree limits fields rows all ps next fine =
-    covered (λ bits signed id value. told (noted_place (tallied fields rows)) id value ≡ told (noted_place (tallied fields all)) id value)
+    covered (λ bits signed id value. index_or_zero (place_of_value (tally_of_rows fields rows)) id value
+    ≡ index_or_zero (place_of_value (tally_of_rows fields all)) id value)
     limits fields rows fine
-    (λ d v named pair. by d v (noted_place (tallied fields rows) d.id v) refl (pair_placed fields (rows_pairs fields rows) d v named pair))
+    (λ d v named pair. by d v (place_of_value (tally_of_rows fields rows) d.id v) refl
+    (pair_placed fields (rows_pairs fields rows) d v named pair))
   where
-    by : (d : Dictionary) (v : Value) (o : Option ℕ) → noted_place (tallied fields rows) d.id v ≡ o → IsSome o
-        → told (noted_place (tallied fields rows)) d.id v ≡ told (noted_place (tallied fields all)) d.id v
+    by : (d : Dictionary) (v : Value) (o : Option ℕ) → place_of_value (tally_of_rows fields rows) d.id v ≡ o → IsSome o
+        → index_or_zero (place_of_value (tally_of_rows fields rows)) d.id v ≡ index_or_zero (place_of_value (tally_of_rows fields all)) d.id
+        v
     by d v None e some = absurd (true≢false (sym some))
     by d v (Some i) e some =
-        let now : noted_place (tallied fields all) d.id v ≡ Some i =
-        ap (λ t. noted_place t d.id v) next ∙ keeps_places (tallied fields rows) ps d.id v i e in
+        let now : place_of_value (tally_of_rows fields all) d.id v ≡ Some i =
+        ap (λ t. place_of_value t d.id v) next ∙ keeps_places (tally_of_rows fields rows) ps d.id v i e in
         ap (λ o. number_or o 0) (e ∙ sym now)
 
 -- so that a builder holds the same rows under the indices with what is noted behind them
 rows_behind : (limits : Limits) (fields : List Field) (rows all : List (List Value)) (ps : Pairs) (builder : Builder)
-    → tallied fields all ≡ note_all (tallied fields rows) ps → AllByRecursion (IsFieldWellFormed limits) (entries fields)
-    → HasRows (told (noted_place (tallied fields rows))) limits fields rows builder
-    → HasRows (told (noted_place (tallied fields all))) limits fields rows builder
+    → tally_of_rows fields all ≡ note_all (tally_of_rows fields rows) ps → AllByRecursion (IsFieldWellFormed limits) (entries fields)
+    → StoresRows (index_or_zero (place_of_value (tally_of_rows fields rows))) limits fields rows builder
+    → StoresRows (index_or_zero (place_of_value (tally_of_rows fields all))) limits fields rows builder
 rows_behind limits fields rows all ps builder next fine =
-    holds_agreeing (told (noted_place (tallied fields rows))) (told (noted_place (tallied fields all))) limits fields rows builder
+    holds_agreeing (index_or_zero (place_of_value (tally_of_rows fields rows))) (index_or_zero (place_of_value (tally_of_rows fields all)))
+    limits fields rows builder
     (places_agree limits fields rows all ps next fine)
 
 -- with one row more
 pub rows_kept : (limits : Limits) (fields : List Field) (rows : List (List Value)) (row : List Value) (builder : Builder)
     → AllByRecursion (IsFieldWellFormed limits) (entries fields)
-    → HasRows (told (noted_place (tallied fields rows))) limits fields rows builder
-    → HasRows (told (noted_place (tallied fields (rows ++ row ∷ [])))) limits fields rows builder
+    → StoresRows (index_or_zero (place_of_value (tally_of_rows fields rows))) limits fields rows builder
+    → StoresRows (index_or_zero (place_of_value (tally_of_rows fields (rows ++ row ∷ [])))) limits fields rows builder
 rows_kept limits fields rows row builder =
     rows_behind limits fields rows (rows ++ row ∷ []) (row_pairs fields row) builder (tallied_next fields rows row)
 
 -- the tally of rows
-abbrev pub tally_of : Limits → List Field → List (List Value) → Tallied
-tally_of limits fields rows = record { failed = false; limits = limits; fields = fields; entries = tallied fields rows }
+abbrev pub tally_of : Limits → List Field → List (List Value) → TallyState
+tally_of limits fields rows = record { failed = false; limits = limits; fields = fields; entries = tally_of_rows fields rows }
 
 -- a tally that noted a row is that of one row more
-pub tally_next : (limits : Limits) (fields : List Field) (rows : List (List Value)) (row : List Value) (old new : Tallied)
+pub tally_next : (limits : Limits) (fields : List Field) (rows : List (List Value)) (row : List Value) (old new : TallyState)
     → old ≡ tally_of limits fields rows → new ≡ record old { entries = note_all old.entries (row_pairs old.fields row) }
     → new ≡ tally_of limits fields (rows ++ row ∷ [])
 tally_next limits fields rows row old new same noted =
-    noted ∙ ap (λ (t : Tallied). record t { entries = note_all t.entries (row_pairs t.fields row) }) same
+    noted ∙ ap (λ (t : TallyState). record t { entries = note_all t.entries (row_pairs t.fields row) }) same
     ∙ ap (λ (es : List TallyEntry). record { failed = false; limits = limits; fields = fields; entries = es })
     (sym (tallied_next fields rows row))
 
 -- why a row isn't noted is why the batch with it is refused
-pub note_refused : (limits : Limits) (s : Schema) (b : BatchRows) (row : List Value) (old : Tallied) (fault : WriteFault)
+pub note_refused : (limits : Limits) (s : Schema) (b : BatchRows) (row : List Value) (old : TallyState) (fault : WriteFault)
     → old ≡ tally_of limits s.fields b.rows
-    → (fault ≡ w.DictionaryFull → IsFull (note_all old.entries (row_pairs old.fields row)))
+    → (fault ≡ w.DictionaryFull → IsIndexOverflow (note_all old.entries (row_pairs old.fields row)))
     → (IsOfLimits fault → IsOverLimit old.limits old.fields (note_all old.entries (row_pairs old.fields row)) fault)
     → (fault ≡ w.Failed → old.failed ≡ true)
     → ((fault ≡ w.DictionaryFull) ⊎ IsOfLimits fault) ⊎ ((fault ≡ w.OutOfMemory) ⊎ (fault ≡ w.Failed))
-    → RefusesHeld limits s (with_row b row) false fault
+    → RefusesPending limits s (with_row b row) false fault
 note_refused limits s b row old fault same full over before only = by fault full over before only
   where
     now : (P : Limits → List Field → List TallyEntry → Type 0) → P old.limits old.fields (note_all old.entries (row_pairs old.fields row))
-        → P limits s.fields (tallied s.fields (b.rows ++ row ∷ []))
+        → P limits s.fields (tally_of_rows s.fields (b.rows ++ row ∷ []))
     now P h = subst (λ es. P limits s.fields es) (sym (tallied_next s.fields b.rows row))
-        (subst (λ (t : Tallied). P t.limits t.fields (note_all t.entries (row_pairs t.fields row))) same h)
+        (subst (λ (t : TallyState). P t.limits t.fields (note_all t.entries (row_pairs t.fields row))) same h)
 
-    by : (f : WriteFault) → (f ≡ w.DictionaryFull → IsFull (note_all old.entries (row_pairs old.fields row)))
+    by : (f : WriteFault) → (f ≡ w.DictionaryFull → IsIndexOverflow (note_all old.entries (row_pairs old.fields row)))
         → (IsOfLimits f → IsOverLimit old.limits old.fields (note_all old.entries (row_pairs old.fields row)) f)
         → (f ≡ w.Failed → old.failed ≡ true)
         → ((f ≡ w.DictionaryFull) ⊎ IsOfLimits f) ⊎ ((f ≡ w.OutOfMemory) ⊎ (f ≡ w.Failed))
-        → RefusesHeld limits s (with_row b row) false f
+        → RefusesPending limits s (with_row b row) false f
     by w.TooLong full over before only = long_values (now (λ l fs es. IsOverLimit l fs es w.TooLong) (over (inl refl)))
     by w.TooManyRows full over before only = many_values (now (λ l fs es. IsOverLimit l fs es w.TooManyRows) (over (inr refl)))
-    by w.DictionaryFull full over before only = now (λ l fs es. IsFull es) (full refl)
+    by w.DictionaryFull full over before only = now (λ l fs es. IsIndexOverflow es) (full refl)
     by w.OutOfMemory full over before only = tt
-    by w.Failed full over before only = sym (ap (λ (t : Tallied). t.failed) same) ∙ before refl
+    by w.Failed full over before only = sym (ap (λ (t : TallyState). t.failed) same) ∙ before refl
     by w.Write full over before (inl (inl e)) = absurd cc
     by w.Write full over before (inl (inr (inl e))) = absurd cc
     by w.Write full over before (inl (inr (inr e))) = absurd cc
@@ -148,7 +153,7 @@ memory_is push.OutOfMemory e = refl
 memory_is push.Failed e = absurd cc
 
 -- a tally that works is as it was, unless memory for a value ran out
-pub note_keeps : (limits : Limits) (fields : List Field) (rows : List (List Value)) (old new : Tallied) (fault : PushFault)
+pub note_keeps : (limits : Limits) (fields : List Field) (rows : List (List Value)) (old new : TallyState) (fault : PushFault)
     → old ≡ tally_of limits fields rows → (write_fault fault ≡ w.DictionaryFull → new ≡ old)
     → (IsOfLimits (write_fault fault) → new ≡ old) → (write_fault fault ≡ w.Failed → old.failed ≡ true)
     → ((write_fault fault ≡ w.DictionaryFull) ⊎ IsOfLimits (write_fault fault))
@@ -158,4 +163,4 @@ note_keeps limits fields rows old new fault same full over failed (inl (inl e)) 
 note_keeps limits fields rows old new fault same full over failed (inl (inr e)) other = over e
 note_keeps limits fields rows old new fault same full over failed (inr (inl e)) other = absurd (other (memory_is fault e))
 note_keeps limits fields rows old new fault same full over failed (inr (inr e)) other =
-    absurd (true≢false (sym (failed e) ∙ ap (λ (t : Tallied). t.failed) same))
+    absurd (true≢false (sym (failed e) ∙ ap (λ (t : TallyState). t.failed) same))

@@ -14,13 +14,13 @@ use Rattle.ipc_model.specs.declared.limits.Limits.{Limits}
 use Rattle.ipc_model.specs.declared.schema.Schema.{Schema}
 use Rattle.ipc_model.specs.declared.value.Value.{Value}
 use Rattle.ipc_column.specs.Values.{first_of}
-use Rattle.ipc_dictionaries.specs.InForce.{at, put}
+use Rattle.ipc_dict_read.specs.InForce.{at, put}
 use Rattle.ipc_dict.specs.declared.entry.TallyEntry.{TallyEntry}
 use Rattle.ipc_dict.specs.declared.kept.KeptEntry.{KeptEntry}
-use Rattle.ipc_dict.specs.Planning.{SameIds, after, after_all, sends_of, sent_for}
+use Rattle.ipc_dict.specs.Planning.{SameIds, values_after, after_all, sends_of, sent_for}
 use Rattle.ipc_dict.specs.SchemaIds.{tally_ids}
 use Rattle.ipc_dict.proofs.UniqueIds.{IsOther, AreUnique}
-use Rattle.ipc_decode.specs.Stream.{InForce, DictionaryInForce, Run, done, more, values_in, with_dictionary}
+use Rattle.ipc_stream_read.specs.Stream.{InForce, DictionaryInForce, Run, done, more, values_in, with_dictionary}
 use Rattle.ipc_stream.specs.declared.message.Message.{Message}
 use Rattle.ipc_stream.specs.Messages.{SetDictionaries, all_bytes}
 
@@ -95,14 +95,14 @@ set_at o k vs bytes id =
 abbrev sent_now : List TallyEntry → List (Option (List ℕ)) → ℤ → Option (List Value) → Option (List Value)
 sent_now [] os id before = before
 sent_now (n ∷ ns) [] id before = before
-sent_now (n ∷ ns) (o ∷ os) id before = cond (int_eq n.id id) (after before n.values o) (sent_now ns os id before)
+sent_now (n ∷ ns) (o ∷ os) id before = cond (int_eq n.id id) (values_after before n.values o) (sent_now ns os id before)
 
 sent_now-other : (ns : List TallyEntry) (os : List (Option (List ℕ))) (id : ℤ) (before : Option (List Value)) → IsOther id (tally_ids ns)
     → sent_now ns os id before ≡ before
 sent_now-other [] os id before other = refl
 sent_now-other (n ∷ ns) [] id before other = refl
 sent_now-other (n ∷ ns) (o ∷ os) id before other =
-    ap (λ b. cond b (after before n.values o) (sent_now ns os id before)) other.0 ∙ sent_now-other ns os id before other.1
+    ap (λ b. cond b (values_after before n.values o) (sent_now ns os id before)) other.0 ∙ sent_now-other ns os id before other.1
 
 -- what was sent is that
 sent_after_all : (ss : List KeptEntry) (ns : List TallyEntry) (os : List (Option (List ℕ))) (id : ℤ) → SameIds ss ns
@@ -115,11 +115,12 @@ sent_after_all (s ∷ ss) (n ∷ ns) (o ∷ os) id ids =
     by (int_eq s.id id) (ap (λ z. int_eq z id) (sym ids.0)) (sent_after_all ss ns os id ids.1)
   where
     by : (b : Bool) → int_eq n.id id ≡ b → sent_for (after_all ss ns os) id ≡ sent_now ns os id (sent_for ss id)
-        → cond b (after s.values n.values o) (sent_for (after_all ss ns os) id)
-        ≡ cond (int_eq n.id id) (after (cond b s.values (sent_for ss id)) n.values o) (sent_now ns os id (cond b s.values (sent_for ss id)))
-    by true e rest = sym (ap (λ c. cond c (after s.values n.values o) (sent_now ns os id s.values)) e)
+        → cond b (values_after s.values n.values o) (sent_for (after_all ss ns os) id)
+        ≡ cond (int_eq n.id id) (values_after (cond b s.values (sent_for ss id)) n.values o)
+        (sent_now ns os id (cond b s.values (sent_for ss id)))
+    by true e rest = sym (ap (λ c. cond c (values_after s.values n.values o) (sent_now ns os id s.values)) e)
     by false e rest =
-        rest ∙ sym (ap (λ c. cond c (after (sent_for ss id) n.values o) (sent_now ns os id (sent_for ss id))) e)
+        rest ∙ sym (ap (λ c. cond c (values_after (sent_for ss id) n.values o) (sent_now ns os id (sent_for ss id))) e)
 
 module _ (limits : Limits) (s : Schema) where
   -- a run of the dictionaries, and what is in force behind it

@@ -6,18 +6,18 @@ use Rattle.std.proofs.KnownBytes.{Consumes-trans}
 use Rattle.ipc_model.specs.declared.fault.Fault.{Fault}
 use Rattle.ipc_model.specs.declared.limits.Limits.{Limits}
 use Rattle.ipc_model.specs.declared.table.BatchRows.{BatchRows}
-use Rattle.ipc_decode.specs.declared.end.End.{End}
-use Rattle.ipc_decode.specs.declared.end.End.TheVariants.{Closed}
-use Rattle.ipc_decode.specs.declared.phase.Phase.{Phase}
-use Rattle.ipc_decode.specs.declared.phase.Phase.TheVariants.{Reading, Ended, Refused}
-use Rattle.ipc_decode.specs.Counts.{count_up}
-use Rattle.ipc_decode.specs.Decoding.{TellsLast}
-use Rattle.ipc_decode.specs.Found.{Found, rows_of}
-use Rattle.ipc_decode.specs.Reader.{EndsBehind, LeadsTo, NextAnswer, NextCall, OpenFails, Opens, Reader, in_force_of}
-use Rattle.ipc_decode.specs.Reasons.{Reads}
-use Rattle.ipc_decode.specs.Stream.{batch}
+use Rattle.ipc_stream_read.specs.declared.end.End.{End}
+use Rattle.ipc_stream_read.specs.declared.end.End.TheVariants.{Closed}
+use Rattle.ipc_stream_read.specs.declared.stream_phase.StreamPhase.{StreamPhase}
+use Rattle.ipc_stream_read.specs.declared.stream_phase.StreamPhase.TheVariants.{Reading, Ended, Refused}
+use Rattle.ipc_stream_read.specs.Counts.{count_up}
+use Rattle.ipc_stream_read.specs.Decoding.{ReportsLastEvent}
+use Rattle.ipc_stream_read.specs.Found.{ReadRows, batch_rows}
+use Rattle.ipc_stream_read.specs.Reader.{EndsBehind, LeadsTo, NextAnswer, NextCall, OpenFails, Opens, Reader, in_force_of}
+use Rattle.ipc_stream_read.specs.Reasons.{Reads}
+use Rattle.ipc_stream_read.specs.Stream.{batch}
 use Rattle.ipc_stream.specs.Progress.{AreReports, opened, more, unopened, Report, ReportsAll}
-use Rattle.ipc_stream.specs.Progress.{ReportsBefore, ReportsSome, ReportsTo, Told, all_rows, report_of}
+use Rattle.ipc_stream.specs.Progress.{ReportsBefore, ReportsSome, ReportsTo, AreAppended, all_rows, report_of}
 
 -- batches of a source were read and reported: so many, with so many rows
 pub record Progressed (limits : Limits) (before : Option (List ℕ)) (batches rows : ℕ) (now : Reader)
@@ -27,17 +27,17 @@ pub record Progressed (limits : Limits) (before : Option (List ℕ)) (batches ro
   pub reports : List Report
   pub bytes : Consumes before now.remaining x
   pub are : AreReports limits x done reports (Some (in_force_of now))
-  pub told : Told told_old told_new reports
+  pub told : AreAppended told_old told_new reports
   pub limits_are : now.limits ≡ limits
   pub taken : now.taken ≡ count_up 0 (length x)
   pub batches_are : batches ≡ count_up 0 (length done)
   pub rows_are : rows ≡ count_up 0 (all_rows done)
 
-told_none : (a : Option (List Report)) → Told a a []
+told_none : (a : Option (List Report)) → AreAppended a a []
 told_none None = tt
 told_none (Some l) = sym (append-nil l)
 
-told_then : (a b c : Option (List Report)) (xs ys : List Report) → Told a b xs → Told b c ys → Told a c (xs ++ ys)
+told_then : (a b c : Option (List Report)) (xs ys : List Report) → AreAppended a b xs → AreAppended b c ys → AreAppended a c (xs ++ ys)
 told_then None b c xs ys p q = tt
 told_then (Some l) None c xs ys p q = absurd p
 told_then (Some l) (Some m) None xs ys p q = absurd q
@@ -48,15 +48,16 @@ all_rows_last [] last = omega arith
 all_rows_last (b ∷ bs) last = let more = all_rows_last bs last in omega (arith, more)
 
 -- what a call gave where the reader was reading
-batch_given : (now new : Reader) (p q : Phase) (x : List ℕ) (found : Found) → p ≡ Reading → NextAnswer now new p x (Ok (Some found)) q
-    → LeadsTo now new x (batch (rows_of found))
+batch_given : (now new : Reader) (p q : StreamPhase) (x : List ℕ) (found : ReadRows) → p ≡ Reading
+    → NextAnswer now new p x (Ok (Some found)) q
+    → LeadsTo now new x (batch (batch_rows found))
 batch_given now new Reading Reading x found is h = h
 batch_given now new Reading (Ended e) x found is h = absurd h
 batch_given now new Reading Refused x found is h = absurd h
 batch_given now new (Ended e) q x found is h = absurd (cc)
 batch_given now new Refused q x found is h = absurd (cc)
 
-end_given : (now new : Reader) (p q : Phase) (x : List ℕ) → p ≡ Reading → NextAnswer now new p x (Ok None) q
+end_given : (now new : Reader) (p q : StreamPhase) (x : List ℕ) → p ≡ Reading → NextAnswer now new p x (Ok None) q
     → (e : End) × EndsBehind now new x (Ok e)
 end_given now new Reading Reading x is h = absurd h
 end_given now new Reading (Ended e) x is h = (e, h)
@@ -64,7 +65,7 @@ end_given now new Reading Refused x is h = absurd h
 end_given now new (Ended e) q x is h = absurd (cc)
 end_given now new Refused q x is h = absurd (cc)
 
-fault_given : (now new : Reader) (p q : Phase) (x : List ℕ) (f : Fault) → p ≡ Reading → NextAnswer now new p x (Err f) q
+fault_given : (now new : Reader) (p q : StreamPhase) (x : List ℕ) (f : Fault) → p ≡ Reading → NextAnswer now new p x (Err f) q
     → EndsBehind now new x (Err f)
 fault_given now new Reading Reading x f is h = absurd h
 fault_given now new Reading (Ended e) x f is h = absurd h
@@ -110,21 +111,23 @@ module _ {limits : Limits} (before : Option (List ℕ)) (batches rows : ℕ) (no
   progressed_all = (Closed, progressed_to (Ok Closed))
 
   module _ (new : Reader) (reading : now.phase ≡ Reading) where
-    last_given : (found : Found) (t : NextCall now new (Ok (Some found)))
-        → TellsLast limits (Some (in_force_of now)) t.x (batch (rows_of found)) (Some (in_force_of new))
-    last_given found t = subst (λ l. TellsLast l (Some (in_force_of now)) t.x (batch (rows_of found)) (Some (in_force_of new))) p.limits_are
+    last_given : (found : ReadRows) (t : NextCall now new (Ok (Some found)))
+        → ReportsLastEvent limits (Some (in_force_of now)) t.x (batch (batch_rows found)) (Some (in_force_of new))
+    last_given found t = subst (λ l. ReportsLastEvent l (Some (in_force_of now)) t.x (batch (batch_rows found)) (Some (in_force_of new)))
+        p.limits_are
         (batch_given now new now.phase new.phase t.x found reading t.gives).last
 
     -- one batch more was read and reported
-    pub progressed_more : (found : Found) (m n : ℕ) (c : Option (List Report)) → NextCall now new (Ok (Some found)) → m ≡ count_up batches 1
-        → n ≡ count_up rows (length found.0.rows) → Told b c (record { bytes = new.taken; batches = m; rows = n } ∷ [])
+    pub progressed_more : (found : ReadRows) (m n : ℕ) (c : Option (List Report)) → NextCall now new (Ok (Some found)) → m
+        ≡ count_up batches 1
+        → n ≡ count_up rows (length found.0.rows) → AreAppended b c (record { bytes = new.taken; batches = m; rows = n } ∷ [])
         → Progressed limits before m n new a c
     progressed_more found m n c t one all told =
         let y = p.x ++ t.x in
-        let done_now = p.done ++ rows_of found ∷ [] in
+        let done_now = p.done ++ batch_rows found ∷ [] in
         let taken : new.taken ≡ count_up 0 (length y) = omega (arith, p.taken, t.counted, length-append p.x t.x) in
-        let some : m ≡ count_up 0 (length done_now) = omega (arith, p.batches_are, one, length-append p.done (rows_of found ∷ [])) in
-        let few : n ≡ count_up 0 (all_rows done_now) = omega (arith, p.rows_are, all, all_rows_last p.done (rows_of found)) in
+        let some : m ≡ count_up 0 (length done_now) = omega (arith, p.batches_are, one, length-append p.done (batch_rows found ∷ [])) in
+        let few : n ≡ count_up 0 (all_rows done_now) = omega (arith, p.rows_are, all, all_rows_last p.done (batch_rows found)) in
         let report : Report = record { bytes = new.taken; batches = m; rows = n } in
         let is : report ≡ report_of y done_now = λ i. record { bytes = taken i; batches = some i; rows = few i } in
         record {
@@ -133,7 +136,7 @@ module _ {limits : Limits} (before : Option (List ℕ)) (batches rows : ℕ) (no
           reports = p.reports ++ report_of y done_now ∷ [];
           bytes = Consumes-trans before now.remaining new.remaining p.x t.x p.bytes t.bytes;
           are = more p.are (last_given found t);
-          told = told_then a b c p.reports (report_of y done_now ∷ []) p.told (subst (λ r. Told b c (r ∷ [])) is told);
+          told = told_then a b c p.reports (report_of y done_now ∷ []) p.told (subst (λ r. AreAppended b c (r ∷ [])) is told);
           limits_are = t.same_limits ∙ p.limits_are;
           taken = taken;
           batches_are = some;
@@ -141,7 +144,7 @@ module _ {limits : Limits} (before : Option (List ℕ)) (batches rows : ℕ) (no
         }
 
     -- one was read and not reported
-    pub progressed_less : (found : Found) → NextCall now new (Ok (Some found)) → ReportsSome limits before new.remaining a b
+    pub progressed_less : (found : ReadRows) → NextCall now new (Ok (Some found)) → ReportsSome limits before new.remaining a b
     progressed_less found t = (
       record {
         x = p.x;
@@ -153,7 +156,7 @@ module _ {limits : Limits} (before : Option (List ℕ)) (batches rows : ℕ) (no
         are = p.are;
         told = p.told;
       },
-      inr (rows_of found, (Some (in_force_of new), last_given found t)),
+      inr (batch_rows found, (Some (in_force_of new), last_given found t)),
     )
 
     -- reading ended after them

@@ -5,11 +5,11 @@ use Rattle.ipc_model.specs.declared.fault.WriteFault.TheVariants as w
 use Rattle.ipc_model.specs.declared.limits.Limits.{Limits}
 use Rattle.ipc_model.specs.declared.schema.Field.{Field}
 use Rattle.ipc_model.specs.declared.value.Value.{Value}
-use Rattle.ipc_encode.specs.Limits.{IsRefused, IsWithin}
+use Rattle.ipc_encode.specs.Limits.{AreRowsRefused, IsWithin}
 
 -- rows within the limits are refused for memory alone
 pub memory_alone : (limits : Limits) (fields : List Field) (rows : List (List Value)) (fault : WriteFault) → IsWithin limits fields rows
-    → IsRefused limits fields rows fault → fault ≡ w.OutOfMemory
+    → AreRowsRefused limits fields rows fault → fault ≡ w.OutOfMemory
 memory_alone limits fields rows w.TooLong within h = absurd (within.short h)
 memory_alone limits fields rows w.TooManyRows within h = absurd (within.few h)
 memory_alone limits fields rows w.OutOfMemory within h = refl

@@ -6,20 +6,21 @@ use Rattle.ipc_model.specs.declared.schema.Schema.{Schema}
 use Rattle.ipc_model.specs.declared.table.BatchRows.{BatchRows}
 use Rattle.ipc_model.specs.declared.table.Table.{Table}
 use Rattle.ipc_model.specs.declared.value.Value.{Value}
-use Rattle.ipc_dictionaries.specs.InForce.{at}
+use Rattle.ipc_dict_read.specs.InForce.{at}
 use Rattle.ipc_dict.specs.declared.kept.KeptEntry.{KeptEntry}
 use Rattle.ipc_dict.specs.Noting.{AllFit}
 use Rattle.ipc_dict.specs.Planning.{sent_for}
-use Rattle.ipc_dict.specs.SchemaIds.{ids_of, unsent}
-use Rattle.ipc_dict.specs.Sending.{needed, tallied, sent_after}
+use Rattle.ipc_dict.specs.SchemaIds.{ids_of, nothing_sent}
+use Rattle.ipc_dict.specs.Sending.{dictionaries_to_send, tally_of_rows, sent_after}
 use Rattle.ipc_dict.specs.Within.{AllWithin, HaveShortMessages}
-use Rattle.ipc_frame.specs.Frames.{eos}
-use Rattle.ipc_decode.specs.Stream.{InForce, State, Run, IsMessage, OpensStream, batch, events_of}
-use Rattle.ipc_decode.specs.Stream.{values_in, with_dictionary}
+use Rattle.ipc_frame.specs.Frames.{end_of_stream}
+use Rattle.ipc_stream_read.specs.Stream.{InForce, State, Run, IsMessage, OpensStream, batch}
+use Rattle.ipc_stream_read.specs.Stream.{events_of}
+use Rattle.ipc_stream_read.specs.Stream.{values_in, with_dictionary}
 
 -- no dictionary of the schema was sent
-abbrev pub none_sent : Schema → List KeptEntry
-none_sent s = unsent (ids_of s.fields)
+abbrev pub kept_at_start : Schema → List KeptEntry
+kept_at_start s = nothing_sent (ids_of s.fields)
 
 -- the values sent of each dictionary after these batches, one after another
 abbrev pub kept_after : List Field → List KeptEntry → List BatchRows → List KeptEntry
@@ -34,16 +35,16 @@ pub record IsInForce (s : Schema) (kept : List KeptEntry) (o : InForce) : Type 0
 
 -- x is messages that report exactly these batches: from each state in which the values sent are in
 -- force, to one in which they are with those of the batches
-abbrev pub TellsBatches : Limits → Schema → List KeptEntry → List BatchRows → List ℕ → Type 0
-TellsBatches limits s kept batches x = (o : InForce) → IsInForce s kept o
+abbrev pub DenotesBatches : Limits → Schema → List KeptEntry → List BatchRows → List ℕ → Type 0
+DenotesBatches limits s kept batches x = (o : InForce) → IsInForce s kept o
     → (τ : InForce) × (IsInForce s (kept_after s.fields kept batches) τ
     × Run limits (Some o) x (map batch batches) (Some τ))
 
 -- x is messages that report a table and lead to a state in which the values that its batches sent
 -- are in force
-abbrev pub TellsTable : Limits → Table → List ℕ → Type 0
-TellsTable limits t x = (τ : InForce)
-    × (IsInForce t.schema (kept_after t.schema.fields (none_sent t.schema) t.batches) τ
+abbrev pub DenotesTable : Limits → Table → List ℕ → Type 0
+DenotesTable limits t x = (τ : InForce)
+    × (IsInForce t.schema (kept_after t.schema.fields (kept_at_start t.schema) t.batches) τ
     × Run limits None x (events_of t) (Some τ))
 
 -- x is one message, which sets the dictionary with this id to the values of these rows, whatever
@@ -68,10 +69,10 @@ pub record SendsBatch (limits : Limits) (s : Schema) (kept : List KeptEntry) (b 
   pub dictionaries : List ℕ
   pub own : List ℕ
   pub bytes : x ≡ dictionaries ++ own
-  pub set : DictionaryMessages limits s (needed s.fields b.rows kept) dictionaries
+  pub set : DictionaryMessages limits s (dictionaries_to_send s.fields b.rows kept) dictionaries
   pub told : (o : InForce) → IsInForce s (sent_after s.fields b.rows kept) o
       → IsMessage limits (Some o) own (batch b ∷ []) (Some o)
-  pub in_turn : TellsBatches limits s kept (b ∷ []) x
+  pub in_turn : DenotesBatches limits s kept (b ∷ []) x
 
 -- x is the messages of several batches (`SendsBatch`), one after another
 pub data SendsBatches (limits : Limits) (s : Schema) : List KeptEntry → List BatchRows → List ℕ
@@ -88,11 +89,11 @@ pub record SendsTable (limits : Limits) (t : Table) (x : List ℕ) : Type 0 wher
   pub rest : List ℕ
   pub bytes : x ≡ front ++ rest
   pub opens : OpensStream limits t.schema front
-  pub sends : SendsBatches limits t.schema (none_sent t.schema) t.batches rest
+  pub sends : SendsBatches limits t.schema (kept_at_start t.schema) t.batches rest
 
 -- x is the messages of a table (`SendsTable`) and the end mark
 abbrev pub SendsStream : Limits → Table → List ℕ → Type 0
-SendsStream limits t x = (y : List ℕ) × (x ≡ y ++ eos) × SendsTable limits t y
+SendsStream limits t x = (y : List ℕ) × (x ≡ y ++ end_of_stream) × SendsTable limits t y
 
 -- the state after the messages of the first `count` events of a table: nothing, or the schema with
 -- the values that the batches sent of each dictionary
@@ -100,13 +101,13 @@ abbrev pub IsStateOf : Table → ℕ → State → Type 0
 IsStateOf t zero σ = σ ≡ None
 IsStateOf t (suc count) None = ⊥
 IsStateOf t (suc count) (Some o) = IsInForce t.schema
-    (kept_after t.schema.fields (none_sent t.schema) (take count t.batches)) o
+    (kept_after t.schema.fields (kept_at_start t.schema) (take count t.batches)) o
 
 -- the distinct values that rows have of each dictionary: each index type of its fields can address
 -- them, and as the column of one message they are within the limits. So is the metadata of that
 -- message
 pub record AreDictionariesWithin (limits : Limits) (fields : List Field)
     (rows : List (List Value)) : Type 0 where
-  pub counted : AllFit (tallied fields rows)
-  pub lengths : AllWithin limits fields (tallied fields rows)
+  pub counted : AllFit (tally_of_rows fields rows)
+  pub lengths : AllWithin limits fields (tally_of_rows fields rows)
   pub short_messages : HaveShortMessages limits fields

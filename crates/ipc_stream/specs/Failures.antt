@@ -1,7 +1,7 @@
 -- How a device counts its failures.
 use Rattle.std.specs.Prelude.{◌≡◌, ℕ, Bool, true, false, List, [], Option, Some, None, Result}
 use Rattle.std.specs.Prelude.{MatchResult}
-pub use Rattle.ipc_frame.specs.Failures.{Counts}
+pub use Rattle.ipc_frame.specs.Failures.{CountsFailures}
 
 -- 1 if the flag is set, else the count of the device below
 abbrev pub count_or : Bool → ℕ → ℕ

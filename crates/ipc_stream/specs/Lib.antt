@@ -6,6 +6,6 @@ pub mod Texts
 pub mod Writer
 pub mod Parts
 pub mod Messages
-pub mod Pushed
+pub mod PendingBatches
 pub mod RoundTrip
 pub mod Progress

@@ -7,18 +7,19 @@ use Rattle.ipc_stream.specs.declared.message.Message.{Message}
 use Rattle.ipc_stream.specs.Dictionaries.{IsDictionaryMessage}
 
 -- all bytes of a message: those before the body, and the body
-abbrev pub bytes_of : Message → List ℕ
-bytes_of message = message.front.items ++ message.body.items
+abbrev pub message_bytes : Message → List ℕ
+message_bytes message = message.front.items ++ message.body.items
 
 -- the bytes of messages, one after another
 abbrev pub all_bytes : List Message → List ℕ
 all_bytes [] = []
-all_bytes (message ∷ more) = bytes_of message ++ all_bytes more
+all_bytes (message ∷ more) = message_bytes message ++ all_bytes more
 
 -- a message sets the dictionary with the id to the values of these rows (Arrow Columnar Format,
 -- "Dictionary Messages")
 abbrev pub SetsDictionary : Limits → Schema → ℤ → List (List Value) → Message → Type 0
-SetsDictionary limits s id rows message = IsDictionaryMessage limits s (id, rows) (bytes_of message)
+SetsDictionary limits s id rows message = IsDictionaryMessage limits s (id, rows)
+    (message_bytes message)
 
 -- each of the messages sets the dictionary of the id and rows at its index
 abbrev pub SetDictionaries : Limits → Schema → List (ℤ × List (List Value)) → List Message → Type 0

@@ -9,11 +9,11 @@ use Rattle.ipc_model.specs.declared.schema.Field.{Field}
 use Rattle.ipc_model.specs.declared.schema.Schema.{Schema}
 use Rattle.ipc_model.specs.declared.value.Value.{Value}
 use Rattle.ipc_encode.specs.Limits.{IsWithin}
-use Rattle.ipc_dictionaries.specs.Applied.{Applied}
-use Rattle.ipc_dictionaries.specs.ValuesColumns.{IsOneColumn, columns_for, columns_in}
+use Rattle.ipc_dict_read.specs.DictionariesState.{DictionariesState}
+use Rattle.ipc_dict_read.specs.ValuesColumns.{IsOneColumn, columns_for, dictionary_columns}
 use Rattle.ipc_dict.specs.declared.kept.KeptEntry.{KeptEntry}
 use Rattle.ipc_dict.specs.declared.seed.Seed.{Seed}
-use Rattle.ipc_dict.specs.Planned.{Planned}
+use Rattle.ipc_dict.specs.PlanState.{PlanState}
 use Rattle.ipc_dict.specs.Planning.{after_all}
 use Rattle.ipc_dict.specs.SchemaIds.{ids_of, kept_ids, tally_ids}
 use Rattle.ipc_dict.specs.Sending.{AreCounted}
@@ -21,7 +21,7 @@ use Rattle.ipc_dict.specs.Within.{dictionary_room_of}
 
 -- a stream whose schema was sent: its limits, its schema, the values that were sent of each
 -- dictionary, and the seed of the hashes of values
-pub record Opened : Type 0 where
+pub record OpenStreamState : Type 0 where
   pub limits : Limits
   pub schema : Schema
   pub kept : List KeptEntry
@@ -29,10 +29,10 @@ pub record Opened : Type 0 where
 
 -- the schema is well formed, these are the columns of its dictionaries, and `kept` has an entry for
 -- each of them. Each index type of the fields can address the values that were sent
-pub record IsGoingOn (limits : Limits) (s : Schema) (columns : Applied)
+pub record IsGoingOn (limits : Limits) (s : Schema) (columns : DictionariesState)
     (kept : List KeptEntry) : Type 0 where
   pub well_formed : WellFormed limits s
-  pub columns_are : columns.columns ≡ columns_in s.fields
+  pub columns_are : columns.columns ≡ dictionary_columns s.fields
   pub ids : kept_ids kept ≡ ids_of s.fields
   pub counted : AreCounted s.fields kept
 
@@ -40,7 +40,7 @@ pub record IsGoingOn (limits : Limits) (s : Schema) (columns : Applied)
 -- and they and the message's metadata are within the limits
 pub record CanBeSent (limits : Limits) (s : Schema) (send : ℤ × List (List Value)) : Type 0 where
   pub columns : List Field
-  pub named : columns_for (columns_in s.fields) send.0 ≡ Some columns
+  pub named : columns_for (dictionary_columns s.fields) send.0 ≡ Some columns
   pub one : IsOneColumn columns
   pub fine : AllByRecursion (IsFieldWellFormed limits) (entries columns)
   pub fit : AllByRecursion (RowFits columns) send.1
@@ -48,6 +48,6 @@ pub record CanBeSent (limits : Limits) (s : Schema) (send : ℤ × List (List Va
   pub short : dictionary_room_of columns ≤ limits.metadata
 
 -- a plan changes the values sent from the old to the new
-pub record Leads (old new : List KeptEntry) (plan : Planned) : Type 0 where
+pub record Leads (old new : List KeptEntry) (plan : PlanState) : Type 0 where
   pub ids : kept_ids old ≡ tally_ids plan.entries
   pub after : after_all old plan.entries plan.numbers ≡ new

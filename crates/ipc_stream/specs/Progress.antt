@@ -6,11 +6,11 @@ use Rattle.ipc_model.specs.declared.fault.Fault.{Fault}
 use Rattle.ipc_model.specs.declared.limits.Limits.{Limits}
 use Rattle.ipc_model.specs.declared.schema.Schema.{Schema}
 use Rattle.ipc_model.specs.declared.table.BatchRows.{BatchRows}
-use Rattle.ipc_decode.specs.declared.end.End.{End}
-use Rattle.ipc_decode.specs.Counts.{count_up}
-use Rattle.ipc_decode.specs.Decoding.{TellsLast}
-use Rattle.ipc_decode.specs.Reasons.{Reads}
-use Rattle.ipc_decode.specs.Stream.{State, Run, schema, batch}
+use Rattle.ipc_stream_read.specs.declared.end.End.{End}
+use Rattle.ipc_stream_read.specs.Counts.{count_up}
+use Rattle.ipc_stream_read.specs.Decoding.{ReportsLastEvent}
+use Rattle.ipc_stream_read.specs.Reasons.{Reads}
+use Rattle.ipc_stream_read.specs.Stream.{State, Run, schema, batch}
 
 -- what is reported after a batch: how many bytes were taken so far, and how many batches and rows
 -- are done
@@ -20,10 +20,10 @@ pub record Report : Type 0 where
   pub rows : ℕ
 
 -- these reports were added to those before; nothing is stated if they are not kept
-abbrev pub Told : Option (List Report) → Option (List Report) → List Report → Type 0
-Told None new reports = ⊤
-Told (Some old) None reports = ⊥
-Told (Some old) (Some new) reports = new ≡ old ++ reports
+abbrev pub AreAppended : Option (List Report) → Option (List Report) → List Report → Type 0
+AreAppended None new reports = ⊤
+AreAppended (Some old) None reports = ⊥
+AreAppended (Some old) (Some new) reports = new ≡ old ++ reports
 
 -- how many rows batches have together
 abbrev pub all_rows : List BatchRows → ℕ
@@ -47,7 +47,8 @@ pub data AreReports (limits : Limits) : List ℕ → List BatchRows → List Rep
   opened : {x : List ℕ} {s : Schema} {σ : State} → Run limits None x (schema s ∷ []) σ
       → AreReports limits x [] [] σ
   more : {x y : List ℕ} {batches : List BatchRows} {b : BatchRows} {reports : List Report}
-      {σ τ : State} → AreReports limits x batches reports σ → TellsLast limits σ y (batch b) τ
+      {σ τ : State} → AreReports limits x batches reports σ
+      → ReportsLastEvent limits σ y (batch b) τ
       → AreReports limits (x ++ y) (batches ++ b ∷ [])
       (reports ++ report_of (x ++ y) (batches ++ b ∷ []) ∷ []) τ
 
@@ -62,7 +63,7 @@ pub record Reports (limits : Limits) (old new : Option (List ℕ))
   pub state : State
   pub bytes : Consumes old new (x ++ rest)
   pub are : AreReports limits x batches reports state
-  pub told : Told told_old told_new reports
+  pub told : AreAppended told_old told_new reports
 
 -- no batch is read from these bytes: there are none, or reading ends among them with this result
 abbrev pub HasNoBatch : Limits → State → List ℕ → Option (List ℕ) → Result End Fault → Type 0
@@ -71,7 +72,7 @@ HasNoBatch limits σ rest left answer = (rest ≡ []) ⊎ Reads limits σ rest l
 -- these bytes are the messages up to one batch's
 abbrev pub HasOneBatch : Limits → State → List ℕ → Type 0
 HasOneBatch limits σ rest =
-    (b : BatchRows) × ((τ : State) × TellsLast limits σ rest (batch b) τ)
+    (b : BatchRows) × ((τ : State) × ReportsLastEvent limits σ rest (batch b) τ)
 
 -- each batch that was read was reported, in order; if bytes were taken after the last one, reading
 -- ended among them with this result

@@ -3,19 +3,19 @@ ghost use Rattle.std.specs.Int.{w64};
 ghost use Rattle.std.specs.List.{AllByRecursion};
 ghost use Rattle.ipc_model.specs.declared.schema.Schema.{Schema};
 ghost use Rattle.ipc_model.specs.declared.table.BatchRows.{BatchRows};
-ghost use Rattle.ipc_dictionaries.specs.ValuesColumns.{columns_in};
+ghost use Rattle.ipc_dict_read.specs.ValuesColumns.{dictionary_columns};
 ghost use Rattle.ipc_dict.specs.SchemaIds.{ids_of, tally_ids};
 ghost use Rattle.ipc_dict.specs.Sending.{AreAddressed, sent_after};
 ghost use Rattle.ipc_stream.specs.Dictionaries.{SendsBatch};
 ghost use Rattle.ipc_stream.specs.Messages.{AddsDictionary, SetDictionaries, all_bytes};
 ghost use Rattle.ipc_stream.specs.OpenStreams.{CanBeSent, IsGoingOn, Leads};
-ghost use Rattle.ipc_stream.specs.Pushed.{HoldsBatch};
+ghost use Rattle.ipc_stream.specs.PendingBatches.{HoldsBatch};
 
 use crate::message::Message;
 use crate::messages::{dictionary_message, parts_message};
-use crate::pushed::PushedRows;
+use crate::pending_batch::PendingBatch;
 use ipc_dict::{Dictionaries, Kept, Plan};
-use ipc_encode::Room;
+use ipc_encode::BufferPool;
 use ipc_model::{Items, Limits, Row, WriteFault};
 use std::alloc::Global;
 
@@ -25,7 +25,7 @@ use std::alloc::Global;
 pub struct BatchMessages {
     messages: Vec<Message>,
     // The lists of the columns.
-    room: Room,
+    room: BufferPool,
 }
 
 impl BatchMessages {
@@ -37,7 +37,7 @@ impl BatchMessages {
     }
 
     /// Returns the memory of its lists, for use by the next batch.
-    pub(crate) fn into_room(self) -> Room {
+    pub(crate) fn into_pool(self) -> BufferPool {
         let BatchMessages { messages, mut room } = self;
         let mut messages = messages;
         if let Some(last) = messages.pop() {
@@ -63,10 +63,10 @@ fn add_dictionary(
     send: &(i64, Items<Row>),
     messages: &mut Vec<Message>,
 ) -> Result<(), WriteFault>
-    ensures set { (s : Schema) → columns.now.columns ≡ columns_in s.fields
+    ensures set { (s : Schema) → columns.now.columns ≡ dictionary_columns s.fields
         → CanBeSent limits.now s send.now
         → OnOk result (AddsDictionary limits.now s send.now messages.old.items messages.new.items) }
-    ensures only { (s : Schema) → columns.now.columns ≡ columns_in s.fields
+    ensures only { (s : Schema) → columns.now.columns ≡ dictionary_columns s.fields
         → CanBeSent limits.now s send.now
         → IfErr result (λ fault. fault ≡ WriteFault.OutOfMemory) }
 {
@@ -86,10 +86,10 @@ pub(crate) fn dictionary_messages(
     columns: &Dictionaries,
     sends: &[(i64, Items<Row>)],
 ) -> Result<Vec<Message>, WriteFault>
-    ensures set { (s : Schema) → columns.now.columns ≡ columns_in s.fields
+    ensures set { (s : Schema) → columns.now.columns ≡ dictionary_columns s.fields
         → AllByRecursion (CanBeSent limits.now s) sends.now
         → IfOk result (λ messages. SetDictionaries limits.now s sends.now messages.items) }
-    ensures only { (s : Schema) → columns.now.columns ≡ columns_in s.fields
+    ensures only { (s : Schema) → columns.now.columns ≡ dictionary_columns s.fields
         → AllByRecursion (CanBeSent limits.now s) sends.now
         → IfErr result (λ fault. fault ≡ WriteFault.OutOfMemory) }
 {
@@ -107,7 +107,7 @@ pub fn held_messages(
     limits: &Limits,
     columns: &Dictionaries,
     kept: &Kept,
-    held: PushedRows,
+    held: PendingBatch,
 ) -> Result<(BatchMessages, Plan), WriteFault>
     ensures messages { (s : Schema) (b : BatchRows) → IsGoingOn limits.now s columns.now kept.now
         → HoldsBatch limits.now s b held
@@ -122,7 +122,7 @@ pub fn held_messages(
     ensures ids { IfOk result (λ r. tally_ids r.1.entries ≡ ids_of held.tally.fields) }
     ensures addressed { IfOk result (λ r. AreAddressed held.tally.fields r.1.entries) }
 {
-    let PushedRows {
+    let PendingBatch {
         builder,
         tally,
         pairs,

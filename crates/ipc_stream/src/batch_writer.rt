@@ -2,13 +2,13 @@ ghost use Rattle.std.specs.Prelude.{◌≡◌, Err, IfErr, IfOk, MatchResult, tr
 ghost use Rattle.std.specs.Coded.{Coded-set};
 ghost use Rattle.ipc_model.specs.contracts.limits.Limits as bounds;
 ghost use Rattle.ipc_model.specs.declared.table.BatchRows.{BatchRows};
-ghost use Rattle.ipc_stream.specs.Pushed.{HoldsBatch, RefusesHeld, Stays, StaysAt};
-ghost use Rattle.ipc_stream.specs.Pushed.{coded_fields, no_rows, with_row};
+ghost use Rattle.ipc_stream.specs.PendingBatches.{HoldsBatch, RefusesPending, Stays, StaysAt};
+ghost use Rattle.ipc_stream.specs.PendingBatches.{coded_fields, no_rows, with_row};
 ghost use Rattle.ipc_stream.specs.Writer.{LeavesBatch};
 ghost use Rattle.ipc_stream.specs.Writing.{AcceptsBatch, RefusesBatch};
 
-use crate::held::Held;
-use crate::pushed::PushedRows;
+use crate::pending_batch::PendingBatch;
+use crate::pending_rows::PendingRows;
 use crate::sink::Sink;
 use crate::writer::StreamWriter;
 use ipc_model::{Items, Text, Value, WriteFault};
@@ -19,7 +19,7 @@ use ipc_model::{Items, Text, Value, WriteFault};
 /// It holds the pairs of the batch and the rows that were pushed and not refused. Nothing is sent
 /// before `send`. A batch that is dropped leaves the writer as it was. The exception is W11: after
 /// it each call of the writer returns W10.
-pub struct BatchWriter<'a, W: Sink, B: Held = PushedRows> {
+pub struct BatchWriter<'a, W: Sink, B: PendingRows = PendingBatch> {
     writer: &'a mut StreamWriter<W>,
     batch: B,
     // The rows belong to the writer's stream.
@@ -27,7 +27,7 @@ pub struct BatchWriter<'a, W: Sink, B: Held = PushedRows> {
     ghost fields: { B.fields batch ≡ writer.now.schema.fields } by { Coded-set coded_fields _ _ },
 }
 
-impl<W: Sink, B: Held + Drop> Drop for BatchWriter<'_, W, B> {
+impl<W: Sink, B: PendingRows + Drop> Drop for BatchWriter<'_, W, B> {
     fn drop(self)
         ensures { self.exit.0.now ≡ self.entry.writer.now }
     {
@@ -59,7 +59,7 @@ impl<W: Sink> StreamWriter<W> {
         ensures begun { IfOk result (λ b. Stays self.old b.writer.now result) }
         ensures judged { MatchResult result
             (λ b. HoldsBatch self.old.limits self.old.schema (no_rows pairs) b.batch)
-            (λ fault. RefusesHeld self.old.limits self.old.schema (no_rows pairs) self.old.failed
+            (λ fault. RefusesPending self.old.limits self.old.schema (no_rows pairs) self.old.failed
             fault) }
         ensures failed { self.old.failed ≡ true → result ≡ Err WriteFault.Failed }
     {
@@ -97,7 +97,7 @@ impl<W: Sink> BatchWriter<'_, W> {
             → MatchResult result
             (λ _. HoldsBatch self.old.writer.now.limits self.old.writer.now.schema
             (with_row b row.now) self.new.batch)
-            (λ fault. RefusesHeld self.old.writer.now.limits self.old.writer.now.schema
+            (λ fault. RefusesPending self.old.writer.now.limits self.old.writer.now.schema
             (with_row b row.now) self.old.writer.now.failed fault) }
         ensures kept { (b : BatchRows)
             → HoldsBatch self.old.writer.now.limits self.old.writer.now.schema b self.old.batch

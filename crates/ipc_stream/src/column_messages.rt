@@ -4,12 +4,12 @@ ghost use Rattle.std.specs.List.{AllByRecursion};
 ghost use Rattle.ipc_model.specs.Fits.{RowFits};
 ghost use Rattle.ipc_dict.specs.Planning.{AllSettled, FindsAll};
 ghost use Rattle.ipc_dict.specs.SchemaIds.{ids_of, tally_ids};
-ghost use Rattle.ipc_dict.specs.Sending.{AreAddressed, sent_after, tallied};
-ghost use Rattle.ipc_encode.specs.Segments.{joined};
+ghost use Rattle.ipc_dict.specs.Sending.{AreAddressed, sent_after, tally_of_rows};
+ghost use Rattle.ipc_encode.specs.Segments.{bytes_of_segments};
 ghost use Rattle.ipc_stream.specs.Dictionaries.{AreDictionariesWithin, SendsBatch};
 ghost use Rattle.ipc_stream.specs.Messages.{all_bytes};
 ghost use Rattle.ipc_stream.specs.OpenStreams.{IsGoingOn, Leads};
-ghost use Rattle.ipc_stream.specs.Pushed.{with_rows};
+ghost use Rattle.ipc_stream.specs.PendingBatches.{with_rows};
 ghost use Rattle.ipc_stream.specs.Writing.{AcceptsBatch, RefusesBatch};
 
 use crate::batch_messages::dictionary_messages;
@@ -67,7 +67,7 @@ fn plan_columns(
     ensures within { IfOk result
         (λ plan. AreDictionariesWithin limits.now schema.now.fields batch.now.rows) }
     ensures tallied { IfOk result
-        (λ plan. plan.entries ≡ tallied schema.now.fields batch.now.rows) }
+        (λ plan. plan.entries ≡ tally_of_rows schema.now.fields batch.now.rows) }
     ensures settled { IfOk result (λ plan. AllSettled kept.now plan.entries plan.numbers) }
     ensures finds { IfOk result (λ plan. FindsAll kept.now plan.entries plan.numbers) }
     ensures ids { IfOk result (λ plan. tally_ids plan.entries ≡ ids_of schema.now.fields) }
@@ -99,7 +99,8 @@ pub(crate) fn column_messages<'a>(
     requires { IsGoingOn limits.now schema.now columns.now kept.now }
     ensures messages { IfOk result (λ r. SendsBatch limits.now schema.now kept.now
         (with_rows pairs.now batch.now.rows)
-        (all_bytes r.0.dictionaries.items ++ (r.0.front.items ++ joined r.0.segments.items))) }
+        (all_bytes r.0.dictionaries.items ++ (r.0.front.items
+        ++ bytes_of_segments r.0.segments.items))) }
     ensures sent { IfOk result
         (λ r. Leads kept.now (sent_after schema.now.fields batch.now.rows kept.now) r.1) }
     ensures judged { MatchResult result

@@ -1,23 +1,24 @@
 ghost use Rattle.std.specs.Prelude.{◌≡◌, ◌⊎◌, IfErr, IfOk, MatchResult, OnErr, OnOk, false};
 ghost use Rattle.ipc_model.specs.declared.table.BatchRows.{BatchRows};
-ghost use Rattle.ipc_dictionaries.specs.ValuesColumns.{columns_in};
+ghost use Rattle.ipc_dict_read.specs.ValuesColumns.{dictionary_columns};
 ghost use Rattle.ipc_dict.specs.Sending.{AreCounted, sent_after};
-ghost use Rattle.ipc_decode.specs.Stream.{OpensStream};
-ghost use Rattle.ipc_stream.specs.Dictionaries.{SendsBatch, none_sent};
-ghost use Rattle.ipc_stream.specs.Pushed.{BelongsTo, HoldsBatch, RefusesHeld, StaysInStream};
-ghost use Rattle.ipc_stream.specs.Pushed.{no_rows, with_row, with_rows};
+ghost use Rattle.ipc_stream_read.specs.Stream.{OpensStream};
+ghost use Rattle.ipc_stream.specs.Dictionaries.{SendsBatch, kept_at_start};
+ghost use Rattle.ipc_stream.specs.PendingBatches.{BelongsTo, HoldsBatch, RefusesPending};
+ghost use Rattle.ipc_stream.specs.PendingBatches.{StaysInStream};
+ghost use Rattle.ipc_stream.specs.PendingBatches.{no_rows, with_row, with_rows};
 ghost use Rattle.ipc_stream.specs.Writing.{AcceptsBatch, AcceptsSchema, RefusesBatch};
 ghost use Rattle.ipc_stream.specs.Writing.{RefusesSchema, Sends};
 
 use crate::batch_messages::held_messages;
 use crate::column_messages::column_messages;
 use crate::messages::schema_message;
-use crate::pushed::PushedRows;
+use crate::pending_batch::PendingBatch;
 use crate::sending::{send, send_messages, send_segmented};
 use crate::sink::Sink;
 use ipc_column::Batch;
 use ipc_dict::{Dictionaries, Kept, Seed, has_short_messages};
-use ipc_encode::Room;
+use ipc_encode::BufferPool;
 use ipc_model::{BatchRows, Items, Limits, Schema, Text, Value, WriteFault};
 use std::alloc::Global;
 use std::marker::Model;
@@ -34,7 +35,7 @@ pub(crate) struct OpenStream {
     // What was sent of each dictionary.
     kept: Kept,
     // The lists of the last batch whose rows were sent, for those of the next.
-    room: Room,
+    room: BufferPool,
     // The lists of the last batch whose columns were sent, for those of the next.
     pool: Vec<Vec<u8>>,
     // What the values of its dictionaries are hashed with.
@@ -47,9 +48,9 @@ impl Model for OpenStream {
     ghost use Rattle.ipc_model.specs.contracts.schema.Field as field;
     ghost use Rattle.ipc_dict.specs.contracts.kept.KeptEntry as entry;
     ghost use Rattle.ipc_dict.specs.contracts.seed.Seed as hashing;
-    ghost use Rattle.ipc_stream.specs.OpenStreams.{IsGoingOn, Opened};
+    ghost use Rattle.ipc_stream.specs.OpenStreams.{IsGoingOn, OpenStreamState};
 
-    ghost Value = { Opened };
+    ghost Value = { OpenStreamState };
 
     ghost coded = { Prim.hlevel
         (codes, field.the_row.coded, entry.the_row.coded, hashing.the_row.coded) };
@@ -65,8 +66,8 @@ impl Model for OpenStream {
 }
 
 // The columns by which the dictionaries of a schema are written.
-fn columns_of(alloc: Global, schema: &Schema) -> Result<Dictionaries, WriteFault>
-    ensures is { IfOk result (λ d. d.columns ≡ columns_in schema.now.fields) }
+fn dictionary_columns(alloc: Global, schema: &Schema) -> Result<Dictionaries, WriteFault>
+    ensures is { IfOk result (λ d. d.columns ≡ dictionary_columns schema.now.fields) }
     ensures memory { IfErr result (λ fault. fault ≡ WriteFault.OutOfMemory) }
 {
     match Dictionaries::new(alloc, schema) {
@@ -86,7 +87,7 @@ impl OpenStream {
         ensures opened { IfOk result (λ stream. stream ≡ record {
           limits = limits.now;
           schema = schema.now;
-          kept = none_sent schema.now;
+          kept = kept_at_start schema.now;
           seed = Seed.Fixed;
         }) }
         ensures counted { IfOk result
@@ -98,14 +99,14 @@ impl OpenStream {
     {
         let bytes = schema_message(alloc, limits, schema)?;
         let schema = schema.clone()?;
-        let columns = columns_of(alloc, &schema)?;
+        let columns = dictionary_columns(alloc, &schema)?;
         let kept = Kept::new(alloc, &schema)?;
         let stream = OpenStream {
             limits: *limits,
             schema,
             columns,
             kept,
-            room: Room::new(alloc),
+            room: BufferPool::new(alloc),
             pool: Vec::new(alloc),
             seed: Seed::Fixed,
             alloc,
@@ -125,31 +126,31 @@ impl OpenStream {
     pub(crate) fn begin_batch(
         &mut self,
         pairs: Items<(Text, Text)>,
-    ) -> Result<PushedRows, WriteFault>
+    ) -> Result<PendingBatch, WriteFault>
         ensures same { self.new ≡ self.old }
         ensures holds { IfOk result
             (HoldsBatch self.old.limits self.old.schema (no_rows pairs)) }
         ensures refused { IfErr result
-            (RefusesHeld self.old.limits self.old.schema (no_rows pairs) false) }
+            (RefusesPending self.old.limits self.old.schema (no_rows pairs) false) }
     {
         if !has_short_messages(self.alloc, &self.limits, &self.schema, &self.columns)? {
             return Err(WriteFault::TooLong);
         }
-        let room = mem::replace(&mut self.room, Room::new(self.alloc));
+        let room = mem::replace(&mut self.room, BufferPool::new(self.alloc));
         let (alloc, limits) = (self.alloc, &self.limits);
-        PushedRows::new(alloc, limits, &self.schema, pairs, room, self.seed)
+        PendingBatch::new(alloc, limits, &self.schema, pairs, room, self.seed)
     }
 
     // Takes one row more into a batch of this stream's. Nothing is sent.
     #[inline(always)]
-    pub(crate) fn push_row(&self, held: &mut PushedRows, row: &[Value]) -> Result<(), WriteFault>
+    pub(crate) fn push_row(&self, held: &mut PendingBatch, row: &[Value]) -> Result<(), WriteFault>
         ensures stays { StaysInStream held.old held.new }
         ensures holds { (b : BatchRows) → HoldsBatch self.now.limits self.now.schema b held.old
             → OnOk result
             (HoldsBatch self.now.limits self.now.schema (with_row b row.now) held.new) }
         ensures refused { (b : BatchRows) → HoldsBatch self.now.limits self.now.schema b held.old
             → IfErr result
-            (RefusesHeld self.now.limits self.now.schema (with_row b row.now) false) }
+            (RefusesPending self.now.limits self.now.schema (with_row b row.now) false) }
         ensures kept { (b : BatchRows) → HoldsBatch self.now.limits self.now.schema b held.old
             → IfErr result (λ fault. ¬ (fault ≡ WriteFault.OutOfMemory)
             → HoldsBatch self.now.limits self.now.schema b held.new) }
@@ -162,7 +163,7 @@ impl OpenStream {
     pub(crate) fn send_rows<W: Sink>(
         &mut self,
         sink: &mut W,
-        held: PushedRows,
+        held: PendingBatch,
     ) -> Result<(), WriteFault>
         requires { BelongsTo self.old.limits self.old.schema held }
         ensures sends { (b : BatchRows) → HoldsBatch self.old.limits self.old.schema b held
@@ -190,7 +191,7 @@ impl OpenStream {
         )?;
         send_messages(sink, messages.as_slice())?;
         plan.commit(&mut self.kept);
-        self.room = messages.into_room();
+        self.room = messages.into_pool();
         Ok(())
     }
 

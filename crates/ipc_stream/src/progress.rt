@@ -1,6 +1,6 @@
 //! Reports of how far a job has come.
 ghost use Rattle.std.specs.Prelude.{List, Option, None, [], ◌∷◌};
-ghost use Rattle.ipc_stream.specs.Progress.{Report, Told};
+ghost use Rattle.ipc_stream.specs.Progress.{Report, AreAppended};
 
 /// Receives a report after each batch of a job.
 pub trait Progress {
@@ -10,7 +10,7 @@ pub trait Progress {
     /// Receives a report after one more batch: the number of bytes taken from the source so far,
     /// and the numbers of batches and rows that are done. A count stops at 2^64 - 1.
     fn batch_done(&mut self, bytes: u64, batches: u64, rows: u64)
-        ensures { Told (told self.old) (told self.new)
+        ensures { AreAppended (told self.old) (told self.new)
             (record { bytes = bytes; batches = batches; rows = rows } ∷ []) };
 }
 

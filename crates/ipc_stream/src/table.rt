@@ -1,6 +1,6 @@
 ghost use Rattle.std.specs.Prelude.{◌≡◌, ◌⊎◌, [], IfErr, OnOk, Some};
 ghost use Rattle.ipc_model.specs.Fits.{TableFits};
-ghost use Rattle.ipc_decode.specs.Stream.{IsTableOf};
+ghost use Rattle.ipc_stream_read.specs.Stream.{IsTableOf};
 ghost use Rattle.ipc_stream.specs.Dictionaries.{SendsStream};
 ghost use Rattle.ipc_stream.specs.Writing.{AcceptsTable, BreaksOff, IsWithinLimits, Sent};
 

@@ -22,6 +22,7 @@ mod answer;
 mod cities;
 mod columns;
 mod cut;
+mod decoded_events;
 mod job;
 mod lines;
 mod nested;
@@ -31,7 +32,6 @@ mod report;
 mod request;
 mod requests;
 mod rows;
-mod told;
 mod values;
 mod words;
 

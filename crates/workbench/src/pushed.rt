@@ -6,11 +6,11 @@ use std::alloc::{AllocError, Global};
 use std::io::Write;
 
 // The number of different rows. They are pushed in turn.
-const MADE: u16 = 1024;
+const DISTINCT_ROWS: u16 = 1024;
 
 fn rows(alloc: Global, data: Data) -> Result<Vec<Row>, AllocError> {
     let mut rows = Vec::new(alloc);
-    for number in 0..MADE {
+    for number in 0..DISTINCT_ROWS {
         rows.push(data.row(alloc, number)?)?;
     }
     Ok(rows)
@@ -23,7 +23,7 @@ fn push_each<W: Sink>(
     count: u32,
 ) -> Result<(), WriteFault> {
     for number in 0..count {
-        if let Some(row) = rows.get(number as usize % usize::from(MADE)) {
+        if let Some(row) = rows.get(number as usize % usize::from(DISTINCT_ROWS)) {
             batch.push(row.as_slice())?;
         }
     }

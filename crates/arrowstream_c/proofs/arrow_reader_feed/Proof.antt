@@ -37,7 +37,7 @@ use denote.Triple.Clauses.{lasts}
 use denote.Triple.Spec.{triple_of}
 use denote.Triple.Table.{framed}
 use denote.Triple.Walked.{Stays, walk_of, says, stay_dropped, Goes-dropped, gave_ref, Goes-gave_ref, ends_at}
-use Rattle.ipc_session.specs.contracts.session.ReadSession as held
+use Rattle.ipc_stream_session.specs.contracts.session.ReadSession as held
 use Rattle.arrowstream_c.specs.contracts.answers.Progress as answer
 use Rattle.arrowstream_c.specs.Handles.{is_held_at}
 use Rattle.arrowstream_c.specs.Calls.{Feeds}

@@ -34,8 +34,8 @@ use denote.Triple.Clauses.{lasts}
 use denote.Triple.Spec.{triple_of}
 use denote.Triple.Table.{framed}
 use denote.Triple.Walked.{Stays, walk_of, stay_dropped, ends_at}
-use Rattle.ipc_session.specs.contracts.session.ReadSession as held
-use Rattle.ipc_session.proofs.session.ReadSession.TheLaws as held_laws
+use Rattle.ipc_stream_session.specs.contracts.session.ReadSession as held
+use Rattle.ipc_stream_session.proofs.session.ReadSession.TheLaws as held_laws
 use Rattle.arrowstream_c.specs.Handles.{is_held}
 use Rattle.arrowstream_c.specs.contracts.block.Block as block
 use Rattle.arrowstream_c.proofs.block.Block.TheLaws as laws

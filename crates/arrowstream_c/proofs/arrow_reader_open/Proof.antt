@@ -36,12 +36,12 @@ use denote.Triple.Clauses.{lasts}
 use denote.Triple.Spec.{triple_of}
 use denote.Triple.Table.{framed}
 use denote.Triple.Walked.{Stays, walk_of, says, stay_dropped, Goes-dropped, stay_ref, Goes-ref, ends_at}
-use Rattle.ipc_session.specs.contracts.session.ReadSession as held
+use Rattle.ipc_stream_session.specs.contracts.session.ReadSession as held
 use Rattle.arrowstream_c.specs.contracts.reader.ReaderHandle as handle
 use Rattle.arrowstream_c.proofs.reader.ReaderHandle.TheLaws as handle_laws
 use Rattle.arrowstream_c.specs.contracts.answers.ReadLimits as parameter
 use Rattle.arrowstream_c.specs.Handles.{held_or_null}
-use Rattle.arrowstream_c.specs.Calls.{Opens}
+use Rattle.arrowstream_c.specs.Calls.{OpensReader}
 use Rattle.arrowstream_c.specs.contracts.arrow_reader_open as f
 use Rattle.arrowstream_c.proofs.arrow_reader_open.Statement.{statement}
 use Rattle.arrowstream_c.proofs.arrow_reader_open.Code as code
@@ -102,7 +102,8 @@ arrow_reader_open_spec 𝓤 𝓛 𝓜 𝓡 wired =
     wired)) z
     (and_then ! (get ! refl) (and_then ! (get ! refl) (no_more !))) (λ v.
     use1 𝓛 (later (some (λ (r : H.Denot). ((‵ (flft κs.0 qs.0) ⊛ ‵ ftrue) ⊛ ‵ (H.own_val r (v ∷ []))) ⊛
-    some (λ (ws : Unit {0} × (Unit {0} × Unit {0})). ‵ (lasts g.ended z.0.0 z.0.3 ws) ⊛ raw (fact 𝓤 (Opens asked.now r.held)))))) (id⊢ 𝓤
+    some (λ (ws : Unit {0} × (Unit {0} × Unit {0})). ‵ (lasts g.ended z.0.0 z.0.3 ws) ⊛ raw (fact 𝓤 (OpensReader asked.now r.held))))))
+    (id⊢ 𝓤
     _) $
     await ! tt $ pick ! (λ r. split ! $ split ! $ move ! (2 ∷ []) $ pick ! (λ ws. split ! $ drop ! $ heard ! _ (λ made. move ! (1 ∷ []) $
     -- [what was made; the token of the limits; out; its token]
@@ -125,5 +126,5 @@ arrow_reader_open_spec 𝓤 𝓛 𝓜 𝓡 wired =
     nothing ! $ move ! (1 ∷ 0 ∷ []) $ join ! $ nothing ! $ join ! $ nothing ! $ join ! $
     move ! (3 ∷ []) $ split ! $ move ! (3 ∷ 1 ∷ []) $ join ! $ move ! (1 ∷ 0 ∷ []) $ join ! $
     feq_i ! (List Val) (vunit ∷ []) (vunit ∷ []) refl $ move ! (1 ∷ 2 ∷ 0 ∷ []) $ group ! 3 $
-    frame ! $ show ! (λ (made : Option R.Denot). sep 𝓤 (sem 𝓛 (held_or_null R r.at made)) (fact 𝓤 (Opens asked.now made))) r.held $
+    frame ! $ show ! (λ (made : Option R.Denot). sep 𝓤 (sem 𝓛 (held_or_null R r.at made)) (fact 𝓤 (OpensReader asked.now made))) r.held $
     says ! made $ done !)))))))))

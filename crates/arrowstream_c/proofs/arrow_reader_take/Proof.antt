@@ -41,10 +41,10 @@ use denote.Triple.Clauses.{lasts}
 use denote.Triple.Spec.{triple_of}
 use denote.Triple.Table.{framed}
 use denote.Triple.Walked.{Stays, walk_of, says, stay_dropped, stay_ref, Goes-ref, ends_at}
-use Rattle.ipc_session.specs.contracts.session.ReadSession as held
-use Rattle.ipc_session.specs.contracts.batch.ReadBatch as found
+use Rattle.ipc_stream_session.specs.contracts.session.ReadSession as held
+use Rattle.ipc_stream_session.specs.contracts.batch.ReadBatch as found
 use Rattle.arrowstream_c.specs.Handles.{is_held_at, held_or_null}
-use Rattle.arrowstream_c.specs.Calls.{Takes}
+use Rattle.arrowstream_c.specs.Calls.{TakesBatch}
 use Rattle.arrowstream_c.specs.contracts.batch.BatchHandle as handle
 use Rattle.arrowstream_c.proofs.batch.BatchHandle.TheLaws as handle_laws
 use Rattle.arrowstream_c.specs.contracts.arrow_reader_take as f
@@ -117,7 +117,7 @@ arrow_reader_take_spec 𝓤 𝓛 𝓜 𝓡 wired =
     (and_then ! (get ! refl) (and_then ! (get ! refl) (no_more !))) (λ v.
     use1 𝓛 (later (some (λ (r : H.Denot). ((‵ (flft κ' full_share) ⊛ ‵ ftrue) ⊛ ‵ (H.own_val r (v ∷ []))) ⊛
     some (λ (ws : Unit {0} × (R.Denot × Unit {0})). ‵ (lasts g.ended z.0.0 z.0.3 ws) ⊛
-    raw (fact 𝓤 (Takes x ws.1.0 r.held)))))) (id⊢ 𝓤 _) $
+    raw (fact 𝓤 (TakesBatch x ws.1.0 r.held)))))) (id⊢ 𝓤 _) $
     await ! tt $ pick ! (λ r. split ! $ split ! $ split ! $ lft_end ! tt $ move ! (3 ∷ []) $
     pick ! (λ ws. split ! $ move ! (1 ∷ []) $ heard ! _ (λ made. fsplit ! $ drop ! $ fsplit ! $ fsplit ! $
     -- [the last value; its borrow; true; κ' is over; true; what was made; the lender's part; the token of out; out; the right to free]
@@ -143,8 +143,8 @@ arrow_reader_take_spec 𝓤 𝓛 𝓜 𝓡 wired =
     feq_i ! (List Val) (vunit ∷ []) (vunit ∷ []) refl $ move ! (1 ∷ 2 ∷ 0 ∷ []) $ group ! 3 $ frame ! $
     -- [what the new pointer owns; the value; the right to free]
     show ! (λ (is : R.Denot). ex 𝓤 (λ (found : Option F.Denot). sep 𝓤 (sem 𝓛 (is_held_at R (block_ptr b o) is))
-    (sep 𝓤 (sem 𝓛 (held_or_null F r.at found)) (fact 𝓤 (Takes x is found))))) ws.1.0 $
+    (sep 𝓤 (sem 𝓛 (held_or_null F r.at found)) (fact 𝓤 (TakesBatch x is found))))) ws.1.0 $
     show ! (λ (found : Option F.Denot). sep 𝓤 (sem 𝓛 (is_held_at R (block_ptr b o) ws.1.0))
-    (sep 𝓤 (sem 𝓛 (held_or_null F r.at found)) (fact 𝓤 (Takes x ws.1.0 found)))) r.held $
+    (sep 𝓤 (sem 𝓛 (held_or_null F r.at found)) (fact 𝓤 (TakesBatch x ws.1.0 found)))) r.held $
     move ! (1 ∷ 2 ∷ []) $ fjoin ! $ fpack ! Global (λ d. box_owns (ghosts.dealloc_token d) R (block_ptr b o) ws.1.0) h $ frame ! $ says !
     made $ done !)))))))))))))

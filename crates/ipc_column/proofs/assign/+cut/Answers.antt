@@ -1,7 +1,7 @@
 use Rattle.std.proofs.Common.{◌∙◌, sym, ap, rules, arith}
 use Rattle.ipc_model.specs.declared.schema.Field.TheViews.{the_lemmas}
 use Rattle.ipc_column.specs.DictionaryBatches.{dictionaries_in}
-use Rattle.ipc_column.specs.Views.{columns}
+use Rattle.ipc_column.specs.Views.{part_columns}
 use Rattle.ipc_column.specs.Columns.{Columns, beside}
 use Rattle.ipc_column.proofs.Fields.{nodes_from, buffers_from, nodes_done, buffers_done, cut_step, cut_done, beside_none}
 use Rattle.ipc_column.proofs.assign.+cut.Goals as goal
@@ -41,8 +41,8 @@ assign_buffers-loop-field-preserved t c =
 
 pub assign_buffers-returns-clause-parts : goal.assign_buffers-returns-clause-parts
 assign_buffers-returns-clause-parts t c = λ body.
-    sym (beside_none (columns body c.loop-field.parts.items)) ∙
-    (ap (λ (ds : Columns). beside (columns body c.loop-field.parts.items) ds)
+    sym (beside_none (part_columns body c.loop-field.parts.items)) ∙
+    (ap (λ (ds : Columns). beside (part_columns body c.loop-field.parts.items) ds)
     (sym (cut_done (dictionaries_in c.args.dictionaries.now) c.args.fields.now c.loop-field.field-index c.args.head.now body
     c.loop-field.place.node c.loop-field.place.buffer
     (omega arith)))

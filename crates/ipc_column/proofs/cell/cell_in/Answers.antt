@@ -1,7 +1,7 @@
-use Rattle.ipc_column.specs.Views.{columns}
+use Rattle.ipc_column.specs.Views.{part_columns}
 use Rattle.ipc_column.proofs.Slots.{row_values}
 use Rattle.ipc_column.proofs.cell.cell_in.Goals as goal
 
 pub value_at-requires-clause-values : goal.value_at-requires-clause-values
 value_at-requires-clause-values c =
-    row_values (columns c.args.body.now c.args.parts.now) c.args.rows c.args.at c.requires.row c.requires.holds
+    row_values (part_columns c.args.body.now c.args.parts.now) c.args.rows c.args.at c.requires.row c.requires.holds

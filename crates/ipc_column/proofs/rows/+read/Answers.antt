@@ -3,7 +3,7 @@ use Rattle.std.proofs.lemmas.List.{take_all}
 use Rattle.ipc_model.specs.declared.value.Value.{Value}
 use Rattle.ipc_column.specs.declared.ranges.ColumnRanges.TheViews.{the_lemmas, out-ColumnRanges}
 use Rattle.ipc_column.specs.Values.{row, items, first_at}
-use Rattle.ipc_column.specs.Views.{columns, own_column}
+use Rattle.ipc_column.specs.Views.{part_columns, own_column}
 use Rattle.ipc_column.proofs.Cells.{row_cell, row_more, row_length, items_more}
 use Rattle.ipc_column.proofs.Slots.{slot_value, part_stands, stands_bytes, list_values, fixed_values, struct_values}
 use Rattle.ipc_column.proofs.Slots.{nested_struct}
@@ -20,7 +20,7 @@ read_first-read_slot-requires t c =
 
 pub read_items-loop-at-preserved : goal.read_items-loop-at-preserved
 read_items-loop-at-preserved t c =
-    let f = first_at (columns c.args.body.now c.args.parts.now) in
+    let f = first_at (part_columns c.args.body.now c.args.parts.now) in
     c.in_ok-push.ensures.items
     ∙ (ap (λ (xs : List Value). xs ++ c.in_ok-read_first.field-0 ∷ []) c.loop-at.invariant
     ∙ (ap (λ (v : Value). items f c.args.from c.loop-at.at ++ v ∷ []) c.in_ok-read_first.ensures
@@ -44,7 +44,7 @@ read_slot-read_items-requires t c = (
   search (rules, the_lemmas),
   rw (c.deref.ensures.value, c.place_at-first.ensures, c.place_at-end.ensures, c.bytes_at-offsets.ensures)
       (list_values (own_column c.args.body.now c.args.part.now)
-      (columns c.args.body.now (out-ColumnRanges c.args.part.now).children.items) c.args.slot
+      (part_columns c.args.body.now (out-ColumnRanges c.args.part.now).children.items) c.args.slot
       (part_stands c.args.body.now c.args.part.now c.args.slot c.requires) c.in-Lists.is
       (sym c.is_valid_in.ensures ∙ c.if-not-is_valid_in.false)),
 )
@@ -62,7 +62,7 @@ read_slot-read_items-requires-in-FixedLists t c =
       rw c.deref-in-FixedLists-2.ensures.value
           (fixed_have c.args.body.now (out-ColumnRanges c.args.part.now).children.items c.in-FixedLists.size c.args.slot
           c.fixed_place-first.result (rw c.deref-in-FixedLists.ensures.value at c.fixed_place-first.ensures.some)
-          (fixed_values (columns c.args.body.now (out-ColumnRanges c.args.part.now).children.items) c.in-FixedLists.size
+          (fixed_values (part_columns c.args.body.now (out-ColumnRanges c.args.part.now).children.items) c.in-FixedLists.size
           (out-ColumnRanges c.args.part.now).slots c.args.slot s.slot (rw c.in-FixedLists.is at s.long.long) s.sound
           (rw c.in-FixedLists.is at (s.good (sym c.is_valid_in.ensures ∙ c.if-not-is_valid_in.false))))),
     )
@@ -82,7 +82,7 @@ read_slot-read_values-requires t c =
     c.in_default.not-Lists c.in_default.not-FixedLists in (
       search (rules, the_lemmas),
       rw c.deref-in_default.ensures.value
-          (struct_values (columns c.args.body.now (out-ColumnRanges c.args.part.now).children.items)
+          (struct_values (part_columns c.args.body.now (out-ColumnRanges c.args.part.now).children.items)
           (out-ColumnRanges c.args.part.now).slots
           c.args.slot s.slot (rw e at s.long.long) s.sound (rw e at (s.good (sym c.is_valid_in.ensures ∙ c.if-not-is_valid_in.false)))),
     )
@@ -98,7 +98,7 @@ read_values-read_slot-requires t c = (
 pub read_values-loop-part-preserved : goal.read_values-loop-part-preserved
 read_values-loop-part-preserved t c =
     let size = row_length c.args.body.now c.args.parts.now c.args.slot in
-    row_more (row (columns c.args.body.now c.args.parts.now) c.args.slot) _ _ c.loop-part.part-index c.in_ok-read_slot.field-0
+    row_more (row (part_columns c.args.body.now c.args.parts.now) c.args.slot) _ _ c.loop-part.part-index c.in_ok-read_slot.field-0
     (omega (arith, size))
     (row_cell c.args.body.now c.args.parts.now c.args.slot c.loop-part.part-index c.part-item.result (omega arith) c.part-item.is
     ∙ ap (λ (v : Value). Some v) (sym c.in_ok-read_slot.ensures)) c.loop-part.invariant c.in_ok-push.ensures.items
@@ -107,4 +107,4 @@ pub read_values-returns : goal.read_values-returns
 read_values-returns t c =
     let size = row_length c.args.body.now c.args.parts.now c.args.slot in
     c.from_vec.ensures ∙ c.loop-part.invariant
-    ∙ take_all c.loop-part.part-index (row (columns c.args.body.now c.args.parts.now) c.args.slot) (omega (arith, size))
+    ∙ take_all c.loop-part.part-index (row (part_columns c.args.body.now c.args.parts.now) c.args.slot) (omega (arith, size))

@@ -1,6 +1,6 @@
 use Rattle.std.proofs.Common.{◌∙◌, sym, ap, Some, arith, ◌+◌, Result, Ok, Err, IfOk}
 use Rattle.ipc_model.specs.declared.value.Value.{Value}
-use Rattle.ipc_column.specs.Views.{columns}
+use Rattle.ipc_column.specs.Views.{part_columns}
 use Rattle.ipc_column.proofs.Cells.{row_cell}
 use Rattle.ipc_column.proofs.Slots.{row_values, slot_value}
 use Rattle.ipc_column.proofs.rows.read_value.Goals as goal
@@ -9,7 +9,7 @@ pub read_slot-requires : goal.read_slot-requires
 read_slot-requires c =
     slot_value c.args.body.now c.args.parts.now c.args.at (c.args.at + 1) c.args.at c.args.i c.index-parts-i.result c.requires.inside
     c.index-parts-i.is (omega arith) (omega arith)
-    (row_values (columns c.args.body.now c.args.parts.now) c.args.rows c.args.at c.requires.row c.requires.holds)
+    (row_values (part_columns c.args.body.now c.args.parts.now) c.args.rows c.args.at c.requires.row c.requires.holds)
 
 pub returns : goal.returns
 returns c =

@@ -2,10 +2,10 @@ use Rattle.std.proofs.Common.{sym, subst, ap, ◌∙◌, ℕ, List, Some, ◌<�
 use Rattle.std.specs.Prelude.{slice_get}
 use Rattle.ipc_model.specs.declared.layout.Layout.{Layout}
 use Rattle.ipc_column.specs.Lent.{AreOfColumn}
-use Rattle.ipc_column.specs.Nested.{Nested, alone, slot_values}
+use Rattle.ipc_column.specs.Nested.{Nested, only_column, slot_values}
 use Rattle.ipc_column.specs.Rules.{SpellsTexts}
 use Rattle.ipc_column.specs.Values.{rows_of}
-use Rattle.ipc_column.specs.Views.{columns}
+use Rattle.ipc_column.specs.Views.{part_columns}
 use Rattle.ipc_column.proofs.Leads.{nested_at}
 use Rattle.ipc_column.proofs.Lent.{layout_at, nested_layouts, slots_found, slots_texts, slots_values}
 use Rattle.ipc_column.proofs.slot_view.slots_in.Goals as goal
@@ -28,13 +28,13 @@ returns-clause-layout c =
 
 pub returns-clause-values : goal.returns-clause-values
 returns-clause-values c =
-    subst (λ (n : Nested). AreOfColumn (rows_of (columns c.args.body.now c.args.parts.now) c.args.rows) c.args.column (slot_values n))
+    subst (λ (n : Nested). AreOfColumn (rows_of (part_columns c.args.body.now c.args.parts.now) c.args.rows) c.args.column (slot_values n))
     (sym c.slots_of.ensures)
     (slots_values c.args.body.now c.args.parts.now c.args.rows c.args.column c.index-parts-column.result c.requires.column
     c.index-parts-column.is c.requires.holds)
 
 pub returns-clause-texts : goal.returns-clause-texts
 returns-clause-texts c =
-    subst (λ (n : Nested). (i : ℕ) → i < length (slot_values n) → SpellsTexts (alone n) i) (sym c.slots_of.ensures)
+    subst (λ (n : Nested). (i : ℕ) → i < length (slot_values n) → SpellsTexts (only_column n) i) (sym c.slots_of.ensures)
     (slots_texts c.args.body.now c.args.parts.now c.args.rows c.args.column c.index-parts-column.result c.requires.column
     c.index-parts-column.is c.requires.holds)

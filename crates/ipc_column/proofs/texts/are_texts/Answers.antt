@@ -29,4 +29,4 @@ returns-in-Ok c = λ e.
     let text = rw (c.start_at.ensures, c.start_at-2.ensures) at c.in-Ok.ensures in
     let less : c.args.slots - 0 ≡ c.args.slots = omega arith in
     rw less at (whole_good c.args.offsets.now c.args.values.now [] c.args.slots 0 c.args.slots c.requires.order (omega arith) (omega arith)
-    text.1 (rw text.0 at (c.are_cuts.ensures e)))
+    text.1 (rw text.0 at (c.are_char_boundaries.ensures e)))

@@ -1,6 +1,6 @@
 use Rattle.std.proofs.Common.{◌≡◌, ◌∙◌, sym, false, true, rules}
 use Rattle.ipc_column.specs.declared.ranges.ColumnRanges.TheViews.{out-ColumnRanges}
-use Rattle.ipc_column.specs.Views.{columns, own_column}
+use Rattle.ipc_column.specs.Views.{part_columns, own_column}
 use Rattle.ipc_column.specs.declared.cause.Cause.TheVariants as cause
 use Rattle.ipc_column.specs.Checks.{passes}
 use Rattle.ipc_column.proofs.Visited.{part_back, all_pass_from}
@@ -12,20 +12,20 @@ returns-then-not-in_order c =
     (rw (c.bytes_at-offsets.ensures, c.bytes_at-values.ensures, c.deref.ensures.value) at
     (sym (c.in_order.ensures c.args.body.now) ∙ c.if-not-in_order.true))
 
-pub returns-then-not-are_long : goal.returns-then-not-are_long
-returns-then-not-are_long c =
+pub returns-then-not-children_have_slots : goal.returns-then-not-children_have_slots
+returns-then-not-children_have_slots c =
     part_back (λ x cs. passes cause.BadNode x cs ≡ false) c.args.body.now c.args.part.now
-    (rw c.deref-2.ensures.value at (sym (c.are_long.ensures c.args.body.now) ∙ c.if-not-are_long.true))
+    (rw c.deref-2.ensures.value at (sym (c.children_have_slots.ensures c.args.body.now) ∙ c.if-not-children_have_slots.true))
 
 pub returns : goal.returns
 returns c =
     let bytes : passes cause.BufferTooShort (own_column c.args.body.now c.args.part.now)
-    (columns c.args.body.now (out-ColumnRanges c.args.part.now).children.items) ≡ true = search rules in
+    (part_columns c.args.body.now (out-ColumnRanges c.args.part.now).children.items) ≡ true = search rules in
     let nulls : passes cause.BadNullCount (own_column c.args.body.now c.args.part.now)
-    (columns c.args.body.now (out-ColumnRanges c.args.part.now).children.items) ≡ true = search rules in
+    (part_columns c.args.body.now (out-ColumnRanges c.args.part.now).children.items) ≡ true = search rules in
     λ why. part_back (λ x cs. passes why x cs ≡ true) c.args.body.now c.args.part.now
     (all_pass_from (own_column c.args.body.now c.args.part.now)
-    (columns c.args.body.now (out-ColumnRanges c.args.part.now).children.items) bytes nulls
+    (part_columns c.args.body.now (out-ColumnRanges c.args.part.now).children.items) bytes nulls
     (rw (c.bytes_at-offsets.ensures, c.bytes_at-values.ensures, c.deref.ensures.value) at
     (sym (c.in_order.ensures c.args.body.now) ∙ c.if-not-in_order.false))
-    (rw c.deref-2.ensures.value at (sym (c.are_long.ensures c.args.body.now) ∙ c.if-not-are_long.false)) why)
+    (rw c.deref-2.ensures.value at (sym (c.children_have_slots.ensures c.args.body.now) ∙ c.if-not-children_have_slots.false)) why)

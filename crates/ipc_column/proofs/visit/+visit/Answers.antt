@@ -1,13 +1,13 @@
 use Rattle.std.proofs.Common.{◌≡◌, ◌∙◌, sym, ap, subst, Bool, true, false, rules, arith, ◌+◌, ◌-◌, drop, length}
 use Rattle.ipc_column.specs.declared.ranges.ColumnRanges.TheViews.{the_lemmas, out-ColumnRanges}
 use Rattle.ipc_column.specs.Checks.{good, good_slot}
-use Rattle.ipc_model.specs.Layouts.{is_judged}
+use Rattle.ipc_model.specs.Layouts.{needs_slot_checks}
 use Rattle.ipc_column.specs.declared.cause.Cause.{Cause}
 use Rattle.ipc_column.specs.Columns.{Columns}
 use Rattle.std.specs.Prelude.{◌&&◌}
 use Rattle.std.proofs.lemmas.Bool.{and_left}
 use Rattle.std.proofs.lemmas.Result.{err_from_is_err_and}
-use Rattle.ipc_column.specs.Views.{columns, one, column_of, children_of}
+use Rattle.ipc_column.specs.Views.{part_columns, one, column_of, children_of}
 use Rattle.ipc_column.proofs.Goods.{slots_more, slots_fail, good_one, good_first}
 use Rattle.ipc_column.proofs.Marks.{known_good, marked_at, marked_below, unknown_below}
 use Rattle.ipc_column.proofs.Parts.{columns_from}
@@ -238,7 +238,7 @@ visit_part-visit_slots-requires t c = (
   (
     c.requires.slots,
     (
-      ap is_judged (layout_is c.args.body.now c.args.part.now)
+      ap needs_slot_checks (layout_is c.args.body.now c.args.part.now)
           ∙ not_judged (out-ColumnRanges c.args.part.now).layout (sym c.is_texts.ensures ∙ c.if-is_texts.false) c.in_default.not-Indices,
       (
         visited_below c.args.body.now c.args.part.now (rw c.bytes_at.ensures at (sym c.is_empty.ensures ∙ c.if-is_empty.false))
@@ -256,7 +256,7 @@ visit_all-visit_part-requires t c =
     let e = columns_from c.args.body.now c.args.parts.now c.loop-part.part-index c.part-item.result (omega arith) c.part-item.is in
     let s = slots_first _ _ _ _ _ (rw e at c.loop-part.invariant.slots) in
     let w = weight_first (column_of c.args.body.now c.part-item.result) (children_of c.args.body.now c.part-item.result)
-    (columns c.args.body.now (drop (c.loop-part.part-index + 1) c.args.parts.now)) c.args.from c.args.to in
+    (part_columns c.args.body.now (drop (c.loop-part.part-index + 1) c.args.parts.now)) c.args.from c.args.to in
     let k = rw (e, w) at c.loop-part.invariant.cost in
     let m = marked_at c.args.body.now c.args.parts.now c.loop-part.part-index c.part-item.result (omega arith) c.part-item.is
     c.requires.marks in
@@ -268,7 +268,7 @@ visit_all-returns-in_err-visit_part-clause-judged t c =
     let p = err_from_is_err_and c.from_residual.result c.from_residual.ensures.1 in
     let e = columns_from c.args.body.now c.args.parts.now c.loop-part.part-index c.part-item.result (omega arith) c.part-item.is in
     let g = good_first d (column_of c.args.body.now c.part-item.result) (children_of c.args.body.now c.part-item.result)
-    (columns c.args.body.now (drop (c.loop-part.part-index + 1) c.args.parts.now)) c.args.from c.args.to in
+    (part_columns c.args.body.now (drop (c.loop-part.part-index + 1) c.args.parts.now)) c.args.from c.args.to in
     rw (p.1, p.2) (sym (c.loop-part.invariant.good d) ∙ (ap (λ (cs : Columns). good d cs c.args.from c.args.to) e
     ∙ (g ∙ and_left _ _ c.in_err-visit_part.ensures.judged)))
 
@@ -276,24 +276,24 @@ pub visit_all-returns-in_err-visit_part-clause-cost : goal.visit_all-returns-in_
 visit_all-returns-in_err-visit_part-clause-cost t c =
     let e = columns_from c.args.body.now c.args.parts.now c.loop-part.part-index c.part-item.result (omega arith) c.part-item.is in
     let w = weight_first (column_of c.args.body.now c.part-item.result) (children_of c.args.body.now c.part-item.result)
-    (columns c.args.body.now (drop (c.loop-part.part-index + 1) c.args.parts.now)) c.args.from c.args.to in
+    (part_columns c.args.body.now (drop (c.loop-part.part-index + 1) c.args.parts.now)) c.args.from c.args.to in
     let k = rw (e, w) at c.loop-part.invariant.cost in
     omega (arith, k, c.in_err-visit_part.ensures.cost)
 
 pub visit_all-loop-part-preserved : goal.visit_all-loop-part-preserved
 visit_all-loop-part-preserved t c =
     let e = columns_from c.args.body.now c.args.parts.now c.loop-part.part-index c.part-item.result (omega arith) c.part-item.is in
-    let g : (why : Cause) → good why (columns c.args.body.now (drop c.loop-part.part-index c.args.parts.now)) c.args.from c.args.to
+    let g : (why : Cause) → good why (part_columns c.args.body.now (drop c.loop-part.part-index c.args.parts.now)) c.args.from c.args.to
     ≡ (good why (one c.args.body.now c.part-item.result) c.args.from c.args.to
-    && good why (columns c.args.body.now (drop (c.loop-part.part-index + 1) c.args.parts.now)) c.args.from c.args.to) =
+    && good why (part_columns c.args.body.now (drop (c.loop-part.part-index + 1) c.args.parts.now)) c.args.from c.args.to) =
     λ why. ap (λ (cs : Columns). good why cs c.args.from c.args.to) e ∙ good_first why (column_of c.args.body.now c.part-item.result)
     (children_of c.args.body.now c.part-item.result)
-    (columns c.args.body.now (drop (c.loop-part.part-index + 1) c.args.parts.now)) c.args.from c.args.to in
+    (part_columns c.args.body.now (drop (c.loop-part.part-index + 1) c.args.parts.now)) c.args.from c.args.to in
     let w = weight_first (column_of c.args.body.now c.part-item.result) (children_of c.args.body.now c.part-item.result)
-    (columns c.args.body.now (drop (c.loop-part.part-index + 1) c.args.parts.now)) c.args.from c.args.to in
+    (part_columns c.args.body.now (drop (c.loop-part.part-index + 1) c.args.parts.now)) c.args.from c.args.to in
     let k = rw (e, w) at c.loop-part.invariant.cost in
     record {
-      good = λ why. sym (g why ∙ ap (λ (b : Bool). b && good why (columns c.args.body.now
+      good = λ why. sym (g why ∙ ap (λ (b : Bool). b && good why (part_columns c.args.body.now
           (drop (c.loop-part.part-index + 1) c.args.parts.now)) c.args.from c.args.to) (c.in_ok-visit_part.ensures.judged why))
           ∙ c.loop-part.invariant.good why;
       cost = omega (arith, k, c.in_ok-visit_part.ensures.cost);

@@ -3,16 +3,17 @@ use Rattle.std.specs.Prelude.{true}
 use Rattle.ipc_column.specs.declared.cause.Cause.{Cause}
 use Rattle.ipc_column.specs.Checks.{good, good_slot, all_slots}
 use Rattle.ipc_column.specs.Lent.{AreSlots}
-use Rattle.ipc_column.specs.Views.{columns, one, column_of, children_of}
+use Rattle.ipc_column.specs.Views.{part_columns, one, column_of, children_of}
 use Rattle.ipc_column.specs.Weights.{weight}
 use Rattle.ipc_column.proofs.visit.+visit.Given as goal
 
 abbrev pub invariant-visit_all-loop-part : goal.invariant-visit_all-loop-part
 invariant-visit_all-loop-part l = record {
-  good : (why : Cause) → good why (columns l.body (drop l.part-index l.parts)) l.from l.to ≡ good why (columns l.body l.parts) l.from l.to;
-  cost : l.tests + weight (columns l.body (drop l.part-index l.parts)) l.from l.to
-      ≤ l.fn.tests + weight (columns l.body l.parts) l.from l.to;
-  slots : AreSlots (columns l.body (drop l.part-index l.parts)) l.from l.to;
+  good : (why : Cause) → good why (part_columns l.body (drop l.part-index l.parts)) l.from l.to
+      ≡ good why (part_columns l.body l.parts) l.from l.to;
+  cost : l.tests + weight (part_columns l.body (drop l.part-index l.parts)) l.from l.to
+      ≤ l.fn.tests + weight (part_columns l.body l.parts) l.from l.to;
+  slots : AreSlots (part_columns l.body (drop l.part-index l.parts)) l.from l.to;
 }
 
 abbrev pub invariant-visit_slots-loop-slot : goal.invariant-visit_slots-loop-slot

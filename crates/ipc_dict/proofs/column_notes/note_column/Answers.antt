@@ -6,7 +6,7 @@ use Rattle.ipc_model.specs.declared.value.Value.{Value}
 use Rattle.ipc_model.specs.declared.value.Value.TheVariants.{Null}
 use Rattle.ipc_column.specs.Nested.{slot_values}
 use Rattle.ipc_encode.proofs.Copied.{column_cells}
-use Rattle.ipc_dict.specs.Noting.{note_all, IsFull}
+use Rattle.ipc_dict.specs.Noting.{note_all, IsIndexOverflow}
 use Rattle.ipc_dict.specs.Pairs.{pairs, items_pairs}
 use Rattle.ipc_dict.proofs.ColumnNotes.{own_value}
 use Rattle.ipc_dict.proofs.Notes.{all_grow_same, all_grow_trans}
@@ -60,7 +60,7 @@ returns-in_err-note_slot-clause-full c =
     let full = c.in_err-note_slot.ensures.full v (slice_get-get_or vs i Null inside) in
     let p = err_from_is_err_and c.from_residual-in_err-note_slot.result c.from_residual-in_err-note_slot.ensures.1 in
     rw (p.1, p.2) (λ same.
-    subst (λ (xs : List Value). IsFull (note_all c.args.entries.now (items_pairs w xs)))
+    subst (λ (xs : List Value). IsIndexOverflow (note_all c.args.entries.now (items_pairs w xs)))
     (sym (column_cells c.args.batch.now.rows c.args.column vs c.slots-slots.ensures.values))
     (full-step c.args.entries.now c.loop-slot.entries c.loop-slot.entries (items_pairs w vs) (items_pairs w (drop i vs)) (w v)
     (items_pairs w (drop (i + 1) vs)) inv.noted (items-step w vs i v inside (own_value vs i inside)) (full same)))

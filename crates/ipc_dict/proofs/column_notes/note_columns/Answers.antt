@@ -1,7 +1,7 @@
 use Rattle.std.proofs.Common.{◌∙◌, refl, sym, ap, subst, ◌+◌, ◌<◌, ◌≤◌, length, arith}
 use Rattle.std.proofs.lemmas.Option.{slice_get_read}
 use Rattle.std.proofs.lemmas.Result.{err_from_is_err_and}
-use Rattle.ipc_dict.specs.Noting.{note_all, IsFull}
+use Rattle.ipc_dict.specs.Noting.{note_all, IsIndexOverflow}
 use Rattle.ipc_dict.specs.declared.entry.TallyEntry.{TallyEntry}
 use Rattle.std.proofs.Common.{List}
 use Rattle.ipc_dict.proofs.ColumnNotes.{column_first, from_first, from_last, pairs_from}
@@ -52,5 +52,5 @@ returns-in_err-note_field-clause-full c =
     c.index-fields-column.is c.columns-width.ensures.rows (c.requires.apart i f at) in
     let p = err_from_is_err_and c.from_residual.result c.from_residual.ensures.1 in
     rw (p.1, p.2) (λ same.
-    subst IsFull (first ∙ (inv.noted ∙ ap (note_all c.args.entries.now) (from_first fs rows)))
+    subst IsIndexOverflow (first ∙ (inv.noted ∙ ap (note_all c.args.entries.now) (from_first fs rows)))
     (full-note_all _ (pairs_from fs (i + 1) rows) (c.in_err-note_field.ensures.full same)))

@@ -3,9 +3,9 @@ use Rattle.std.proofs.lemmas.List.{take_more, take_more_set}
 use Rattle.std.proofs.lemmas.Result.{err_from_is_err_and}
 use Rattle.ipc_model.specs.declared.fault.WriteFault.TheVariants as w
 use Rattle.ipc_model.specs.declared.value.Value.{Value}
-use Rattle.ipc_encode.specs.CountedColumns.{as_rows, CountsRows}
+use Rattle.ipc_encode.specs.ColumnSizes.{as_rows, CountsRows}
 use Rattle.ipc_encode.specs.Faults.{write_fault}
-use Rattle.ipc_encode.specs.Limits.{IsRefused}
+use Rattle.ipc_encode.specs.Limits.{AreRowsRefused}
 use Rattle.ipc_dict.proofs.EntryColumns.{counted_at, counted_more, counted_push, entry_over, over_at}
 use Rattle.ipc_dict.proofs.columns.count_next.Goals as goal
 
@@ -23,7 +23,7 @@ returns-in_err-next-clause-refused c = λ fields h.
     let p = err_from_is_err_and c.from_residual.result c.from_residual.ensures.1 in
     rw (p.1, p.2) (over_at limits fields es i e (write_fault fault) (omega arith) c.index-entries-i.is
     (entry_over limits fields m e before (write_fault fault)
-    (λ columns rows k. subst (λ (vs : List Value). IsRefused limits columns (rows ++ as_rows vs) (write_fault fault)
+    (λ columns rows k. subst (λ (vs : List Value). AreRowsRefused limits columns (rows ++ as_rows vs) (write_fault fault)
     × (write_fault fault ≡ w.OutOfMemory → ⊥)) c.since.ensures (c.in_err-next.ensures.refused columns rows k)) one))
 
 pub loop-i-preserved : goal.loop-i-preserved

@@ -3,7 +3,7 @@ use Rattle.std.proofs.lemmas.Result.{err_from_is_err_and}
 use Rattle.std.proofs.lemmas.Int.{to_z-of_z}
 use Rattle.ipc_model.specs.declared.value.Value.{Value}
 use Rattle.ipc_dict.specs.declared.entry.TallyEntry.{TallyEntry}
-use Rattle.ipc_dict.specs.Noting.{note_one, note_entry, IsFull}
+use Rattle.ipc_dict.specs.Noting.{note_one, note_entry, IsIndexOverflow}
 use Rattle.ipc_dict.proofs.Notes.{set-note_one, absent-note_one, all_grow_same, all_grow-set, all_fit-set, full-set}
 use Rattle.ipc_dict.proofs.entry.note_one.Goals as goal
 
@@ -31,7 +31,7 @@ pub returns-in_err-place-clause-full : goal.returns-in_err-place-clause-full
 returns-in_err-place-clause-full c =
     let p = err_from_is_err_and c.from_residual.result c.from_residual.ensures.1 in
     rw (p.1, p.2) (λ e. let q = c.in_err-place.ensures.full e in
-    subst IsFull (became c.args.entries.now c.args.id _ c.args.value.now c.in-Some.at c.index-entries-at.result
+    subst IsIndexOverflow (became c.args.entries.now c.args.id _ c.args.value.now c.in-Some.at c.index-entries-at.result
     c.note_in.new.entry (to_z-of_z w64 c.args.id c.ranges.id) c.in-Some.ensures.within c.in-Some.ensures.found c.in-Some.ensures.before
     c.index-entries-at.is q.0)
     (full-set c.args.entries.now c.in-Some.at c.note_in.new.entry c.in-Some.ensures.within q.1))

@@ -1,8 +1,8 @@
 use Rattle.std.proofs.Common.{◌≡◌, ◌<◌, ◌∙◌, sym, ap, subst, Some, List, get_or, length, arith}
 use Rattle.std.proofs.lemmas.List.{take_more}
-use Rattle.ipc_dictionaries.specs.ValuesColumns.{Listed, columns_for}
+use Rattle.ipc_dict_read.specs.ValuesColumns.{Listed, columns_for}
 use Rattle.ipc_dict.specs.declared.entry.TallyEntry.{TallyEntry}
-use Rattle.ipc_dict.specs.SchemaIds.{unused}
+use Rattle.ipc_dict.specs.SchemaIds.{empty_entries}
 use Rattle.ipc_dict.proofs.DictionaryColumns.{fresh_at}
 use Rattle.ipc_dict.proofs.ShortMessages.{short_push, long_at}
 use Rattle.ipc_dict.proofs.messages.has_short_messages.Goals as goal
@@ -12,7 +12,8 @@ is_short-requires c =
     let fields = c.args.schema.now.fields in
     let es = c.deref-entry-items.result.now in
     let e = c.entry-item.result in
-    let same : es ≡ unused fields = c.deref-entry-items.ensures.value ∙ c.in_ok-entries.ensures ∙ ap unused c.as_slice.ensures in
+    let same : es ≡ empty_entries fields = c.deref-entry-items.ensures.value ∙ c.in_ok-entries.ensures
+    ∙ ap empty_entries c.as_slice.ensures in
     let f = fresh_at fields es c.loop-entry.entry-index e same (omega arith) c.entry-item.is in
     (f.0.0, (subst (λ (cs : Listed). columns_for cs e.id ≡ Some f.0.0) (sym c.requires) f.0.1.0, f.0.1.1))
 
@@ -23,11 +24,12 @@ returns-then-not-is_short-clause-long c =
     let es = c.deref-entry-items.result.now in
     let i = c.loop-entry.entry-index in
     let e = c.entry-item.result in
-    let same : es ≡ unused fields = c.deref-entry-items.ensures.value ∙ c.in_ok-entries.ensures ∙ ap unused c.as_slice.ensures in
+    let same : es ≡ empty_entries fields = c.deref-entry-items.ensures.value ∙ c.in_ok-entries.ensures
+    ∙ ap empty_entries c.as_slice.ensures in
     let f = fresh_at fields es i e same (omega arith) c.entry-item.is in
     let long = c.is_short.ensures.long f.0.0 (subst (λ (cs : Listed). columns_for cs e.id ≡ Some f.0.0) (sym c.requires) f.0.1.0)
     c.if-not-is_short.true in
-    λ no. long_at limits fields (unused fields) i e f.0.0 (subst (λ (us : List TallyEntry). i < length us) same (omega arith))
+    λ no. long_at limits fields (empty_entries fields) i e f.0.0 (subst (λ (us : List TallyEntry). i < length us) same (omega arith))
     (c.entry-item.is ∙ ap (λ (us : List TallyEntry). get_or us i e) same) f.0.1.0 long
 
 pub loop-entry-preserved : goal.loop-entry-preserved
@@ -37,10 +39,11 @@ loop-entry-preserved c =
     let es = c.deref-entry-items.result.now in
     let i = c.loop-entry.entry-index in
     let e = c.entry-item.result in
-    let same : es ≡ unused fields = c.deref-entry-items.ensures.value ∙ c.in_ok-entries.ensures ∙ ap unused c.as_slice.ensures in
+    let same : es ≡ empty_entries fields = c.deref-entry-items.ensures.value ∙ c.in_ok-entries.ensures
+    ∙ ap empty_entries c.as_slice.ensures in
     let f = fresh_at fields es i e same (omega arith) c.entry-item.is in
     let short = c.is_short.ensures.short f.0.0 (subst (λ (cs : Listed). columns_for cs e.id ≡ Some f.0.0) (sym c.requires) f.0.1.0)
     c.if-not-is_short.false in
-    let is : e ≡ get_or (unused fields) i e = c.entry-item.is ∙ ap (λ (us : List TallyEntry). get_or us i e) same in
-    rw (take_more (unused fields) i e (subst (λ (us : List TallyEntry). i < length us) same (omega arith)), ← is)
+    let is : e ≡ get_or (empty_entries fields) i e = c.entry-item.is ∙ ap (λ (us : List TallyEntry). get_or us i e) same in
+    rw (take_more (empty_entries fields) i e (subst (λ (us : List TallyEntry). i < length us) same (omega arith)), ← is)
     (short_push limits fields _ e f.0.0 c.loop-entry.invariant f.0.1.0 short)

@@ -4,7 +4,7 @@ use Rattle.std.proofs.lemmas.Option.{same_Some}
 use Rattle.ipc_model.specs.declared.schema.Field.{Field}
 use Rattle.ipc_model.specs.Layouts.{own_buffers}
 use Rattle.ipc_meta.specs.Rooms.{dictionary_room}
-use Rattle.ipc_dictionaries.specs.ValuesColumns.{IsOneColumn, columns_for}
+use Rattle.ipc_dict_read.specs.ValuesColumns.{IsOneColumn, columns_for}
 use Rattle.ipc_dict.specs.Within.{dictionary_room_of}
 use Rattle.ipc_dict.proofs.ShortMessages.{first_room}
 use Rattle.ipc_dict.proofs.messages.is_short.Goals as goal

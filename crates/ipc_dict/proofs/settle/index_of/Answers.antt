@@ -1,6 +1,6 @@
 use Rattle.std.proofs.Common.{ap, sym, ◌∙◌, get_or, w64, int_eq}
 use Rattle.std.proofs.lemmas.Int.{to_z-of_z}
-use Rattle.ipc_dict.specs.Distinct.{place}
+use Rattle.ipc_dict.specs.Distinct.{first_index}
 use Rattle.ipc_dict.specs.Planning.{number_at}
 use Rattle.ipc_dict.proofs.Plans.{index-at, index-absent}
 use Rattle.ipc_dict.proofs.settle.index_of.Goals as goal
@@ -22,7 +22,7 @@ returns c =
     let o = c.index-numbers-i.result in
     let v = c.args.value.now in
     let same = to_z-of_z w64 c.args.id c.ranges.id in
-    c.number_of.ensures ∙ (λ j. number_at (place v (sym c.index-entries-i.is j).values) o)
+    c.sent_index_of.ensures ∙ (λ j. number_at (first_index v (sym c.index-entries-i.is j).values) o)
     ∙ index-at c.args.id v t os i n o c.requires c.in_ok-i.ensures.within
     (ap (λ z. int_eq (get_or t i n).id z) (sym same) ∙ c.in_ok-i.ensures.found n c.in_ok-i.ensures.within)
     (λ k h. ap (λ z. int_eq (get_or t k n).id z) (sym same) ∙ c.in_ok-i.ensures.before k n h)

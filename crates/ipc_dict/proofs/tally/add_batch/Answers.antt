@@ -1,13 +1,13 @@
 use Rattle.std.proofs.Common.{◌≡◌, ◌∙◌, ap, sym, subst, List}
 use Rattle.ipc_dict.specs.declared.entry.TallyEntry.{TallyEntry}
 use Rattle.ipc_dict.specs.EntryColumns.{AreEntriesCounted}
-use Rattle.ipc_dict.specs.Noting.{AllFit, cut}
+use Rattle.ipc_dict.specs.Noting.{AllFit, truncated_tally}
 use Rattle.ipc_dict.specs.SchemaIds.{tally_bounds, tally_ids}
 use Rattle.ipc_dict.proofs.Notes.{cut_back}
 use Rattle.ipc_dict.proofs.tally.add_batch.Goals as goal
 
 back : (c : goal.After-entries-in-Err-1) → c.restore.new.entries ≡ c.args.entries.now
-back c = c.restore.ensures ∙ ap (λ ms. cut ms c.count_batch.new.entries) c.mark.ensures
+back c = c.restore.ensures ∙ ap (λ ms. truncated_tally ms c.count_batch.new.entries) c.mark.ensures
     ∙ cut_back c.args.entries.now c.count_batch.new.entries c.count_batch.ensures.grows
 
 pub returns-in-Err-clause-fits : goal.returns-in-Err-clause-fits

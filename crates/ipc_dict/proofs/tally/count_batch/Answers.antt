@@ -58,8 +58,8 @@ returns-in_ok-count-clause-counted c =
     c.requires.marks c.note_batch.ensures.grows c.requires.columns in
     c.in_ok-count.ensures.counted c.args.fields.now old
 
-pub returns-else-have_grown-clause-counted : goal.returns-else-have_grown-clause-counted
-returns-else-have_grown-clause-counted c =
+pub returns-else-have_new_values-clause-counted : goal.returns-else-have_new_values-clause-counted
+returns-else-have_new_values-clause-counted c =
     let same = grown_by_none c.args.entries.now c.note_batch.new.entries c.note_batch.ensures.grows
-    (c.have_grown.ensures c.if-have_grown.false ∙ c.requires.marks) in
+    (c.have_new_values.ensures c.if-have_new_values.false ∙ c.requires.marks) in
     subst (λ (es : List TallyEntry). AreEntriesCounted c.args.fields.now es c.args.columns.now) (sym same) c.requires.columns

@@ -1,14 +1,14 @@
 use Rattle.std.proofs.Common.{◌≡◌, ◌∙◌, ap, sym, subst, List}
 use Rattle.ipc_dict.specs.declared.entry.TallyEntry.{TallyEntry}
 use Rattle.ipc_dict.specs.EntryColumns.{AreEntriesCounted}
-use Rattle.ipc_dict.specs.Noting.{AllFit, cut}
+use Rattle.ipc_dict.specs.Noting.{AllFit, truncated_tally}
 use Rattle.ipc_dict.specs.SchemaIds.{tally_bounds, tally_ids}
 use Rattle.ipc_dict.proofs.Notes.{cut_back}
 use Rattle.ipc_dict.proofs.tally.note_row.Goals as goal
 
 back : (c : goal.After-entries-in-Err-1) → c.restore.new.entries ≡ c.args.entries.now
-back c = c.restore.ensures ∙ ap (λ ms. cut ms c.note_counted.new.entries) c.mark.ensures
-    ∙ cut_back c.args.entries.now c.note_counted.new.entries c.note_counted.ensures.grows
+back c = c.restore.ensures ∙ ap (λ ms. truncated_tally ms c.note_and_count.new.entries) c.mark.ensures
+    ∙ cut_back c.args.entries.now c.note_and_count.new.entries c.note_and_count.ensures.grows
 
 pub returns-in-Err-clause-fits : goal.returns-in-Err-clause-fits
 returns-in-Err-clause-fits c = λ h. subst AllFit (sym (back c)) h
@@ -24,4 +24,5 @@ returns-in-Err-clause-err c = back c
 
 pub returns-in-Err-clause-counted : goal.returns-in-Err-clause-counted
 returns-in-Err-clause-counted c =
-    subst (λ (es : List TallyEntry). AreEntriesCounted c.args.fields.now es c.note_counted.new.columns) (sym (back c)) c.in-Err.ensures.kept
+    subst (λ (es : List TallyEntry). AreEntriesCounted c.args.fields.now es c.note_and_count.new.columns) (sym (back c))
+    c.in-Err.ensures.kept

@@ -2,7 +2,7 @@ use Rattle.std.proofs.Common.{rules, ◌≡◌, sym, ap, subst, arith, map, drop
 use Rattle.std.proofs.lemmas.Result.{err_from_is_err_and}
 use Rattle.ipc_encode.specs.declared.fault.PushFault.{PushFault}
 use Rattle.ipc_encode.specs.declared.fault.PushFault.TheVariants as fault
-use Rattle.ipc_dict.specs.Noting.{note_all, IsFull}
+use Rattle.ipc_dict.specs.Noting.{note_all, IsIndexOverflow}
 use Rattle.ipc_dict.specs.Pairs.{pairs, items_pairs, each_pairs}
 use Rattle.ipc_dict.proofs.Notes.{all_grow_trans}
 use Rattle.ipc_dict.proofs.Walks.{items-step, each-step, noted-step, full-step, no_pairs, struct_pairs}
@@ -23,7 +23,7 @@ note_each-returns-in_err-note_value-clause-full t c =
     let v = c.in-Some.value.now in
     let at = c.in-Some.ensures.lookup in
     let step = each-step fs vs i f v (omega arith) at.3.0 c.index-fields-number.is at.1 in
-    left (λ e. e ≡ fault.DictionaryFull → IsFull (note_all c.loop-number.entries (pairs f v))) c.in_err-note_value.field-0.0
+    left (λ e. e ≡ fault.DictionaryFull → IsIndexOverflow (note_all c.loop-number.entries (pairs f v))) c.in_err-note_value.field-0.0
     (err_from_is_err_and c.from_residual.result c.from_residual.ensures.1) c.in_err-note_value.ensures.full (λ e h same.
     full-step c.args.entries.now c.loop-number.entries c.loop-number.entries (each_pairs (map pairs fs) vs)
     (each_pairs (map pairs (drop i fs)) (drop i vs)) (pairs f v)
@@ -54,7 +54,7 @@ note_items-returns-in_err-note_value-clause-full t c =
     let w = pairs c.args.child.now in
     let i = c.loop-value.value-index in
     let v = c.value-item.result in
-    left (λ e. e ≡ fault.DictionaryFull → IsFull (note_all c.loop-value.entries (w v))) c.in_err-note_value.field-0.0
+    left (λ e. e ≡ fault.DictionaryFull → IsIndexOverflow (note_all c.loop-value.entries (w v))) c.in_err-note_value.field-0.0
     (err_from_is_err_and c.from_residual.result c.from_residual.ensures.1) c.in_err-note_value.ensures.full (λ e h same.
     full-step c.args.entries.now c.loop-value.entries c.loop-value.entries (items_pairs w vs) (items_pairs w (drop i vs)) (w v)
     (items_pairs w (drop (i + 1) vs)) inv.noted (items-step w vs i v (omega arith) c.value-item.is) (h same))
@@ -78,7 +78,7 @@ pub note_named-returns-in-Struct-Struct-clause-full : goal.note_named-returns-in
 note_named-returns-in-Struct-Struct-clause-full t c =
     let e = struct_pairs c.args.field.now c.args.value.now c.in-Struct-Struct.values c.as_slice-children.result.now c.as_slice.result.now
     c.in_default.is c.in-Struct-Struct.is-0 c.as_slice-children.ensures c.in-Struct-Struct.is-1 c.as_slice.ensures in
-    subst (λ ps. IfErr c.note_each.result (λ e. e ≡ fault.DictionaryFull → IsFull (note_all c.args.entries.now ps)))
+    subst (λ ps. IfErr c.note_each.result (λ e. e ≡ fault.DictionaryFull → IsIndexOverflow (note_all c.args.entries.now ps)))
     (sym e) c.note_each.ensures.full
 
 pub note_named-returns-in_default-2-clause-noted : goal.note_named-returns-in_default-2-clause-noted

@@ -5,7 +5,7 @@ use Rattle.ipc_model.specs.declared.schema.Field.{Field}
 use Rattle.ipc_model.specs.declared.schema.Field.TheViews.{the_lemmas}
 use Rattle.ipc_model.specs.declared.value.Value.{Value}
 use Rattle.ipc_model.specs.declared.value.Value.TheVariants.{Null}
-use Rattle.ipc_column.specs.Nested.{below, slot_values}
+use Rattle.ipc_column.specs.Nested.{child_columns, slot_values}
 use Rattle.ipc_column.specs.Values.{is_valid, row}
 use Rattle.ipc_encode.specs.Cells.{all_items, cell}
 use Rattle.ipc_encode.proofs.FittingColumns.{inner_all, list_slot, part_slot, struct_slot}
@@ -36,7 +36,7 @@ slots_fit-returns-in-Struct-Structs t c = λ yes i m valid.
 
 pub items_fit-returns : goal.items_fit-returns
 items_fit-returns t c = λ yes.
-    let gives = c.lists_have_all.ensures.slots c.if-not-lists_have_all.false c.child.result c.child.ensures in
+    let gives = c.lists_use_all_items.ensures.slots c.if-not-lists_use_all_items.false c.child.result c.child.ensures in
     inner_all c.args.fields.now (all_items (slot_values c.args.view.now)) c.index-fields-0.result
     (λ i m. subst (λ (g : Field). Fits g (get_or (all_items (slot_values c.args.view.now)) i Null)) c.index-fields-0.is
     (subst (λ (ws : List Value). Fits c.index-fields-0.result (get_or ws i Null)) (sym gives)
@@ -64,12 +64,12 @@ parts_fit-loop-i-preserved t c = λ j m valid.
     let there : j < length (slot_values c.child-child.result) = omega (arith, m, c.if-len.false, c.len.ensures, c.len-in-loop-i.ensures) in
     let marked : is_valid c.buffers.result.validity.now j ≡ true =
     subst (λ (bs : List ℕ). is_valid bs j ≡ true) (sym c.buffers.ensures.validity) valid in
-    rw add-one (first_fit_next i c.args.fields.now (row (below s) j) f Null (c.loop-i.invariant j m valid)
-    (subst (λ (g : Field). Fits g (cell i (row (below s) j))) (sym in_fields)
+    rw add-one (first_fit_next i c.args.fields.now (row (child_columns s) j) f Null (c.loop-i.invariant j m valid)
+    (subst (λ (g : Field). Fits g (cell i (row (child_columns s) j))) (sym in_fields)
     (subst (λ (w : Value). Fits f w) (part_slot s c.child-child.result i j c.child-child.ensures there)
     (c.slots_fit.ensures c.if-not-slots_fit.false j there marked))))
 
 pub parts_fit-returns-clause-fits : goal.parts_fit-returns-clause-fits
 parts_fit-returns-clause-fits t c = λ yes j m valid.
-    first_fit_all c.loop-i.i c.args.fields.now (row (below c.args.view.now) j)
+    first_fit_all c.loop-i.i c.args.fields.now (row (child_columns c.args.view.now) j)
     (omega (arith, c.loop-i-test.false, c.if-fields-count.false)) (c.loop-i.invariant j m valid)

@@ -1,12 +1,12 @@
 use Rattle.std.proofs.Common.{◌≡◌, sym, subst, ℕ, length, get_or, true, inl, inr, arith}
 use Rattle.std.proofs.lemmas.Bool.{cases_eq}
 use Rattle.std.proofs.lemmas.Option.{get_or_from_slice_get}
-use Rattle.ipc_model.specs.Fits.{IsOwn}
+use Rattle.ipc_model.specs.Fits.{FitsOwnType}
 use Rattle.ipc_model.specs.declared.schema.Field.{out-Field}
 use Rattle.ipc_model.specs.declared.value.Value.{Value, out-Value}
 use Rattle.ipc_model.specs.declared.value.Value.TheVariants.{Null}
-use Rattle.ipc_column.specs.Nested.{below, slot_values}
-use Rattle.ipc_column.specs.Slots.{shown}
+use Rattle.ipc_column.specs.Nested.{child_columns, slot_values}
+use Rattle.ipc_column.specs.Slots.{value_in_slot}
 use Rattle.ipc_column.specs.Values.{row}
 use Rattle.ipc_encode.specs.Cells.{is_set}
 use Rattle.ipc_encode.specs.Pieces.{Valid}
@@ -17,14 +17,14 @@ loop-slot-preserved c = λ i m.
     let vs = slot_values c.args.view.now in
     let k = c.loop-slot.slot in
     let f = out-Field c.args.field.now in
-    let held = shown (row (below c.args.view.now)) k c.at.result in
+    let held = value_in_slot (row (child_columns c.args.view.now)) k c.at.result in
     let is : get_or vs k Null ≡ held = get_or_from_slice_get vs k held Null c.at.ensures.value in
     elim (cases_eq i k) as (λ _. is_set Valid (get_or vs i Null) ≡ true
-    → IsOwn f.kind f.nullable (length f.children) (out-Value (get_or vs i Null))) [
+    → FitsOwnType f.kind f.nullable (length f.children) (out-Value (get_or vs i Null))) [
       | inl same ↦ subst (λ (j : ℕ). is_set Valid (get_or vs j Null) ≡ true
-          → IsOwn f.kind f.nullable (length f.children) (out-Value (get_or vs j Null))) (sym same)
-          (subst (λ (v : Value). is_set Valid v ≡ true → IsOwn f.kind f.nullable (length f.children) (out-Value v)) (sym is)
-          (c.is_own_number.ensures c.if-not-is_own_number.false (row (below c.args.view.now)) k))
+          → FitsOwnType f.kind f.nullable (length f.children) (out-Value (get_or vs j Null))) (sym same)
+          (subst (λ (v : Value). is_set Valid v ≡ true → FitsOwnType f.kind f.nullable (length f.children) (out-Value v)) (sym is)
+          (c.is_own_number.ensures c.if-not-is_own_number.false (row (child_columns c.args.view.now)) k))
       | inr other ↦ c.loop-slot.invariant i (omega (arith, m, other))
     ]
 

@@ -1,5 +1,5 @@
 use Rattle.std.proofs.Common.{◌≡◌, ℕ, ◌<◌, true, get_or, length}
-use Rattle.ipc_model.specs.Fits.{IsOwn}
+use Rattle.ipc_model.specs.Fits.{FitsOwnType}
 use Rattle.ipc_model.specs.declared.schema.Field.{out-Field}
 use Rattle.ipc_model.specs.declared.value.Value.{out-Value}
 use Rattle.ipc_model.specs.declared.value.Value.TheVariants.{Null}
@@ -11,5 +11,5 @@ use Rattle.ipc_encode.proofs.conforming.are_own_numbers.Given as goal
 -- each of the first slots is null or has a value of the field's own
 abbrev pub invariant-loop-slot : goal.invariant-loop-slot
 invariant-loop-slot l = (i : ℕ) → i < l.slot → is_set Valid (get_or (slot_values l.view) i Null) ≡ true
-    → IsOwn (out-Field l.field).kind (out-Field l.field).nullable (length (out-Field l.field).children)
+    → FitsOwnType (out-Field l.field).kind (out-Field l.field).nullable (length (out-Field l.field).children)
     (out-Value (get_or (slot_values l.view) i Null))

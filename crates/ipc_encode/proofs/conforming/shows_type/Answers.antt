@@ -8,15 +8,15 @@ use Rattle.ipc_column.specs.Plain.{IsShownBy}
 use Rattle.ipc_encode.proofs.SureIndices.{indexed_shown}
 use Rattle.ipc_encode.proofs.conforming.shows_type.Goals as goal
 
-pub returns-then-lie_alike-clause-shown : goal.returns-then-lie_alike-clause-shown
-returns-then-lie_alike-clause-shown c = λ yes.
+pub returns-then-are_equal_layouts-clause-shown : goal.returns-then-are_equal_layouts-clause-shown
+returns-then-are_equal_layouts-clause-shown c = λ yes.
     subst (λ (l : Layout). AllByRecursion (IsShownBy l) (slot_values c.args.view.now))
-    (c.lie_alike.ensures c.if-lie_alike.true ∙ c.layout_of-layout.ensures) c.layout.ensures.values
+    (c.are_equal_layouts.ensures c.if-are_equal_layouts.true ∙ c.layout_of-layout.ensures) c.layout.ensures.values
 
 pub returns-in-Some-clause-shown : goal.returns-in-Some-clause-shown
 returns-in-Some-clause-shown c = λ alike.
     let laid = c.is_indexed.ensures c.if-not-is_indexed.false in
-    let same = c.lie_alike-in-Some.ensures alike ∙ c.layout_of-layout.ensures in
+    let same = c.are_equal_layouts-in-Some.ensures alike ∙ c.layout_of-layout.ensures in
     let own = subst (λ (l : Layout). AllByRecursion (IsShownBy l) c.args.view.now.column.dictionary) same
     (subst (λ (vs : List Value). AllByRecursion (IsShownBy c.layout-in-Some.result) vs) c.in-Some.ensures.values
     c.layout-in-Some.ensures.values) in

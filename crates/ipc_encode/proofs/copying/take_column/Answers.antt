@@ -4,10 +4,10 @@ use Rattle.ipc_model.specs.declared.layout.Layout.{Layout}
 use Rattle.ipc_model.specs.declared.layout.Layout.TheVariants as l
 use Rattle.ipc_column.specs.Shapes.{bare}
 use Rattle.ipc_encode.specs.declared.node.Node.{out-Node}
-use Rattle.ipc_encode.specs.Buffers.{below}
+use Rattle.ipc_encode.specs.Buffers.{child_values}
 use Rattle.ipc_encode.specs.Built.{IsColumn, IsPushRefused}
 use Rattle.ipc_encode.specs.Cells.{cells}
-use Rattle.ipc_encode.specs.Numbers.{told}
+use Rattle.ipc_encode.specs.Numbers.{index_or_zero}
 use Rattle.ipc_encode.proofs.Growing.{own_refused}
 use Rattle.ipc_encode.proofs.Nodes.{node_is}
 use Rattle.ipc_encode.proofs.Pushes.{laid_as}
@@ -16,12 +16,13 @@ use Rattle.ipc_encode.proofs.copying.take_column.Goals as goal
 
 pub returns-in-Indices-clause-taken : goal.returns-in-Indices-clause-taken
 returns-in-Indices-clause-taken g c = λ layout children h.
-    let known = told (g.I.IndexOf.index c.args.indices.now) in
+    let known = index_or_zero (g.I.IndexOf.index c.args.indices.now) in
     let limits = c.args.limits.now in
     let values = cells c.args.column c.args.batch.now.rows in
     let own = l.Indices c.in-Indices.bits c.in-Indices.signed c.in-Indices.id in
     let is : layout ≡ own = sym h.0.laid ∙ c.in-Indices.is in
-    let inner = leaf_has (IsColumn known limits) children (out-Node c.args.node.now).children.items (below layout []) (below layout values)
+    let inner = leaf_has (IsColumn known limits) children (out-Node c.args.node.now).children.items (child_values layout [])
+    (child_values layout values)
     (c.is_leaf.ensures.0 c.if-is_leaf.true) h.1 in
     on_ok_weaker c.take_indices.result
     (λ taken. node_is (IsColumn known limits) layout children values _ (laid_as known limits own layout values (sym is) taken) inner)
@@ -29,7 +30,7 @@ returns-in-Indices-clause-taken g c = λ layout children h.
 
 pub returns-in-Indices-clause-refused : goal.returns-in-Indices-clause-refused
 returns-in-Indices-clause-refused g c = λ layout children h.
-    let known = told (g.I.IndexOf.index c.args.indices.now) in
+    let known = index_or_zero (g.I.IndexOf.index c.args.indices.now) in
     let limits = c.args.limits.now in
     let values = cells c.args.column c.args.batch.now.rows in
     let own = l.Indices c.in-Indices.bits c.in-Indices.signed c.in-Indices.id in

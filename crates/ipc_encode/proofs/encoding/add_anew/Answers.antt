@@ -1,15 +1,15 @@
 use Rattle.std.proofs.Common.{◌∙◌, ap, ℕ, List, ◌++◌, length, ℤ}
 use Rattle.std.proofs.lemmas.Result.{err_from_is_err_and}
 use Rattle.ipc_column.specs.Shapes.{bare, field, field_shape}
-use Rattle.ipc_encode.specs.Buffers.{buffers_with, nodes_of, padded, ranges_from}
+use Rattle.ipc_encode.specs.Buffers.{buffers_with, nodes_of, padded_bytes, ranges_from}
 use Rattle.ipc_encode.specs.Cells.{cells}
-use Rattle.ipc_encode.specs.Numbers.{renumbered, told}
+use Rattle.ipc_encode.specs.Numbers.{new_indices, index_or_zero}
 use Rattle.ipc_encode.proofs.SegmentColumns.{buffers_refused, node_added, pushes_refused}
 use Rattle.ipc_encode.proofs.encoding.add_anew.Goals as goal
 
 pub returns-in_err-take_column-clause-refused : goal.returns-in_err-take_column-clause-refused
 returns-in_err-take_column-clause-refused g c =
-    let known = told (g.I.IndexOf.index c.args.indices.now) in
+    let known = index_or_zero (g.I.IndexOf.index c.args.indices.now) in
     let limits = c.args.limits.now in
     let lay = (field_shape c.args.of.now).0 in
     let ch = (field_shape c.args.of.now).1 in
@@ -20,8 +20,8 @@ returns-in_err-take_column-clause-refused g c =
 
 pub returns-in_err-add_draft-clause-refused : goal.returns-in_err-add_draft-clause-refused
 returns-in_err-add_draft-clause-refused g c =
-    let known = told (g.I.IndexOf.index c.args.indices.now) in
-    let other = renumbered (g.N.Renumber.number c.args.numbers.now) known in
+    let known = index_or_zero (g.I.IndexOf.index c.args.indices.now) in
+    let other = new_indices (g.N.Renumber.number c.args.numbers.now) known in
     let limits = c.args.limits.now in
     let lay = (field_shape c.args.of.now).0 in
     let ch = (field_shape c.args.of.now).1 in
@@ -34,12 +34,12 @@ returns-in_err-add_draft-clause-refused g c =
     (c.in_err-add_draft.ensures.refused bs
     (made.buffers ∙ (ap (λ (rs : List (ℤ × ℤ)). rs ++ ranges_from (length c.pooled_list.result.items) bs) c.new-2.ensures.items
     ∙ ap (λ (xs : List ℕ). ranges_from (length xs) bs) c.pooled_list.ensures))
-    (made.body ∙ ap (λ (xs : List ℕ). xs ++ padded bs) c.pooled_list.ensures)))
+    (made.body ∙ ap (λ (xs : List ℕ). xs ++ padded_bytes bs) c.pooled_list.ensures)))
 
 pub returns-clause-adds : goal.returns-clause-adds
 returns-clause-adds g c =
-    let known = told (g.I.IndexOf.index c.args.indices.now) in
-    let other = renumbered (g.N.Renumber.number c.args.numbers.now) known in
+    let known = index_or_zero (g.I.IndexOf.index c.args.indices.now) in
+    let other = new_indices (g.N.Renumber.number c.args.numbers.now) known in
     let limits = c.args.limits.now in
     let lay = (field_shape c.args.of.now).0 in
     let ch = (field_shape c.args.of.now).1 in
@@ -55,5 +55,5 @@ returns-clause-adds g c =
     (c.in_ok-add_draft.ensures.adds bs
     (made.buffers ∙ (ap (λ (rs : List (ℤ × ℤ)). rs ++ ranges_from (length c.pooled_list.result.items) bs) c.new-2.ensures.items
     ∙ ap (λ (xs : List ℕ). ranges_from (length xs) bs) c.pooled_list.ensures))
-    (made.body ∙ ap (λ (xs : List ℕ). xs ++ padded bs) c.pooled_list.ensures))
+    (made.body ∙ ap (λ (xs : List ℕ). xs ++ padded_bytes bs) c.pooled_list.ensures))
     c.in_ok-add_draft.ensures.within

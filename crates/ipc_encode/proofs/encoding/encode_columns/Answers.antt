@@ -1,9 +1,9 @@
 use Rattle.std.proofs.Common.{◌∙◌, ap, List, ◌++◌, ℤ, arith}
 use Rattle.std.proofs.lemmas.Result.{err_from_is_err_and}
 use Rattle.ipc_encode.specs.declared.segments.Segment.{Segment}
-use Rattle.ipc_encode.specs.Buffers.{padded, ranges_from, row_buffers_with, row_nodes}
-use Rattle.ipc_encode.specs.Numbers.{renumbered, told}
-use Rattle.ipc_encode.specs.Segments.{joined}
+use Rattle.ipc_encode.specs.Buffers.{padded_bytes, ranges_from, row_buffers_with, row_nodes}
+use Rattle.ipc_encode.specs.Numbers.{new_indices, index_or_zero}
+use Rattle.ipc_encode.specs.Segments.{bytes_of_segments}
 use Rattle.ipc_encode.proofs.Reading.{rows_of_parts}
 use Rattle.ipc_encode.proofs.SegmentColumns.{columns_within, rows_refused_after}
 use Rattle.ipc_encode.proofs.encoding.encode_columns.Goals as goal
@@ -21,7 +21,7 @@ returns-clause-within g c =
 
 pub returns-clause-segmented : goal.returns-clause-segmented
 returns-clause-segmented g c =
-    let known = renumbered (g.N.Renumber.number c.args.numbers.now) (told (g.I.IndexOf.index c.args.indices.now)) in
+    let known = new_indices (g.N.Renumber.number c.args.numbers.now) (index_or_zero (g.I.IndexOf.index c.args.indices.now)) in
     let fields = c.args.fields.now in
     let rows = c.args.batch.now.rows in
     let bs = row_buffers_with known fields rows in
@@ -31,13 +31,13 @@ returns-clause-segmented g c =
       nodes = c.from_vec.ensures ∙ (adds.nodes ∙ ap (λ (ns : List (ℤ × ℤ)). ns ++ row_nodes fields rows) c.new.ensures.items);
       buffers = c.from_vec-2.ensures
           ∙ (adds.buffers.buffers ∙ ap (λ (rs : List (ℤ × ℤ)). rs ++ ranges_from 0 bs) c.new-2.ensures.items);
-      body = adds.buffers.body ∙ ap (λ (ss : List Segment). joined ss ++ padded bs) c.new-3.ensures.items;
+      body = adds.buffers.body ∙ ap (λ (ss : List Segment). bytes_of_segments ss ++ padded_bytes bs) c.new-3.ensures.items;
       len = omega (arith, size);
     }
 
 pub returns-clause-rows : goal.returns-clause-rows
 returns-clause-rows g c = λ m fine fits finds.
-    let known = renumbered (g.N.Renumber.number c.args.numbers.now) (told (g.I.IndexOf.index c.args.indices.now)) in
+    let known = new_indices (g.N.Renumber.number c.args.numbers.now) (index_or_zero (g.I.IndexOf.index c.args.indices.now)) in
     let fields = c.args.fields.now in
     let rows = c.args.batch.now.rows in
     let bs = row_buffers_with known fields rows in
@@ -45,8 +45,8 @@ returns-clause-rows g c = λ m fine fits finds.
     let adds = c.in_ok-add_fields.ensures.adds in
     let within = columns_within c.args.limits.now known fields rows _ draft (λ i. 0)
     (omega (arith, c.rows.ensures, c.if-rows-limits.false)) adds in
-    rows_of_parts m known fields rows c.from_vec.result c.from_vec-2.result (joined draft.segments.items)
+    rows_of_parts m known fields rows c.from_vec.result c.from_vec-2.result (bytes_of_segments draft.segments.items)
     fine fits within adds.stored finds
     (c.from_vec.ensures ∙ (adds.nodes ∙ ap (λ (ns : List (ℤ × ℤ)). ns ++ row_nodes fields rows) c.new.ensures.items))
     (c.from_vec-2.ensures ∙ (adds.buffers.buffers ∙ ap (λ (rs : List (ℤ × ℤ)). rs ++ ranges_from 0 bs) c.new-2.ensures.items))
-    (adds.buffers.body ∙ ap (λ (ss : List Segment). joined ss ++ padded bs) c.new-3.ensures.items)
+    (adds.buffers.body ∙ ap (λ (ss : List Segment). bytes_of_segments ss ++ padded_bytes bs) c.new-3.ensures.items)

@@ -3,10 +3,10 @@ use Rattle.std.proofs.lemmas.Option.{IfSome_then}
 use Rattle.ipc_model.specs.declared.layout.Layout.{Layout}
 use Rattle.ipc_column.specs.Shapes.{Shape, bare}
 use Rattle.ipc_encode.specs.declared.node.Node.{Node, out-Node}
-use Rattle.ipc_encode.specs.Buffers.{below, padded, buffers_of, column_buffers}
-use Rattle.ipc_encode.specs.declared.column.Purpose.{Purpose}
-use Rattle.ipc_encode.specs.declared.counts.Counts.{Counts}
-use Rattle.ipc_encode.specs.Built.{AreNodes, IsNode, HasTaken, IsCounted}
+use Rattle.ipc_encode.specs.Buffers.{child_values, padded_bytes, buffers_of, column_buffers}
+use Rattle.ipc_encode.specs.declared.column_builder.Purpose.{Purpose}
+use Rattle.ipc_encode.specs.declared.counts.ColumnCounts.{ColumnCounts}
+use Rattle.ipc_encode.specs.Built.{AreNodes, IsNode, HasTaken, AreCountsOf}
 use Rattle.ipc_encode.specs.Numbers.{Numbering}
 use Rattle.ipc_model.specs.declared.limits.Limits.{Limits}
 use Rattle.ipc_model.specs.declared.value.Value.{Value}
@@ -17,14 +17,14 @@ use Rattle.ipc_encode.proofs.fitting.+left.Goals as goal
 
 -- what a column's own buffers take
 own_bytes : (known : Numbering) (limits : Limits) (p : Purpose) (layout : Layout) (children : Shape) (values : List Value)
-    (node : Node) (counts : Counts)
+    (node : Node) (counts : ColumnCounts)
     (len : ℕ)
-    → IsNode (HasTaken known p limits) layout children node values → IsCounted limits (out-Node node).column.layout values counts
-    → ((vs : List Value) → IsCounted limits (out-Node node).column.layout vs counts
-    → len ≡ length (padded (column_buffers (out-Node node).column.layout vs)))
-    → len ≡ length (padded (column_buffers layout values))
+    → IsNode (HasTaken known p limits) layout children node values → AreCountsOf limits (out-Node node).column.layout values counts
+    → ((vs : List Value) → AreCountsOf limits (out-Node node).column.layout vs counts
+    → len ≡ length (padded_bytes (column_buffers (out-Node node).column.layout vs)))
+    → len ≡ length (padded_bytes (column_buffers layout values))
 own_bytes known limits p layout children values node counts len h counted is =
-    is values counted ∙ ap (λ (l : Layout). length (padded (column_buffers l values)))
+    is values counted ∙ ap (λ (l : Layout). length (padded_bytes (column_buffers l values)))
     (taken_laid known p limits layout values (out-Node node).column h.0)
 
 pub remaining-returns-then-len-bytes-clause-none : goal.remaining-returns-then-len-bytes-clause-none
@@ -39,9 +39,9 @@ remaining-returns-clause-left t c = λ known limits layout children values h.
     let own = own_bytes known limits c.args.purpose layout children values c.args.node.now _ c.len-len.result h
     (c.counts.ensures known limits layout values h.0) (λ vs. c.len-len.ensures limits vs) in
     let size = parts_length layout children bare (λ j. values) in
-    let held = subst (λ (ns : List Node). AreNodes (HasTaken known c.args.purpose limits) children ns (below layout values))
+    let held = subst (λ (ns : List Node). AreNodes (HasTaken known c.args.purpose limits) children ns (child_values layout values))
     (sym c.deref.ensures.value) h.1 in
-    IfSome_then c.remaining_all.result (c.remaining_all.ensures.left known limits children (below layout values) held)
+    IfSome_then c.remaining_all.result (c.remaining_all.ensures.left known limits children (child_values layout values) held)
     (λ n e. omega (arith, own, size, e, c.if-len-bytes.false))
 
 pub remaining-returns-clause-none : goal.remaining-returns-clause-none
@@ -49,9 +49,9 @@ remaining-returns-clause-none t c = λ known limits layout children values h e.
     let own = own_bytes known limits c.args.purpose layout children values c.args.node.now _ c.len-len.result h
     (c.counts.ensures known limits layout values h.0) (λ vs. c.len-len.ensures limits vs) in
     let size = parts_length layout children bare (λ j. values) in
-    let held = subst (λ (ns : List Node). AreNodes (HasTaken known c.args.purpose limits) children ns (below layout values))
+    let held = subst (λ (ns : List Node). AreNodes (HasTaken known c.args.purpose limits) children ns (child_values layout values))
     (sym c.deref.ensures.value) h.1 in
-    let more = c.remaining_all.ensures.none known limits children (below layout values) held e in
+    let more = c.remaining_all.ensures.none known limits children (child_values layout values) held e in
     omega (arith, own, size, more, c.if-len-bytes.false)
 
 pub remaining_all-returns-in_err-left-clause-none : goal.remaining_all-returns-in_err-left-clause-none
@@ -79,5 +79,5 @@ pub remaining_all-returns-clause-left : goal.remaining_all-returns-clause-left
 remaining_all-returns-clause-left t c = λ known limits shape given h.
     let all = first_all (HasTaken known c.args.purpose limits) c.loop-node.node-index shape c.args.nodes.now given
     (omega (arith, c.loop-node-test.false, c.loop-node.auto.node-index-end)) h in
-    subst (λ (s : Shape). length (padded (buffers_of s given)) + c.loop-node.left ≡ c.args.bytes) all
+    subst (λ (s : Shape). length (padded_bytes (buffers_of s given)) + c.loop-node.left ≡ c.args.bytes) all
     (c.loop-node.invariant.left known limits shape given h)

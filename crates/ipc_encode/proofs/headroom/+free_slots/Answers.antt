@@ -1,7 +1,7 @@
 use Rattle.std.proofs.Common.{sym, subst, ◌++◌, List, add-one, arith}
 use Rattle.ipc_column.specs.Shapes.{Shape}
 use Rattle.ipc_encode.specs.declared.node.Node.{Node}
-use Rattle.ipc_encode.specs.Buffers.{below}
+use Rattle.ipc_encode.specs.Buffers.{child_values}
 use Rattle.ipc_encode.specs.Limits.{HasLongNode}
 use Rattle.ipc_encode.specs.Built.{AreNodes, IsColumn, IsNode}
 use Rattle.ipc_encode.proofs.Siblings.{at_node, first_all, few_next}
@@ -15,11 +15,11 @@ loop-node-preserved t c = λ known shape before added h light.
     let i = c.loop-node.node-index in
     let at = at_node P i shape c.args.nodes.now before c.node-item.result c.loop-node-test.true h in
     let held = subst (λ (n : Node). IsNode P at.0 at.1 n (before i)) (sym c.node-item.is) at.3 in
-    let inside = subst (λ (ns : List Node). AreNodes P at.1 ns (below at.0 (before i))) (sym c.deref.ensures.value) held.1 in
+    let inside = subst (λ (ns : List Node). AreNodes P at.1 ns (child_values at.0 (before i))) (sym c.deref.ensures.value) held.1 in
     let some = weight_at 0 i shape added at.0 at.1 at.2 in
     let own = few_more slots c.saturating_sub-own.result at.0 at.1 (before i) (added i)
     (omega (arith, held.0.counted.few, held.0.counted.slots_are)) (omega (arith, some, light))
-    (c.free_slots.ensures known at.1 (below at.0 (before i)) (below at.0 (added i)) inside (omega (arith, some, light))) in
+    (c.free_slots.ensures known at.1 (child_values at.0 (before i)) (child_values at.0 (added i)) inside (omega (arith, some, light))) in
     rw add-one (few_next slots i shape (λ j. before j ++ added j) at.0 at.1 at.2
     (c.loop-node.invariant known shape before added h (omega (arith, light))) own)
 

@@ -1,7 +1,7 @@
 use Rattle.std.proofs.Common.{◌≡◌, sym, subst, List, add-one, arith}
 use Rattle.ipc_column.specs.Shapes.{Shape}
 use Rattle.ipc_encode.specs.declared.node.Node.{Node}
-use Rattle.ipc_encode.specs.Buffers.{below}
+use Rattle.ipc_encode.specs.Buffers.{child_values}
 use Rattle.ipc_encode.specs.Built.{AreNodes, IsColumn, IsNode}
 use Rattle.ipc_encode.specs.Weights.{capped, weight_of}
 use Rattle.ipc_encode.proofs.Siblings.{at_node, first_all}
@@ -14,12 +14,12 @@ loop-node-preserved t c = λ known limits shape before h.
     let i = c.loop-node.node-index in
     let at = at_node P i shape c.args.nodes.now before c.node-item.result c.loop-node-test.true h in
     let held = subst (λ (n : Node). IsNode P at.0 at.1 n (before i)) (sym c.node-item.is) at.3 in
-    let inside = subst (λ (ns : List Node). AreNodes P at.1 ns (below at.0 (before i))) (sym c.deref.ensures.value) held.1 in
+    let inside = subst (λ (ns : List Node). AreNodes P at.1 ns (child_values at.0 (before i))) (sym c.deref.ensures.value) held.1 in
     let size = weight_next 25 i shape before at.0 at.1 at.2 in
     rw add-one (omega (
       arith,
       size,
-      c.nodes_weight-inner.ensures known limits at.1 (below at.0 (before i)) inside,
+      c.nodes_weight-inner.ensures known limits at.1 (child_values at.0 (before i)) inside,
       c.loop-node.invariant known limits shape before h,
       held.0.counted.slots_are,
       held.0.counted.amount_is,

@@ -8,6 +8,6 @@ returns-then-null_count-eq0 c = λ known values own count none. none ∙ sym (no
 
 pub returns : goal.returns
 returns c = λ known values own count none.
-    on_ok_weaker c.push_marks.result
+    on_ok_weaker c.push_index_validity.result
     (λ e. e ∙ sym (some_null values (λ o. c.if-null_count-eq0.false (sym count ∙ o))))
-    (c.push_marks.ensures known values own none)
+    (c.push_index_validity.ensures known values own none)

@@ -5,7 +5,7 @@ use Rattle.ipc_model.specs.declared.value.Value.{Value}
 use Rattle.ipc_model.specs.declared.value.Value.TheVariants.{Null}
 use Rattle.ipc_column.specs.Nested.{slot_values}
 use Rattle.ipc_encode.specs.EntryIndices.{column_index}
-use Rattle.ipc_encode.specs.Numbers.{told}
+use Rattle.ipc_encode.specs.Numbers.{index_or_zero}
 use Rattle.ipc_encode.proofs.Copied.{column_cells}
 use Rattle.ipc_encode.proofs.index_columns.slot_indices.Goals as goal
 
@@ -18,7 +18,7 @@ next f vs i x l e =
 
 pub loop-slot-preserved : goal.loop-slot-preserved
 loop-slot-preserved g c =
-    let f = column_index (told (g.I.IndexOf.index c.args.indices.now)) c.args.layout in
+    let f = column_index (index_or_zero (g.I.IndexOf.index c.args.indices.now)) c.args.layout in
     let vs = slot_values c.slots-slots.result in
     let slot = c.loop-slot.slot in
     let inside : slot < length vs = omega (arith, c.loop-slot-test.true, c.loop-slot.auto.slot-end, c.len-slot-end.ensures) in
@@ -32,7 +32,7 @@ loop-slot-preserved g c =
 
 pub returns : goal.returns
 returns g c =
-    let f = column_index (told (g.I.IndexOf.index c.args.indices.now)) c.args.layout in
+    let f = column_index (index_or_zero (g.I.IndexOf.index c.args.indices.now)) c.args.layout in
     let vs = slot_values c.slots-slots.result in
     c.loop-slot.invariant.pushed
     ∙ ap (map f)

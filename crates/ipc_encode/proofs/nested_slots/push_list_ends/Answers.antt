@@ -6,7 +6,7 @@ use Rattle.ipc_model.specs.Limits.{max_data}
 use Rattle.ipc_model.specs.declared.layout.Layout.TheVariants.{Lists}
 use Rattle.ipc_model.specs.declared.value.Value.{Value}
 use Rattle.ipc_model.specs.declared.value.Value.TheVariants.{Null}
-use Rattle.ipc_column.specs.Nested.{below, slot_values}
+use Rattle.ipc_column.specs.Nested.{child_columns, slot_values}
 use Rattle.ipc_column.specs.Values.{row}
 use Rattle.ipc_encode.specs.Cells.{ends, items}
 use Rattle.ipc_encode.specs.Columns.{data_in}
@@ -23,7 +23,7 @@ returns-in_err-end-clause-refused c =
     let inside : slot < length view = omega (arith, c.loop-slot-test.true, c.loop-slot.auto.slot-end, c.len-slot-end.ensures) in
     let value = get_or_from_slice_get view slot _ Null c.at.ensures.value in
     let count : c.item_count.result ≡ length (items (get_or view slot Null)) =
-    c.item_count.ensures (row (below c.args.view.now)) slot ∙ ap (λ (v : Value). length (items v)) (sym value) in
+    c.item_count.ensures (row (child_columns c.args.view.now)) slot ∙ ap (λ (v : Value). length (items v)) (sym value) in
     let next = items_next view slot inside in
     let front = data_front Lists (slot + 1) view in
     let told = c.in_err-end.ensures.refused in
@@ -39,7 +39,7 @@ loop-slot-preserved c =
     let inside : slot < length view = omega (arith, c.loop-slot-test.true, c.loop-slot.auto.slot-end, c.len-slot-end.ensures) in
     let value = get_or_from_slice_get view slot _ Null c.at.ensures.value in
     let count : c.item_count.result ≡ length (items (get_or view slot Null)) =
-    c.item_count.ensures (row (below c.args.view.now)) slot ∙ ap (λ (v : Value). length (items v)) (sym value) in
+    c.item_count.ensures (row (child_columns c.args.view.now)) slot ∙ ap (λ (v : Value). length (items v)) (sym value) in
     let next = items_next view slot inside in
     let end : c.in_ok-end.end ≡ data_in Lists (take (slot + 1) view) =
     omega (arith, c.in_ok-end.ensures.end, c.loop-slot.invariant.end, count, next) in

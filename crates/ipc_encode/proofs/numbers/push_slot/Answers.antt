@@ -4,12 +4,12 @@ use Rattle.ipc_model.specs.Layouts.{number_bytes}
 use Rattle.ipc_encode.proofs.NumberSlots.{grown, null_slot, valid_slot}
 use Rattle.ipc_encode.proofs.numbers.push_slot.Goals as goal
 
-pub returns-then-not-is_marked_valid : goal.returns-then-not-is_marked_valid
-returns-then-not-is_marked_valid c =
+pub returns-then-not-is_valid_in_bitmap : goal.returns-then-not-is_valid_in_bitmap
+returns-then-not-is_valid_in_bitmap c =
     on_ok_weaker c.push_bits.result
     (λ e. e ∙ ap (λ (bs : List ℕ). c.args.values.now.items ++ bs)
     (sym (null_slot c.args.view.now c.args.numbers.now c.requires.numbers c.args.slot (omega (arith, c.requires.inside))
-    (sym c.is_marked_valid.ensures ∙ c.if-not-is_marked_valid.true))))
+    (sym c.is_valid_in_bitmap.ensures ∙ c.if-not-is_valid_in_bitmap.true))))
     c.push_bits.ensures
 
 pub returns : goal.returns
@@ -29,5 +29,5 @@ returns c =
     on_ok_weaker c.extend_from_slice.result
     (λ e. e ∙ ap (λ (bs : List ℕ). c.args.values.now.items ++ bs)
     (cut ∙ sym (valid_slot c.args.view.now numbers c.requires.numbers small slot (omega (arith, c.requires.inside))
-    (sym c.is_marked_valid.ensures ∙ c.if-not-is_marked_valid.false))))
+    (sym c.is_valid_in_bitmap.ensures ∙ c.if-not-is_valid_in_bitmap.false))))
     (grown c.extend_from_slice.result c.extend_from_slice.new.self.items _ _ c.extend_from_slice.ensures.items)

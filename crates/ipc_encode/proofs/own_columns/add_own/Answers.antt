@@ -5,7 +5,7 @@ use Rattle.ipc_model.specs.declared.layout.Layout.{Layout}
 use Rattle.ipc_model.specs.declared.layout.Layout.TheVariants as l
 use Rattle.ipc_column.specs.Nested.{slot_values}
 use Rattle.ipc_column.specs.Shapes.{bare}
-use Rattle.ipc_encode.specs.Lying.{is_taken_whole}
+use Rattle.ipc_encode.specs.WholeColumns.{is_taken_whole}
 use Rattle.ipc_encode.proofs.LentContents.{slots_stored}
 use Rattle.ipc_encode.proofs.SegmentColumns.{leaf_adds_as, leaf_refused_as}
 use Rattle.ipc_encode.proofs.own_columns.add_own.Goals as goal

@@ -5,8 +5,8 @@ use Rattle.std.proofs.lemmas.List.{append-nil}
 use Rattle.ipc_column.specs.Shapes.{Shape, bare, field}
 use Rattle.ipc_encode.specs.declared.node.Node.{Node}
 use Rattle.ipc_encode.specs.Cells.{nulls}
-use Rattle.ipc_encode.specs.Buffers.{below, column_buffers, nodes_of, buffers_with, stored}
-use Rattle.ipc_encode.specs.Numbers.{renumbered}
+use Rattle.ipc_encode.specs.Buffers.{child_values, column_buffers, nodes_of, buffers_with, written_values}
+use Rattle.ipc_encode.specs.Numbers.{new_indices}
 use Rattle.ipc_encode.proofs.Indexed.{buffers_with_next}
 use Rattle.ipc_encode.specs.Writing.{Adds}
 use Rattle.ipc_encode.specs.Built.{IsNode, IsColumn}
@@ -17,22 +17,22 @@ use Rattle.ipc_encode.proofs.parts.+add.Goals as goal
 pub add_node-returns-clause-nodes : goal.add_node-returns-clause-nodes
 add_node-returns-clause-nodes g t c = λ known limits layout children values h.
     let node : ℤ × ℤ = (pos (length values), pos (nulls values)) in
-    let inner = nodes_of children (below layout values) in
+    let inner = nodes_of children (child_values layout values) in
     on_ok_weaker c.add_below.result
     (λ e. e ∙ (ap (λ (ns : List (ℤ × ℤ)). ns ++ inner) (c.in_ok-add_own.ensures.nodes known limits layout values h.0)
     ∙ (append_assoc c.args.draft.now.nodes.items (node ∷ []) inner
     ∙ ap (λ (ns : List (ℤ × ℤ)). c.args.draft.now.nodes.items ++ node ∷ ns) (sym (append-nil inner)))))
-    (c.add_below.ensures.nodes known limits children (below layout values) h.1)
+    (c.add_below.ensures.nodes known limits children (child_values layout values) h.1)
 
 pub add_node-returns-clause-adds : goal.add_node-returns-clause-adds
 add_node-returns-clause-adds g t c = λ known limits layout children values h.
-    let indices = renumbered (g.N.Renumber.number c.args.numbers.now) known in
-    let own = column_buffers layout (stored indices layout values) in
-    let inner = buffers_with indices children (below layout values) in
+    let indices = new_indices (g.N.Renumber.number c.args.numbers.now) known in
+    let own = column_buffers layout (written_values indices layout values) in
+    let inner = buffers_with indices children (child_values layout values) in
     on_ok_weaker c.add_below.result
     (λ a. adds_as _ _ (own ++ inner) _ (ap (λ (bs : List (List ℕ)). own ++ bs) (sym (append-nil inner)))
     (adds_both _ _ _ own inner (c.in_ok-add_own.ensures.adds known limits layout values h.0) a))
-    (c.add_below.ensures.adds known limits children (below layout values) h.1)
+    (c.add_below.ensures.adds known limits children (child_values layout values) h.1)
 
 pub add_nodes-loop-node-preserved : goal.add_nodes-loop-node-preserved
 add_nodes-loop-node-preserved g t c = record {
@@ -51,7 +51,7 @@ add_nodes-loop-node-preserved g t c = record {
       let i = c.loop-node.node-index in
       let at = at_node P i shape c.args.nodes.now given c.node-item.result c.loop-node-test.true h in
       let held = subst (λ (n : Node). IsNode P at.0 at.1 n (given i)) (sym c.node-item.is) at.3 in
-      rw add-one (adds_as _ _ _ _ (sym (buffers_with_next (renumbered (g.N.Renumber.number c.args.numbers.now) known) i shape given
+      rw add-one (adds_as _ _ _ _ (sym (buffers_with_next (new_indices (g.N.Renumber.number c.args.numbers.now) known) i shape given
       at.0 at.1 at.2))
       (adds_both _ _ _ _ _ (c.loop-node.invariant.adds known limits shape given h) (c.in_ok-add_node.ensures.adds known limits at.0 at.1
       (given i) held)));
@@ -69,5 +69,5 @@ add_nodes-returns-clause-adds g t c = λ known limits shape given h.
     let all = first_all (IsColumn known limits) c.loop-node.node-index shape c.args.nodes.now given
     (omega (arith, c.loop-node-test.false, c.loop-node.auto.node-index-end)) h in
     subst (λ (s : Shape). Adds c.args.draft.now c.loop-node.draft
-    (buffers_with (renumbered (g.N.Renumber.number c.args.numbers.now) known) s given)) all
+    (buffers_with (new_indices (g.N.Renumber.number c.args.numbers.now) known) s given)) all
     (c.loop-node.invariant.adds known limits shape given h)

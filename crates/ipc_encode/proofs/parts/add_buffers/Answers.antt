@@ -2,7 +2,7 @@ use Rattle.std.proofs.Common.{◌≡◌, ◌∙◌, sym, subst, ℤ, [], ◌∷�
 use Rattle.std.specs.Prelude.{OnOk}
 use Rattle.std.proofs.lemmas.Result.{on_ok_weaker}
 use Rattle.ipc_encode.specs.Cells.{slots}
-use Rattle.ipc_encode.specs.Numbers.{as_number, changed}
+use Rattle.ipc_encode.specs.Numbers.{as_number, new_index}
 use Rattle.ipc_encode.specs.Pieces.{Number}
 use Rattle.ipc_encode.specs.Writing.{Adds}
 use Rattle.ipc_encode.proofs.Adding.{adds_both, adds_as}
@@ -15,7 +15,7 @@ returns-in-Indices-clause-adds g c = λ known limits layout values h.
     let number = g.N.Renumber.number c.args.numbers.now in
     let read : to_z w64 (of_z w64 c.in-Indices.id) ≡ c.in-Indices.id = search rules in
     let told = subst (λ (id : ℤ). OnOk c.add_indices.result (Adds c.add_buffer.new.draft c.add_indices.new.draft
-    (slots (Number c.in-Indices.bits) (map as_number (map (changed (number id)) c.deref-in-Indices.result.now)) ∷ []))) read
+    (slots (Number c.in-Indices.bits) (map as_number (map (new_index (number id)) c.deref-in-Indices.result.now)) ∷ []))) read
     c.add_indices.ensures.adds in
     on_ok_weaker c.add_indices.result
     (λ more. adds_as _ _ _ _ (index_buffers number known layout c.in-Indices.bits c.in-Indices.signed c.in-Indices.id values

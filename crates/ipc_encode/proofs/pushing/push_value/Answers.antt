@@ -3,7 +3,7 @@ use Rattle.std.specs.Int.{bytes_low_first}
 use Rattle.ipc_model.specs.Layouts.{number_bytes}
 use Rattle.ipc_encode.specs.Pieces.{True, Number, Fixed, Content}
 use Rattle.ipc_encode.specs.Bitmaps.{bitmap}
-use Rattle.ipc_encode.specs.Cells.{flags, content, fixed, slots}
+use Rattle.ipc_encode.specs.Cells.{flags, content, fixed_bytes, slots}
 use Rattle.ipc_encode.proofs.Bits.{flags_length}
 use Rattle.ipc_encode.proofs.Steps.{flags_push, slots_push}
 use Rattle.std.proofs.lemmas.Result.{on_ok_weaker}
@@ -28,7 +28,7 @@ returns-in-Numbers-clause-values c = λ vs size e.
 pub returns-in-FixedBytes-clause-values : goal.returns-in-FixedBytes-clause-values
 returns-in-FixedBytes-clause-values c = λ vs size e.
     rw c.in-FixedBytes.is (on_ok_weaker c.push_fixed.result
-    (λ h. h ∙ (ap (λ (bs : List ℕ). bs ++ fixed c.in-FixedBytes.width c.args.value.now) (rw c.in-FixedBytes.is at e)
+    (λ h. h ∙ (ap (λ (bs : List ℕ). bs ++ fixed_bytes c.in-FixedBytes.width c.args.value.now) (rw c.in-FixedBytes.is at e)
     ∙ sym (slots_push (Fixed c.in-FixedBytes.width) vs c.args.value.now)))
     c.push_fixed.ensures)
 

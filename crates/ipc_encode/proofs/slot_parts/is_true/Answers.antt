@@ -1,5 +1,5 @@
 use Rattle.std.proofs.Common.{◌∙◌, sym, ap}
-use Rattle.ipc_column.specs.Slots.{shown}
+use Rattle.ipc_column.specs.Slots.{value_in_slot}
 use Rattle.ipc_column.specs.declared.slot_view.Slot.{Slot}
 use Rattle.ipc_column.specs.declared.slot_view.Slot.TheVariants as slot
 use Rattle.ipc_encode.specs.Cells.{is_set}
@@ -9,7 +9,7 @@ use Rattle.ipc_encode.proofs.slot_parts.is_true.Goals as goal
 
 pub returns-in-Bool : goal.returns-in-Bool
 returns-in-Bool c = λ under i.
-    sym (ap (λ (x : Slot). is_set True (shown under i x)) c.in-Bool.is ∙ true_is under i (slot.Bool c.in-Bool.truth))
+    sym (ap (λ (x : Slot). is_set True (value_in_slot under i x)) c.in-Bool.is ∙ true_is under i (slot.Bool c.in-Bool.truth))
 
 pub returns-in_default : goal.returns-in_default
 returns-in_default c = λ under i. sym (no_truth under i c.args.held.now c.in_default.not-Bool)

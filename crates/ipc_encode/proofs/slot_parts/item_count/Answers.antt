@@ -1,6 +1,6 @@
 use Rattle.std.proofs.Common.{◌∙◌, sym, ap, ◌-◌, List, length}
 use Rattle.ipc_model.specs.declared.value.Value.{Value}
-use Rattle.ipc_column.specs.Slots.{shown}
+use Rattle.ipc_column.specs.Slots.{value_in_slot}
 use Rattle.ipc_column.specs.Values.{first_of}
 use Rattle.ipc_column.specs.declared.slot_view.Slot.{Slot}
 use Rattle.ipc_column.specs.declared.slot_view.Slot.TheVariants as slot
@@ -14,7 +14,7 @@ returns-in-List c = λ under i.
     let from = c.in-List.from in
     let to = c.in-List.to in
     c.saturating_sub.ensures
-    ∙ sym (ap (λ (x : Slot). length (items (shown under i x))) c.in-List.is
+    ∙ sym (ap (λ (x : Slot). length (items (value_in_slot under i x))) c.in-List.is
     ∙ (ap (λ (vs : List Value). length vs) (items_are under i (slot.List from to)) ∙ items_length (λ j. first_of (under j)) from
     (to - from)))
 

@@ -6,11 +6,11 @@ use Rattle.ipc_model.specs.declared.layout.Layout.{Layout}
 use Rattle.ipc_model.specs.declared.value.Value.{Value}
 use Rattle.ipc_column.specs.Shapes.{bare, field}
 use Rattle.ipc_encode.specs.declared.node.Node.{Node, out-Node}
-use Rattle.ipc_encode.specs.declared.column.Purpose.{Purpose}
-use Rattle.ipc_encode.specs.Buffers.{below}
+use Rattle.ipc_encode.specs.declared.column_builder.Purpose.{Purpose}
+use Rattle.ipc_encode.specs.Buffers.{child_values}
 use Rattle.ipc_encode.specs.Cells.{cell}
 use Rattle.ipc_encode.specs.Built.{AreNodes, IsNode, HasTaken, IsColumn, ArePushesRefused}
-use Rattle.ipc_encode.specs.Numbers.{told}
+use Rattle.ipc_encode.specs.Numbers.{index_or_zero}
 use Rattle.ipc_encode.proofs.Below.{fixed_are, parts_are, fixed_gives, struct_gives}
 use Rattle.ipc_encode.proofs.Below.{lists_more, fixed_more, nulls_more, structs_more}
 use Rattle.ipc_encode.proofs.Growing.{own_refused, child_refused, mixed_refused, all_refused}
@@ -21,9 +21,9 @@ use Rattle.ipc_encode.proofs.tree.+take.Goals as goal
 
 pub take-returns-then-is_leaf-clause-taken : goal.take-returns-then-is_leaf-clause-taken
 take-returns-then-is_leaf-clause-taken g t c = λ layout children values h.
-    let P = HasTaken (told (g.I.IndexOf.index c.args.indices.now)) c.args.purpose c.args.limits.now in
+    let P = HasTaken (index_or_zero (g.I.IndexOf.index c.args.indices.now)) c.args.purpose c.args.limits.now in
     let more = values ++ c.args.value.now ∷ [] in
-    let inner = leaf_has P children (out-Node c.args.node.now).children.items (below layout values) (below layout more)
+    let inner = leaf_has P children (out-Node c.args.node.now).children.items (child_values layout values) (child_values layout more)
     (c.is_leaf.ensures.0 c.if-is_leaf.true) h.1 in
     on_ok_weaker c.take.result (λ own. node_is P layout children more _ own inner) (c.take.ensures.taken layout values h.0)
 
@@ -33,103 +33,106 @@ take-returns-then-is_leaf-clause-kept g t c = λ known limits layout children va
 
 pub take_deep-returns-in_err-take_below-clause-refused : goal.take_deep-returns-in_err-take_below-clause-refused
 take_deep-returns-in_err-take_below-clause-refused g t c = λ layout children values h.
-    let P = HasTaken (told (g.I.IndexOf.index c.args.indices.now)) c.args.purpose c.args.limits.now in
-    let laid = taken_laid (told (g.I.IndexOf.index c.args.indices.now)) c.args.purpose c.args.limits.now layout values
+    let P = HasTaken (index_or_zero (g.I.IndexOf.index c.args.indices.now)) c.args.purpose c.args.limits.now in
+    let laid = taken_laid (index_or_zero (g.I.IndexOf.index c.args.indices.now)) c.args.purpose c.args.limits.now layout values
     (out-Node c.args.node.now).column h.0 in
-    let held = subst (λ (l : Layout). AreNodes P children c.deref_mut.result.now (below l values)) (sym laid)
-    (subst (λ (ns : List Node). AreNodes P children ns (below layout values)) (sym c.deref_mut.ensures.value) h.1) in
-    let told = subst (λ (l : Layout). ArePushesRefused c.args.limits.now children (below l (values ++ c.args.value.now ∷ []))
+    let held = subst (λ (l : Layout). AreNodes P children c.deref_mut.result.now (child_values l values)) (sym laid)
+    (subst (λ (ns : List Node). AreNodes P children ns (child_values layout values)) (sym c.deref_mut.ensures.value) h.1) in
+    let index_or_zero = subst (λ (l : Layout). ArePushesRefused c.args.limits.now children
+    (child_values l (values ++ c.args.value.now ∷ []))
     c.in_err-take_below.field-0.0) laid (c.in_err-take_below.ensures.refused children values held) in
     let p = err_from_is_err_and c.from_residual.result c.from_residual.ensures.1 in
     rw (p.1, p.2) (child_refused c.args.limits.now layout children bare (λ j. values ++ c.args.value.now ∷ [])
-    c.in_err-take_below.field-0.0 told)
+    c.in_err-take_below.field-0.0 index_or_zero)
 
 pub take_deep-returns-in_err-take_below-clause-kept : goal.take_deep-returns-in_err-take_below-clause-kept
 take_deep-returns-in_err-take_below-clause-kept g t c = λ known limits layout children values e h.
     lent_node (IsColumn known limits) layout children values values c.args.node.now c.deref_mut.result.now c.take_below.new.nodes
-    c.deref_mut.ensures.value c.take_below.auto.nodes h (c.in_err-take_below.ensures.kept known limits children (below layout values) e)
+    c.deref_mut.ensures.value c.take_below.auto.nodes h (c.in_err-take_below.ensures.kept known limits children (child_values layout values)
+    e)
 
 pub take_deep-returns-clause-taken : goal.take_deep-returns-clause-taken
 take_deep-returns-clause-taken g t c = λ layout children values h.
-    let P = HasTaken (told (g.I.IndexOf.index c.args.indices.now)) c.args.purpose c.args.limits.now in
-    let laid = taken_laid (told (g.I.IndexOf.index c.args.indices.now)) c.args.purpose c.args.limits.now layout values
+    let P = HasTaken (index_or_zero (g.I.IndexOf.index c.args.indices.now)) c.args.purpose c.args.limits.now in
+    let laid = taken_laid (index_or_zero (g.I.IndexOf.index c.args.indices.now)) c.args.purpose c.args.limits.now layout values
     (out-Node c.args.node.now).column h.0 in
     let lent = lent_node P layout children values (values ++ c.args.value.now ∷ []) c.args.node.now
     c.deref_mut.result.now c.take_below.new.nodes c.deref_mut.ensures.value c.take_below.auto.nodes h
-    (λ held. subst (λ (l : Layout). AreNodes P children c.take_below.new.nodes (below l (values ++ c.args.value.now ∷ []))) laid
+    (λ held. subst (λ (l : Layout). AreNodes P children c.take_below.new.nodes (child_values l (values ++ c.args.value.now ∷ []))) laid
     (c.in_ok-take_below.ensures.taken children values
-    (subst (λ (l : Layout). AreNodes P children c.deref_mut.result.now (below l values)) (sym laid) held))) in
+    (subst (λ (l : Layout). AreNodes P children c.deref_mut.result.now (child_values l values)) (sym laid) held))) in
     on_ok_weaker c.take.result (λ own. node_is P layout children (values ++ c.args.value.now ∷ []) _ own lent.1)
     (c.take.ensures.taken layout values lent.0)
 
 pub take_deep-returns-clause-refused : goal.take_deep-returns-clause-refused
 take_deep-returns-clause-refused g t c = λ layout children values h.
-    let P = HasTaken (told (g.I.IndexOf.index c.args.indices.now)) c.args.purpose c.args.limits.now in
+    let P = HasTaken (index_or_zero (g.I.IndexOf.index c.args.indices.now)) c.args.purpose c.args.limits.now in
     IfErr-weaker c.take.result _ _
-    (λ fault told. own_refused c.args.limits.now layout children bare (λ j. values ++ c.args.value.now ∷ []) fault told)
+    (λ fault index_or_zero. own_refused c.args.limits.now layout children bare (λ j. values ++ c.args.value.now ∷ []) fault index_or_zero)
     (c.take.ensures.refused layout values (lent_column P layout values c.args.node.now c.take_below.new.nodes h.0))
 
 pub take_deep-returns-clause-kept : goal.take_deep-returns-clause-kept
 take_deep-returns-clause-kept g t c = λ known limits layout children values e h.
     let P = IsColumn known limits in
     let lent = lent_node P layout children values values c.args.node.now c.deref_mut.result.now c.take_below.new.nodes
-    c.deref_mut.ensures.value c.take_below.auto.nodes h (c.in_ok-take_below.ensures.kept known limits children (below layout values) e) in
+    c.deref_mut.ensures.value c.take_below.auto.nodes h (c.in_ok-take_below.ensures.kept known limits children (child_values layout values)
+    e) in
     node_is P layout children values _ (c.take.ensures.kept known limits layout values e lent.0) lent.1
 
 -- ---- below a column
 
 pub take_below-returns-in-Lists-clause-taken : goal.take_below-returns-in-Lists-clause-taken
 take_below-returns-in-Lists-clause-taken g t c = λ shape values h.
-    let P = HasTaken (told (g.I.IndexOf.index c.args.indices.now)) c.args.purpose c.args.limits.now in
+    let P = HasTaken (index_or_zero (g.I.IndexOf.index c.args.indices.now)) c.args.purpose c.args.limits.now in
     on_ok_weaker c.take_items.result
     (λ more. subst (λ (given : ℕ → List Value). AreNodes P shape c.take_items.new.nodes given)
     (lists_more c.args.layout values c.args.value.now c.items.result.now c.in-Lists.is (sym c.items.ensures)) more)
-    (c.take_items.ensures.taken shape (below c.args.layout values) h)
+    (c.take_items.ensures.taken shape (child_values c.args.layout values) h)
 
 pub take_below-returns-in-Lists-clause-refused : goal.take_below-returns-in-Lists-clause-refused
 take_below-returns-in-Lists-clause-refused g t c = λ shape values h.
     IfErr-weaker c.take_items.result _ _
-    (λ fault told. subst (λ (given : ℕ → List Value). ArePushesRefused c.args.limits.now shape given fault)
-    (lists_more c.args.layout values c.args.value.now c.items.result.now c.in-Lists.is (sym c.items.ensures)) told)
-    (c.take_items.ensures.refused shape (below c.args.layout values) h)
+    (λ fault index_or_zero. subst (λ (given : ℕ → List Value). ArePushesRefused c.args.limits.now shape given fault)
+    (lists_more c.args.layout values c.args.value.now c.items.result.now c.in-Lists.is (sym c.items.ensures)) index_or_zero)
+    (c.take_items.ensures.refused shape (child_values c.args.layout values) h)
 
 pub take_below-returns-in-Struct-clause-taken : goal.take_below-returns-in-Struct-clause-taken
 take_below-returns-in-Struct-clause-taken g t c = λ shape values h.
-    let P = HasTaken (told (g.I.IndexOf.index c.args.indices.now)) c.args.purpose c.args.limits.now in
+    let P = HasTaken (index_or_zero (g.I.IndexOf.index c.args.indices.now)) c.args.purpose c.args.limits.now in
     on_ok_weaker c.take_parts.result
     (λ more. subst (λ (given : ℕ → List Value). AreNodes P shape c.take_parts.new.nodes given)
     (structs_more c.args.layout values c.args.value.now (λ j. cell j c.as_slice-in-Struct.result.now) c.in-Structs.is
     (λ j. parts_are c.args.value.now c.in-Struct.parts c.in-Struct.is j ∙ ap (λ (ps : List Value). cell j ps)
     (sym c.as_slice-in-Struct.ensures)))
     more)
-    (c.take_parts.ensures.taken shape (below c.args.layout values) h)
+    (c.take_parts.ensures.taken shape (child_values c.args.layout values) h)
 
 pub take_below-returns-in-Struct-clause-refused : goal.take_below-returns-in-Struct-clause-refused
 take_below-returns-in-Struct-clause-refused g t c = λ shape values h.
     IfErr-weaker c.take_parts.result _ _
-    (λ fault told. subst (λ (given : ℕ → List Value). ArePushesRefused c.args.limits.now shape given fault)
+    (λ fault index_or_zero. subst (λ (given : ℕ → List Value). ArePushesRefused c.args.limits.now shape given fault)
     (structs_more c.args.layout values c.args.value.now (λ j. cell j c.as_slice-in-Struct.result.now) c.in-Structs.is
     (λ j. parts_are c.args.value.now c.in-Struct.parts c.in-Struct.is j ∙ ap (λ (ps : List Value). cell j ps)
     (sym c.as_slice-in-Struct.ensures)))
-    told)
-    (c.take_parts.ensures.refused shape (below c.args.layout values) h)
+    index_or_zero)
+    (c.take_parts.ensures.refused shape (child_values c.args.layout values) h)
 
 pub take_below-returns-in-List-clause-taken : goal.take_below-returns-in-List-clause-taken
 take_below-returns-in-List-clause-taken g t c = λ shape values h.
-    let P = HasTaken (told (g.I.IndexOf.index c.args.indices.now)) c.args.purpose c.args.limits.now in
+    let P = HasTaken (index_or_zero (g.I.IndexOf.index c.args.indices.now)) c.args.purpose c.args.limits.now in
     let is = fixed_are c.in-FixedLists.field-0 c.args.value.now c.in-List.items c.in-List.is ∙ sym c.as_slice.ensures in
     on_ok_weaker c.take_items-in-List.result
     (λ more. subst (λ (given : ℕ → List Value). AreNodes P shape c.take_items-in-List.new.nodes given)
     (fixed_more c.args.layout c.in-FixedLists.field-0 values c.args.value.now c.as_slice.result.now c.in-FixedLists.is is) more)
-    (c.take_items-in-List.ensures.taken shape (below c.args.layout values) h)
+    (c.take_items-in-List.ensures.taken shape (child_values c.args.layout values) h)
 
 pub take_below-returns-in-List-clause-refused : goal.take_below-returns-in-List-clause-refused
 take_below-returns-in-List-clause-refused g t c = λ shape values h.
     let is = fixed_are c.in-FixedLists.field-0 c.args.value.now c.in-List.items c.in-List.is ∙ sym c.as_slice.ensures in
     IfErr-weaker c.take_items-in-List.result _ _
-    (λ fault told. subst (λ (given : ℕ → List Value). ArePushesRefused c.args.limits.now shape given fault)
-    (fixed_more c.args.layout c.in-FixedLists.field-0 values c.args.value.now c.as_slice.result.now c.in-FixedLists.is is) told)
-    (c.take_items-in-List.ensures.refused shape (below c.args.layout values) h)
+    (λ fault index_or_zero. subst (λ (given : ℕ → List Value). ArePushesRefused c.args.limits.now shape given fault)
+    (fixed_more c.args.layout c.in-FixedLists.field-0 values c.args.value.now c.as_slice.result.now c.in-FixedLists.is is) index_or_zero)
+    (c.take_items-in-List.ensures.refused shape (child_values c.args.layout values) h)
 
 pub take_below-returns-in_default-value : goal.take_below-returns-in_default-value
 take_below-returns-in_default-value g t c =
@@ -138,13 +141,13 @@ take_below-returns-in_default-value g t c =
     record {
       taken = λ shape values h. on_ok_weaker c.take_nulls.result
           (λ taken. subst (λ (given : ℕ → List Value). AreNodes
-          (HasTaken (told (g.I.IndexOf.index c.args.indices.now)) c.args.purpose c.args.limits.now) shape
+          (HasTaken (index_or_zero (g.I.IndexOf.index c.args.indices.now)) c.args.purpose c.args.limits.now) shape
           c.take_nulls.new.nodes given) (more values) taken)
-          (c.take_nulls.ensures.taken shape (below c.args.layout values) h);
+          (c.take_nulls.ensures.taken shape (child_values c.args.layout values) h);
       refused = λ shape values h. IfErr-weaker c.take_nulls.result _ _
-          (λ fault told. subst (λ (given : ℕ → List Value). ArePushesRefused c.args.limits.now shape given fault)
-          (more values) told)
-          (c.take_nulls.ensures.refused shape (below c.args.layout values) h);
+          (λ fault index_or_zero. subst (λ (given : ℕ → List Value). ArePushesRefused c.args.limits.now shape given fault)
+          (more values) index_or_zero)
+          (c.take_nulls.ensures.refused shape (child_values c.args.layout values) h);
       kept = c.take_nulls.ensures.kept;
       memory = c.take_nulls.ensures.memory;
     }
@@ -157,13 +160,13 @@ take_below-returns-in_default-value-2 g t c =
     record {
       taken = λ shape values h. on_ok_weaker c.take_nulls-in_default-value-2.result
           (λ taken. subst (λ (given : ℕ → List Value). AreNodes
-          (HasTaken (told (g.I.IndexOf.index c.args.indices.now)) c.args.purpose c.args.limits.now) shape
+          (HasTaken (index_or_zero (g.I.IndexOf.index c.args.indices.now)) c.args.purpose c.args.limits.now) shape
           c.take_nulls-in_default-value-2.new.nodes given) (more values) taken)
-          (c.take_nulls-in_default-value-2.ensures.taken shape (below c.args.layout values) h);
+          (c.take_nulls-in_default-value-2.ensures.taken shape (child_values c.args.layout values) h);
       refused = λ shape values h. IfErr-weaker c.take_nulls-in_default-value-2.result _ _
-          (λ fault told. subst (λ (given : ℕ → List Value). ArePushesRefused c.args.limits.now shape given fault)
-          (more values) told)
-          (c.take_nulls-in_default-value-2.ensures.refused shape (below c.args.layout values) h);
+          (λ fault index_or_zero. subst (λ (given : ℕ → List Value). ArePushesRefused c.args.limits.now shape given fault)
+          (more values) index_or_zero)
+          (c.take_nulls-in_default-value-2.ensures.refused shape (child_values c.args.layout values) h);
       kept = c.take_nulls-in_default-value-2.ensures.kept;
       memory = c.take_nulls-in_default-value-2.ensures.memory;
     }
@@ -172,75 +175,82 @@ take_below-returns-in_default-value-2 g t c =
 
 pub take_items-returns-in_err-take_all-clause-refused : goal.take_items-returns-in_err-take_all-clause-refused
 take_items-returns-in_err-take_all-clause-refused g t c = λ shape given h.
-    let P = HasTaken (told (g.I.IndexOf.index c.args.indices.now)) c.args.purpose c.args.limits.now in
+    let P = HasTaken (index_or_zero (g.I.IndexOf.index c.args.indices.now)) c.args.purpose c.args.limits.now in
     let p = err_from_is_err_and c.from_residual.result c.from_residual.ensures.1 in
     rw (p.1, p.2) (mixed_refused c.args.limits.now P P c.loop-i.i shape c.loop-i.nodes given (λ j. given j ++ c.args.items.now)
     c.index-nodes-i.result c.in_err-take_all.field-0.0 (omega (arith, c.loop-i.invariant.unvisited.0, c.loop-i-test.true))
-    (λ l below held. c.in_err-take_all.ensures.refused l below (given c.loop-i.i) held) (c.loop-i.invariant.taken shape given h))
+    (λ l child_values held. c.in_err-take_all.ensures.refused l child_values (given c.loop-i.i) held)
+    (c.loop-i.invariant.taken shape given h))
 
 pub take_items-returns-in_err-take_all-clause-kept : goal.take_items-returns-in_err-take_all-clause-kept
 take_items-returns-in_err-take_all-clause-kept g t c = λ known limits shape given e h.
     kept_at (IsColumn known limits) c.loop-i.i shape c.loop-i.nodes given c.take_all.new.node c.index-nodes-i.result
     (omega (arith, c.loop-i.invariant.unvisited.0, c.loop-i-test.true))
-    (λ l below vs held. c.in_err-take_all.ensures.kept known limits l below vs e held)
+    (λ l child_values vs held. c.in_err-take_all.ensures.kept known limits l child_values vs e held)
     (c.loop-i.invariant.kept known limits shape given e h)
 
 pub take_items-loop-i-preserved : goal.take_items-loop-i-preserved
 take_items-loop-i-preserved g t c = record {
   unvisited = search rules;
-  taken = λ shape given h. rw add-one (mixed_more (HasTaken (told (g.I.IndexOf.index c.args.indices.now)) c.args.purpose c.args.limits.now)
-      (HasTaken (told (g.I.IndexOf.index c.args.indices.now)) c.args.purpose c.args.limits.now) c.loop-i.i shape c.loop-i.nodes given
+  taken = λ shape given h. rw add-one (mixed_more (HasTaken (index_or_zero (g.I.IndexOf.index c.args.indices.now)) c.args.purpose
+      c.args.limits.now)
+      (HasTaken (index_or_zero (g.I.IndexOf.index c.args.indices.now)) c.args.purpose c.args.limits.now) c.loop-i.i shape c.loop-i.nodes
+      given
       (λ j. given j ++ c.args.items.now)
       c.take_all.new.node c.index-nodes-i.result (omega (arith, c.loop-i.invariant.unvisited.0, c.loop-i-test.true))
-      (λ l below held. c.in_ok-take_all.ensures.taken l below (given c.loop-i.i) held) (c.loop-i.invariant.taken shape given h));
+      (λ l child_values held. c.in_ok-take_all.ensures.taken l child_values (given c.loop-i.i) held)
+      (c.loop-i.invariant.taken shape given h));
   kept = λ known limits shape given e h. kept_at (IsColumn known limits) c.loop-i.i shape c.loop-i.nodes given c.take_all.new.node
       c.index-nodes-i.result (omega (arith, c.loop-i.invariant.unvisited.0, c.loop-i-test.true))
-      (λ l below vs held. c.in_ok-take_all.ensures.kept known limits l below vs e held)
+      (λ l child_values vs held. c.in_ok-take_all.ensures.kept known limits l child_values vs e held)
       (c.loop-i.invariant.kept known limits shape given e h);
 }
 
 pub take_items-returns-clause-taken : goal.take_items-returns-clause-taken
 take_items-returns-clause-taken g t c = λ shape given h.
-    mixed_all (HasTaken (told (g.I.IndexOf.index c.args.indices.now)) c.args.purpose c.args.limits.now)
-    (HasTaken (told (g.I.IndexOf.index c.args.indices.now)) c.args.purpose c.args.limits.now) c.loop-i.i shape c.loop-i.nodes given
+    mixed_all (HasTaken (index_or_zero (g.I.IndexOf.index c.args.indices.now)) c.args.purpose c.args.limits.now)
+    (HasTaken (index_or_zero (g.I.IndexOf.index c.args.indices.now)) c.args.purpose c.args.limits.now) c.loop-i.i shape c.loop-i.nodes given
     (λ j. given j ++ c.args.items.now)
     (omega (arith, c.loop-i.invariant.unvisited.0, c.loop-i-test.false, c.loop-i.auto.i-end)) (c.loop-i.invariant.taken shape given h)
 
 pub take_parts-returns-in_err-take-in-Some-clause-refused : goal.take_parts-returns-in_err-take-in-Some-clause-refused
 take_parts-returns-in_err-take-in-Some-clause-refused g t c = λ shape given h.
-    let P = HasTaken (told (g.I.IndexOf.index c.args.indices.now)) c.args.purpose c.args.limits.now in
+    let P = HasTaken (index_or_zero (g.I.IndexOf.index c.args.indices.now)) c.args.purpose c.args.limits.now in
     let p = err_from_is_err_and c.from_residual.result c.from_residual.ensures.1 in
     rw (p.1, p.2) (mixed_refused c.args.limits.now P P c.loop-i.i shape c.loop-i.nodes given
     (λ j. given j ++ cell j c.args.parts.now ∷ [])
     c.index-nodes-i.result c.in_err-take-in-Some.field-0.0 (omega (arith, c.loop-i.invariant.unvisited.0, c.loop-i-test.true))
-    (λ l below held. subst (λ (v : Value). ArePushesRefused c.args.limits.now (field l below bare) (λ j. given c.loop-i.i ++ v ∷ [])
-    c.in_err-take-in-Some.field-0.0) (search rules) (c.in_err-take-in-Some.ensures.refused l below (given c.loop-i.i) held))
+    (λ l child_values held. subst (λ (v : Value). ArePushesRefused c.args.limits.now (field l child_values bare)
+    (λ j. given c.loop-i.i ++ v ∷ [])
+    c.in_err-take-in-Some.field-0.0) (search rules) (c.in_err-take-in-Some.ensures.refused l child_values (given c.loop-i.i) held))
     (c.loop-i.invariant.taken shape given h))
 
 pub take_parts-returns-in_err-take-in-Some-clause-kept : goal.take_parts-returns-in_err-take-in-Some-clause-kept
 take_parts-returns-in_err-take-in-Some-clause-kept g t c = λ known limits shape given e h.
     kept_at (IsColumn known limits) c.loop-i.i shape c.loop-i.nodes given c.take.new.node c.index-nodes-i.result
     (omega (arith, c.loop-i.invariant.unvisited.0, c.loop-i-test.true))
-    (λ l below vs held. c.in_err-take-in-Some.ensures.kept known limits l below vs e held)
+    (λ l child_values vs held. c.in_err-take-in-Some.ensures.kept known limits l child_values vs e held)
     (c.loop-i.invariant.kept known limits shape given e h)
 
 pub take_parts-returns-in_err-take_null-in-None-clause-refused : goal.take_parts-returns-in_err-take_null-in-None-clause-refused
 take_parts-returns-in_err-take_null-in-None-clause-refused g t c = λ shape given h.
-    let P = HasTaken (told (g.I.IndexOf.index c.args.indices.now)) c.args.purpose c.args.limits.now in
+    let P = HasTaken (index_or_zero (g.I.IndexOf.index c.args.indices.now)) c.args.purpose c.args.limits.now in
     let p = err_from_is_err_and c.from_residual-in_err-take_null-in-None.result c.from_residual-in_err-take_null-in-None.ensures.1 in
     rw (p.1, p.2) (mixed_refused c.args.limits.now P P c.loop-i.i shape c.loop-i.nodes given
     (λ j. given j ++ cell j c.args.parts.now ∷ [])
     c.index-nodes-i-in-None.result c.in_err-take_null-in-None.field-0.0 (omega
     (arith, c.loop-i.invariant.unvisited.0, c.loop-i-test.true))
-    (λ l below held. subst (λ (v : Value). ArePushesRefused c.args.limits.now (field l below bare) (λ j. given c.loop-i.i ++ v ∷ [])
-    c.in_err-take_null-in-None.field-0.0) (search rules) (c.in_err-take_null-in-None.ensures.refused l below (given c.loop-i.i) held))
+    (λ l child_values held. subst (λ (v : Value). ArePushesRefused c.args.limits.now (field l child_values bare)
+    (λ j. given c.loop-i.i ++ v ∷ [])
+    c.in_err-take_null-in-None.field-0.0) (search rules) (c.in_err-take_null-in-None.ensures.refused l child_values (given c.loop-i.i)
+    held))
     (c.loop-i.invariant.taken shape given h))
 
 pub take_parts-returns-in_err-take_null-in-None-clause-kept : goal.take_parts-returns-in_err-take_null-in-None-clause-kept
 take_parts-returns-in_err-take_null-in-None-clause-kept g t c = λ known limits shape given e h.
     kept_at (IsColumn known limits) c.loop-i.i shape c.loop-i.nodes given c.take_null.new.node c.index-nodes-i-in-None.result
     (omega (arith, c.loop-i.invariant.unvisited.0, c.loop-i-test.true))
-    (λ l below vs held. c.in_err-take_null-in-None.ensures.kept known limits l below vs e held)
+    (λ l child_values vs held. c.in_err-take_null-in-None.ensures.kept known limits l child_values vs e held)
     (c.loop-i.invariant.kept known limits shape given e h)
 
 pub take_parts-loop-i-preserved : goal.take_parts-loop-i-preserved
@@ -248,43 +258,46 @@ take_parts-loop-i-preserved g t c = elim c.match-get.branch [
   | take_parts-in-Some+in_ok-take-in-Some w ↦ record {
     unvisited = rw w.nodes-is (search rules);
     taken = λ shape given h. rw (w.nodes-is, add-one)
-        (mixed_more (HasTaken (told (g.I.IndexOf.index c.args.indices.now)) c.args.purpose c.args.limits.now)
-        (HasTaken (told (g.I.IndexOf.index c.args.indices.now)) c.args.purpose c.args.limits.now) c.loop-i.i shape c.loop-i.nodes given
+        (mixed_more (HasTaken (index_or_zero (g.I.IndexOf.index c.args.indices.now)) c.args.purpose c.args.limits.now)
+        (HasTaken (index_or_zero (g.I.IndexOf.index c.args.indices.now)) c.args.purpose c.args.limits.now) c.loop-i.i shape c.loop-i.nodes
+        given
         (λ j. given j ++ cell j c.args.parts.now ∷ []) w.take.new.node w.index-nodes-i.result
         (omega (arith, c.loop-i.invariant.unvisited.0, c.loop-i-test.true))
-        (λ l below held. subst (λ (v : Value). IsNode
-        (HasTaken (told (g.I.IndexOf.index c.args.indices.now)) c.args.purpose c.args.limits.now) l below w.take.new.node
+        (λ l child_values held. subst (λ (v : Value). IsNode
+        (HasTaken (index_or_zero (g.I.IndexOf.index c.args.indices.now)) c.args.purpose c.args.limits.now) l child_values w.take.new.node
         (given c.loop-i.i ++ v ∷ [])) (search rules)
-        (w.in_ok-take-in-Some.ensures.taken l below (given c.loop-i.i) held)) (c.loop-i.invariant.taken shape given h));
+        (w.in_ok-take-in-Some.ensures.taken l child_values (given c.loop-i.i) held)) (c.loop-i.invariant.taken shape given h));
     kept = λ known limits shape given e h. rw w.nodes-is
         (kept_at (IsColumn known limits) c.loop-i.i shape c.loop-i.nodes given w.take.new.node
         w.index-nodes-i.result (omega (arith, c.loop-i.invariant.unvisited.0, c.loop-i-test.true))
-        (λ l below vs held. w.in_ok-take-in-Some.ensures.kept known limits l below vs e held)
+        (λ l child_values vs held. w.in_ok-take-in-Some.ensures.kept known limits l child_values vs e held)
         (c.loop-i.invariant.kept known limits shape given e h));
   }
   | take_parts-in-None+in_ok-take_null-in-None w ↦ record {
     unvisited = rw w.nodes-is (search rules);
     taken = λ shape given h. rw (w.nodes-is, add-one)
-        (mixed_more (HasTaken (told (g.I.IndexOf.index c.args.indices.now)) c.args.purpose c.args.limits.now)
-        (HasTaken (told (g.I.IndexOf.index c.args.indices.now)) c.args.purpose c.args.limits.now) c.loop-i.i shape c.loop-i.nodes given
+        (mixed_more (HasTaken (index_or_zero (g.I.IndexOf.index c.args.indices.now)) c.args.purpose c.args.limits.now)
+        (HasTaken (index_or_zero (g.I.IndexOf.index c.args.indices.now)) c.args.purpose c.args.limits.now) c.loop-i.i shape c.loop-i.nodes
+        given
         (λ j. given j ++ cell j c.args.parts.now ∷ []) w.take_null.new.node w.index-nodes-i-in-None.result
         (omega (arith, c.loop-i.invariant.unvisited.0, c.loop-i-test.true))
-        (λ l below held. subst (λ (v : Value). IsNode
-        (HasTaken (told (g.I.IndexOf.index c.args.indices.now)) c.args.purpose c.args.limits.now) l below w.take_null.new.node
+        (λ l child_values held. subst (λ (v : Value). IsNode
+        (HasTaken (index_or_zero (g.I.IndexOf.index c.args.indices.now)) c.args.purpose c.args.limits.now) l child_values
+        w.take_null.new.node
         (given c.loop-i.i ++ v ∷ [])) (search rules)
-        (w.in_ok-take_null-in-None.ensures.taken l below (given c.loop-i.i) held)) (c.loop-i.invariant.taken shape given h));
+        (w.in_ok-take_null-in-None.ensures.taken l child_values (given c.loop-i.i) held)) (c.loop-i.invariant.taken shape given h));
     kept = λ known limits shape given e h. rw w.nodes-is
         (kept_at (IsColumn known limits) c.loop-i.i shape c.loop-i.nodes given w.take_null.new.node
         w.index-nodes-i-in-None.result (omega (arith, c.loop-i.invariant.unvisited.0, c.loop-i-test.true))
-        (λ l below vs held. w.in_ok-take_null-in-None.ensures.kept known limits l below vs e held)
+        (λ l child_values vs held. w.in_ok-take_null-in-None.ensures.kept known limits l child_values vs e held)
         (c.loop-i.invariant.kept known limits shape given e h));
   }
 ]
 
 pub take_parts-returns-clause-taken : goal.take_parts-returns-clause-taken
 take_parts-returns-clause-taken g t c = λ shape given h.
-    mixed_all (HasTaken (told (g.I.IndexOf.index c.args.indices.now)) c.args.purpose c.args.limits.now)
-    (HasTaken (told (g.I.IndexOf.index c.args.indices.now)) c.args.purpose c.args.limits.now) c.loop-i.i shape c.loop-i.nodes given
+    mixed_all (HasTaken (index_or_zero (g.I.IndexOf.index c.args.indices.now)) c.args.purpose c.args.limits.now)
+    (HasTaken (index_or_zero (g.I.IndexOf.index c.args.indices.now)) c.args.purpose c.args.limits.now) c.loop-i.i shape c.loop-i.nodes given
     (λ j. given j ++ cell j c.args.parts.now ∷ [])
     (omega (arith, c.loop-i.invariant.unvisited.0, c.loop-i-test.false, c.loop-i.auto.i-end)) (c.loop-i.invariant.taken shape given h)
 
@@ -294,7 +307,8 @@ pub take_all-returns-in_err-take-clause-refused : goal.take_all-returns-in_err-t
 take_all-returns-in_err-take-clause-refused g t c = λ layout children before h.
     let p = err_from_is_err_and c.from_residual.result c.from_residual.ensures.1 in
     let so_far = take c.loop-value.value-index c.args.values.now in
-    let told = c.in_err-take.ensures.refused layout children (before ++ so_far) (c.loop-value.invariant.taken layout children before h) in
+    let index_or_zero = c.in_err-take.ensures.refused layout children (before ++ so_far)
+    (c.loop-value.invariant.taken layout children before h) in
     let next : (before ++ so_far) ++ c.value-item.result ∷ [] ≡ before ++ take (c.loop-value.value-index + 1) c.args.values.now =
     append_assoc before so_far (c.value-item.result ∷ [])
     ∙ ap (λ (vs : List Value). before ++ vs)
@@ -302,15 +316,15 @@ take_all-returns-in_err-take-clause-refused g t c = λ layout children before h.
     rw (p.1, p.2) (all_refused c.args.limits.now layout children before c.args.values.now
     (c.loop-value.value-index + 1) c.in_err-take.field-0.0
     (subst (λ (vs : List Value). ArePushesRefused c.args.limits.now (field layout children bare)
-    (λ j. vs) c.in_err-take.field-0.0) next told))
+    (λ j. vs) c.in_err-take.field-0.0) next index_or_zero))
 
 pub take_all-returns-then-keeps-clause-taken : goal.take_all-returns-then-keeps-clause-taken
 take_all-returns-then-keeps-clause-taken g t c = λ layout children before h.
-    let known = told (g.I.IndexOf.index c.args.indices.now) in
+    let known = index_or_zero (g.I.IndexOf.index c.args.indices.now) in
     let P = HasTaken known c.args.purpose c.args.limits.now in
     let keep = c.keeps.ensures.0 c.if-keeps.true in
     let more = before ++ c.args.values.now in
-    let inner = leaf_has P children (out-Node c.args.node.now).children.items (below layout before) (below layout more)
+    let inner = leaf_has P children (out-Node c.args.node.now).children.items (child_values layout before) (child_values layout more)
     (c.is_leaf.ensures.0 c.if-is_leaf.true) h.1 in
     on_ok_weaker c.push_all.result
     (λ own. node_is P layout children more _
@@ -320,7 +334,7 @@ take_all-returns-then-keeps-clause-taken g t c = λ layout children before h.
 
 pub take_all-returns-then-keeps-clause-refused : goal.take_all-returns-then-keeps-clause-refused
 take_all-returns-then-keeps-clause-refused g t c = λ layout children before h.
-    let known = told (g.I.IndexOf.index c.args.indices.now) in
+    let known = index_or_zero (g.I.IndexOf.index c.args.indices.now) in
     c.push_all.ensures.refused layout children before
     (subst (λ (p : Purpose). HasTaken known p c.args.limits.now layout before (out-Node c.args.node.now).column)
     (c.keeps.ensures.0 c.if-keeps.true) h.0)

@@ -11,7 +11,7 @@ use Rattle.ipc_model.specs.declared.value.Value.{Value}
 use Rattle.ipc_model.specs.declared.value.Value.TheVariants.{Null, Struct, List as List'}
 use Rattle.ipc_model.proofs.FitsLemmas.{fits_parts}
 use Rattle.ipc_column.specs.Shapes.{field_children, field_layout}
-use Rattle.ipc_encode.specs.Buffers.{below}
+use Rattle.ipc_encode.specs.Buffers.{child_values}
 use Rattle.ipc_encode.specs.Cells.{cell}
 use Rattle.ipc_encode.specs.Weights.{capped, field_weight, row_weight, weight_of}
 use Rattle.ipc_encode.proofs.RowWeights.{cell_at, each_at, each_more, fields_weigh, fine_at, inner_weighs, item_at, items_given}
@@ -27,7 +27,7 @@ inner_weight-returns-in-Null t c = record {
       c.inner_nulls_weight.ensures
       ∙ (ap capped (inner_weighs c.args.field.now c.as_slice-children.result.now c.args.layout (Null ∷ []) c.as_slice-children.ensures
       c.requires.layout)
-      ∙ ap (λ (w : Value). capped (weight_of 0 (field_children c.args.field.now) (below (field_layout c.args.field.now) (w ∷ []))))
+      ∙ ap (λ (w : Value). capped (weight_of 0 (field_children c.args.field.now) (child_values (field_layout c.args.field.now) (w ∷ []))))
       (sym c.in-Null.is));
 }
 
@@ -84,11 +84,11 @@ inner_weight-returns-in_default t c = record {
       c.in_default.not-List c.in_default.not-Struct c.requires.own));
 }
 
-pub value_weight-returns-then-not-is_own-clause-misfits : goal.value_weight-returns-then-not-is_own-clause-misfits
-value_weight-returns-then-not-is_own-clause-misfits t c = λ fits.
+pub value_weight-returns-then-not-fits_own_type-clause-misfits : goal.value_weight-returns-then-not-fits_own_type-clause-misfits
+value_weight-returns-then-not-fits_own_type-clause-misfits t c = λ fits.
     let parts = subst (λ (T : Type 0). T) (fits_parts c.args.field.now c.args.value.now) fits in
-    let own = c.is_own.ensures.1 parts.0 in
-    absurd (let no = c.if-not-is_own.true in cc)
+    let own = c.fits_own_type.ensures.1 parts.0 in
+    absurd (let no = c.if-not-fits_own_type.true in cc)
 
 pub value_weight-returns-in_err-inner-clause-misfits : goal.value_weight-returns-in_err-inner-clause-misfits
 value_weight-returns-in_err-inner-clause-misfits t c =
@@ -98,7 +98,7 @@ value_weight-returns-in_err-inner-clause-misfits t c =
 pub value_weight-returns-clause-fits : goal.value_weight-returns-clause-fits
 value_weight-returns-clause-fits t c =
     subst (λ (T : Type 0). T) (sym (fits_parts c.args.field.now c.args.value.now))
-    (c.is_own.ensures.0 c.if-not-is_own.false, c.in_ok-inner.ensures.fits)
+    (c.fits_own_type.ensures.0 c.if-not-fits_own_type.false, c.in_ok-inner.ensures.fits)
 
 pub value_weight-returns-clause-weight : goal.value_weight-returns-clause-weight
 value_weight-returns-clause-weight t c = λ limits depth fine.
@@ -106,7 +106,7 @@ value_weight-returns-clause-weight t c = λ limits depth fine.
     let laid = c.layout_of-layout.ensures ∙ sym (layout_is f) in
     value_weighs f c.layout_of-layout.result c.args.value.now c.in_ok-inner.inner _ laid
     (c.in_ok-inner.ensures.weight limits depth fine)
-    (c.saturating_add.ensures ∙ ap (λ (n : ℕ). min (6 + n + c.in_ok-inner.inner) (2 ^ 64 - 1)) c.datum.ensures.is)
+    (c.saturating_add.ensures ∙ ap (λ (n : ℕ). min (6 + n + c.in_ok-inner.inner) (2 ^ 64 - 1)) c.value_len.ensures.is)
 
 pub items_weight-loop-item-init : goal.items_weight-loop-item-init
 items_weight-loop-item-init t c = record { fits = tt; weight = λ limits depth fine. none_weigh c.args.child.now }

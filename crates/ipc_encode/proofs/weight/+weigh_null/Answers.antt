@@ -32,4 +32,4 @@ null_weight-returns t c =
     value_weighs f c.layout_of-layout.result Null c.inner_nulls_weight.result _ laid
     (c.inner_nulls_weight.ensures
     ∙ ap capped (inner_weighs f c.as_slice.result.now c.layout_of-layout.result (Null ∷ []) c.as_slice.ensures laid))
-    (c.saturating_add.ensures ∙ ap (λ (n : ℕ). min (6 + n + c.inner_nulls_weight.result) (2 ^ 64 - 1)) c.datum.ensures.is)
+    (c.saturating_add.ensures ∙ ap (λ (n : ℕ). min (6 + n + c.inner_nulls_weight.result) (2 ^ 64 - 1)) c.value_len.ensures.is)

@@ -8,8 +8,8 @@ use Rattle.ipc_model.specs.declared.value.Value.{Value}
 use Rattle.ipc_column.specs.Nested.{slot_values}
 use Rattle.ipc_column.specs.Shapes.{Shape, bare, field, field_children, field_layout, shape_of}
 use Rattle.ipc_column.specs.Slots.{nested, nested_in}
-use Rattle.ipc_encode.specs.Buffers.{below}
-use Rattle.ipc_encode.specs.Lying.{AreWhole, IsWhole, LiesAs}
+use Rattle.ipc_encode.specs.Buffers.{child_values}
+use Rattle.ipc_encode.specs.WholeColumns.{AreFullColumns, IsFullColumn, IsLaidOutAs}
 use Rattle.ipc_encode.specs.Numbers.{no_indices}
 use Rattle.ipc_encode.specs.Segments.{AddsColumns, AreRefusedAfter}
 use Rattle.ipc_encode.proofs.SegmentColumns.{all_fields, children_refused, columns_next, columns_none, columns_refused, field_parts}
@@ -21,7 +21,7 @@ use Rattle.ipc_encode.proofs.whole_segments.+add_whole.Goals as goal
 
 pub add_whole-add_own-requires-clause-lies : goal.add_whole-add_own-requires-clause-lies
 add_whole-add_own-requires-clause-lies t c =
-    subst (λ (x : Layout). LiesAs x c.args.view.now (slot_values c.args.view.now)) (sym c.layout_at.ensures) c.requires.whole.0
+    subst (λ (x : Layout). IsLaidOutAs x c.args.view.now (slot_values c.args.view.now)) (sym c.layout_at.ensures) c.requires.whole.0
 
 pub add_whole-add_children-requires : goal.add_whole-add_children-requires
 add_whole-add_children-requires t c =
@@ -30,8 +30,8 @@ add_whole-add_children-requires t c =
     let of = c.args.of.now in
     let inner : field_children of ≡ shape_of c.as_slice.result.now =
     ap (λ (s : Layout × Shape). s.1) (field_parts of) ∙ sym (ap (λ (fs : List Field). shape_of fs) c.as_slice.ensures) in
-    let whole = subst (λ (s : Shape). AreWhole s (nested_in view) (below view.column.layout values)) inner
-    (subst (λ (x : Layout). AreWhole (field_children of) (nested_in view) (below x values)) (sym c.requires.whole.0.laid)
+    let whole = subst (λ (s : Shape). AreFullColumns s (nested_in view) (child_values view.column.layout values)) inner
+    (subst (λ (x : Layout). AreFullColumns (field_children of) (nested_in view) (child_values x values)) (sym c.requires.whole.0.laid)
     c.requires.whole.1) in
     (search (rules, the_lemmas), (whole, (c.in_ok-add_own.ensures.adds no_indices).body))
 
@@ -60,8 +60,8 @@ add_whole-returns-clause-adds t c = λ known.
     ap (λ (fs : List Field). shape_of fs) c.as_slice.ensures ∙ sym (ap (λ (s : Layout × Shape). s.1) (field_parts of)) in
     on_ok_weaker c.add_children.result
     (λ h. with_children limits known (field_layout of) (field_children of) values d mid e own
-    (subst (λ (x : Layout). AddsColumns limits known (field_children of) (below x values) mid e) c.requires.whole.0.laid
-    (subst (λ (s : Shape). AddsColumns limits known s (below view.column.layout values) mid e) inner h)))
+    (subst (λ (x : Layout). AddsColumns limits known (field_children of) (child_values x values) mid e) c.requires.whole.0.laid
+    (subst (λ (s : Shape). AddsColumns limits known s (child_values view.column.layout values) mid e) inner h)))
     (c.add_children.ensures.adds known)
 
 pub add_whole-returns-clause-refused : goal.add_whole-returns-clause-refused
@@ -78,8 +78,8 @@ add_whole-returns-clause-refused t c =
     ap (λ (fs : List Field). shape_of fs) c.as_slice.ensures ∙ sym (ap (λ (s : Layout × Shape). s.1) (field_parts of)) in
     IfErr-weaker c.add_children.result _ _
     (λ fault h. children_refused limits no_indices (field_layout of) (field_children of) values d mid fault own
-    (subst (λ (x : Layout). AreRefusedAfter limits mid.len (field_children of) (below x values) fault) c.requires.whole.0.laid
-    (subst (λ (s : Shape). AreRefusedAfter limits mid.len s (below view.column.layout values) fault) inner h)))
+    (subst (λ (x : Layout). AreRefusedAfter limits mid.len (field_children of) (child_values x values) fault) c.requires.whole.0.laid
+    (subst (λ (s : Shape). AreRefusedAfter limits mid.len s (child_values view.column.layout values) fault) inner h)))
     c.add_children.ensures.refused
 
 -- ---- the children, one by one
@@ -101,7 +101,7 @@ add_children-add_whole-requires t c =
     let whole = whole_at c.loop-i.i (shape_of c.args.fields.now) (nested_in c.args.view.now) _ (field_layout of) (field_children of) child
     (shape_in c.args.fields.now c.loop-i.i of (omega (arith, c.loop-i-test.true)) c.index-fields-i.is)
     c.child-child.ensures c.requires.whole in
-    let own = subst (λ (vs : List Value). IsWhole (field_layout of) (field_children of) child vs) (sym whole.0.shown) whole in
+    let own = subst (λ (vs : List Value). IsFullColumn (field_layout of) (field_children of) child vs) (sym whole.0.shown) whole in
     (search (rules, the_lemmas), (own, (c.loop-i.invariant no_indices).body))
 
 pub add_children-loop-i-preserved : goal.add_children-loop-i-preserved
@@ -110,7 +110,7 @@ add_children-loop-i-preserved t c = λ known.
     let of = c.index-fields-i.result in
     let child = c.child-child.result in
     let shape = shape_of c.args.fields.now in
-    let given = below c.args.view.now.column.layout (slot_values c.args.view.now) in
+    let given = child_values c.args.view.now.column.layout (slot_values c.args.view.now) in
     let at = shape_in c.args.fields.now c.loop-i.i of (omega (arith, c.loop-i-test.true)) c.index-fields-i.is in
     let whole = whole_at c.loop-i.i shape (nested_in c.args.view.now) given (field_layout of) (field_children of) child
     at c.child-child.ensures c.requires.whole in
@@ -125,7 +125,7 @@ add_children-returns-in_err-add_whole-clause-refused t c =
     let of = c.index-fields-i.result in
     let child = c.child-child.result in
     let shape = shape_of c.args.fields.now in
-    let given = below c.args.view.now.column.layout (slot_values c.args.view.now) in
+    let given = child_values c.args.view.now.column.layout (slot_values c.args.view.now) in
     let at = shape_in c.args.fields.now c.loop-i.i of (omega (arith, c.loop-i-test.true)) c.index-fields-i.is in
     let whole = whole_at c.loop-i.i shape (nested_in c.args.view.now) given (field_layout of) (field_children of) child
     at c.child-child.ensures c.requires.whole in
@@ -138,6 +138,6 @@ add_children-returns-in_err-add_whole-clause-refused t c =
 
 pub add_children-returns-clause-adds : goal.add_children-returns-clause-adds
 add_children-returns-clause-adds t c = λ known.
-    let given = below c.args.view.now.column.layout (slot_values c.args.view.now) in
+    let given = child_values c.args.view.now.column.layout (slot_values c.args.view.now) in
     let all = all_fields c.args.fields.now c.loop-i.i (omega (arith, c.loop-i-test.false, c.loop-i.auto.i-end)) in
     subst (λ (s : Shape). AddsColumns c.args.limits.now known s given c.args.draft.now c.loop-i.draft) all (c.loop-i.invariant known)

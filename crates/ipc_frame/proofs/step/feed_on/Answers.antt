@@ -1,6 +1,6 @@
 use Rattle.std.proofs.Common.{◌+◌, ◌≤◌, length, arith, subst, Ok}
 use Rattle.std.proofs.lemmas.Result.{err_from_is_err_and}
-use Rattle.ipc_frame.specs.Parts.{wanted_of, bytes_of}
+use Rattle.ipc_frame.specs.Parts.{bytes_needed, received_bytes}
 use Rattle.ipc_frame.specs.Steps.{Concludes}
 use Rattle.ipc_frame.proofs.Sized.{feeding_sized, memory_ran_out}
 use Rattle.ipc_frame.proofs.Stepped.{feeds_more, feeds_whole, feeds_refused, feeds_all}
@@ -9,8 +9,8 @@ use Rattle.ipc_frame.proofs.step.feed_on.Goals as goal
 pub returns-in_err-next-clause-feeds : goal.returns-in_err-next-clause-feeds
 returns-in_err-next-clause-feeds c =
     let p = err_from_is_err_and c.from_residual-in_err-next.result c.from_residual-in_err-next.ensures.1 in
-    let small : c.min-count.result ≤ wanted_of c.loop-taken.parts c.loop-taken.awaited =
-    omega (arith, c.min-count.ensures, c.wanted.ensures) in
+    let small : c.min-count.result ≤ bytes_needed c.loop-taken.parts c.loop-taken.awaited =
+    omega (arith, c.min-count.ensures, c.bytes_needed.ensures) in
     let fits : c.loop-taken.taken + c.min-count.result ≤ length c.args.piece.now =
     omega (arith, c.min-count.ensures, c.loop-taken.invariant.within) in
     rw (p.1, p.2) (feeds_refused _ _ _ _ c.conclude.new.parts _ _ _ c.loop-taken.invariant small fits _ c.in_ok-extend.ensures.bytes
@@ -18,22 +18,22 @@ returns-in_err-next-clause-feeds c =
 
 pub loop-taken-preserved : goal.loop-taken-preserved
 loop-taken-preserved c =
-    let small : c.min-count.result ≤ wanted_of c.loop-taken.parts c.loop-taken.awaited =
-    omega (arith, c.min-count.ensures, c.wanted.ensures) in
+    let small : c.min-count.result ≤ bytes_needed c.loop-taken.parts c.loop-taken.awaited =
+    omega (arith, c.min-count.ensures, c.bytes_needed.ensures) in
     let fits : c.loop-taken.taken + c.min-count.result ≤ length c.args.piece.now =
     omega (arith, c.min-count.ensures, c.loop-taken.invariant.within) in
     feeds_more _ _ _ _ c.conclude.new.parts _ _ _ c.loop-taken.invariant small fits _ c.in_ok-extend.ensures.bytes c.in-More.next
-    (subst (λ s. Concludes c.args.limits.now (bytes_of c.extend.new.parts) c.conclude.new.parts (Ok s)) c.in-More.is
+    (subst (λ s. Concludes c.args.limits.now (received_bytes c.extend.new.parts) c.conclude.new.parts (Ok s)) c.in-More.is
     c.in_ok-next.ensures.concludes)
 
 pub returns-in-Whole-clause-feeds : goal.returns-in-Whole-clause-feeds
 returns-in-Whole-clause-feeds c =
-    let small : c.min-count.result ≤ wanted_of c.loop-taken.parts c.loop-taken.awaited =
-    omega (arith, c.min-count.ensures, c.wanted.ensures) in
+    let small : c.min-count.result ≤ bytes_needed c.loop-taken.parts c.loop-taken.awaited =
+    omega (arith, c.min-count.ensures, c.bytes_needed.ensures) in
     let fits : c.loop-taken.taken + c.min-count.result ≤ length c.args.piece.now =
     omega (arith, c.min-count.ensures, c.loop-taken.invariant.within) in
     feeds_whole _ _ _ _ c.conclude.new.parts _ _ _ c.loop-taken.invariant small fits _ c.in_ok-extend.ensures.bytes c.in-Whole.frame
-    (subst (λ s. Concludes c.args.limits.now (bytes_of c.extend.new.parts) c.conclude.new.parts (Ok s)) c.in-Whole.is
+    (subst (λ s. Concludes c.args.limits.now (received_bytes c.extend.new.parts) c.conclude.new.parts (Ok s)) c.in-Whole.is
     c.in_ok-next.ensures.concludes)
 
 pub returns-clause-feeds : goal.returns-clause-feeds

@@ -2,7 +2,7 @@ use Rattle.std.proofs.Common.{◌∙◌, sym, ap, arith}
 use Rattle.std.specs.Prelude.{Ok}
 use Rattle.std.proofs.lemmas.List.{append-nil}
 use Rattle.std.proofs.lemmas.Result.{err_from_is_err_and}
-use Rattle.ipc_meta.specs.Lifts.{lift}
+use Rattle.ipc_meta.specs.FlatFaults.{map_fault}
 use Rattle.ipc_meta.specs.Reading.{field_read}
 use Rattle.ipc_meta.proofs.Each.{each_more, each_no_table, each_refused, each_done}
 use Rattle.ipc_meta.proofs.Steps.{fields_absent, field_no_name, field_no_flag, field_no_type, field_no_dictionary, field_no_pairs}
@@ -45,21 +45,21 @@ read_field-returns-in_err-children t c =
 
 pub read_fields-returns-in_default : goal.read_fields-returns-in_default
 read_fields-returns-in_default t c = rw (c.from_vec.ensures, c.new-fields.ensures.items)
-    (fields_absent _ _ _ _ (ap lift (sym c.tables.ensures) ∙ (sym c.in_ok-tables.ensures ∙ ap Ok c.in_default.is)))
+    (fields_absent _ _ _ _ (ap map_fault (sym c.tables.ensures) ∙ (sym c.in_ok-tables.ensures ∙ ap Ok c.in_default.is)))
 
 pub read_fields-returns-in_err-table : goal.read_fields-returns-in_err-table
 read_fields-returns-in_err-table t c =
     let p = err_from_is_err_and c.from_residual-in_err-table.result c.from_residual-in_err-table.ensures.1 in
     rw (p.1, p.2) (λ ne. sym c.loop-i.invariant.read
     ∙ each_no_table (field_read c.args.depth) c.in-Some.tables.bytes c.in-Some.tables.at c.loop-i.i c.in-Some.tables.len
-    c.loop-i.left _ _ (omega arith) (ap lift (sym c.at.ensures) ∙ sym c.in_err-table.ensures))
+    c.loop-i.left _ _ (omega arith) (ap map_fault (sym c.at.ensures) ∙ sym c.in_err-table.ensures))
 
 pub read_fields-returns-in_err-read_field : goal.read_fields-returns-in_err-read_field
 read_fields-returns-in_err-read_field t c =
     let p = err_from_is_err_and c.from_residual-in_err-read_field.result c.from_residual-in_err-read_field.ensures.1 in
     rw (p.1, p.2) (λ ne. sym c.loop-i.invariant.read
     ∙ each_refused (field_read c.args.depth) c.in-Some.tables.bytes c.in-Some.tables.at c.loop-i.i c.in-Some.tables.len c.loop-i.left
-    c.in_ok-table.table _ _ (omega arith) (ap lift (sym c.at.ensures) ∙ sym c.in_ok-table.ensures) (c.in_err-read_field.ensures ne))
+    c.in_ok-table.table _ _ (omega arith) (ap map_fault (sym c.at.ensures) ∙ sym c.in_ok-table.ensures) (c.in_err-read_field.ensures ne))
 
 pub read_fields-loop-i-preserved : goal.read_fields-loop-i-preserved
 read_fields-loop-i-preserved t c = record {
@@ -67,7 +67,7 @@ read_fields-loop-i-preserved t c = record {
   read = rw c.in_ok-push.ensures.items (
       sym (each_more (field_read c.args.depth) c.in-Some.tables.bytes c.in-Some.tables.at c.loop-i.i c.in-Some.tables.len c.loop-i.left
       c.read_field.new.left c.in_ok-table.table _ c.loop-i.fields.items (omega arith)
-      (ap lift (sym c.at.ensures) ∙ sym c.in_ok-table.ensures) c.in_ok-read_field.ensures)
+      (ap map_fault (sym c.at.ensures) ∙ sym c.in_ok-table.ensures) c.in_ok-read_field.ensures)
       ∙ c.loop-i.invariant.read);
 }
 

@@ -4,9 +4,9 @@ use Rattle.ipc_scalar.proofs.below.are_at_most.Goals as goal
 
 pub returns : goal.returns
 returns g c =
-    let all = all_numbers g.L.Lanes.width g.L.Lanes.count c.args.most c.args.bytes.now c.as_chunks.result.0.now c.filled.result
+    let all = all_numbers g.L.Lanes.width g.L.Lanes.count c.args.most c.args.bytes.now c.as_chunks.result.0.now c.pad_block.result
     (64 - length c.as_chunks.result.1.now) g.met.L.Lanes.whole c.requires.even c.as_chunks.ensures.front
-    (c.filled.ensures ∙ ap (λ (rest : List ℕ). rest ++ zeros (64 - length c.as_chunks.result.1.now)) c.as_chunks.ensures.back) in
+    (c.pad_block.ensures ∙ ap (λ (rest : List ℕ). rest ++ zeros (64 - length c.as_chunks.result.1.now)) c.as_chunks.ensures.back) in
     let last = c.of-top.ensures c.args.most in
     let kept = c.loop-block.invariant in (
       λ e.

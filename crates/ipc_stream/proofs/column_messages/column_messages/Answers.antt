@@ -12,20 +12,20 @@ use Rattle.ipc_model.specs.declared.value.Value.{Value}
 use Rattle.ipc_column.specs.Dictionaries.{Dictionaries}
 use Rattle.ipc_column.specs.Rows.{HasCounts, Rows}
 use Rattle.ipc_encode.specs.Indices.{FindsRows}
-use Rattle.ipc_encode.specs.Limits.{IsRefused, IsWithin}
-use Rattle.ipc_encode.specs.Numbers.{told}
-use Rattle.ipc_encode.specs.Segments.{joined}
+use Rattle.ipc_encode.specs.Limits.{AreRowsRefused, IsWithin}
+use Rattle.ipc_encode.specs.Numbers.{index_or_zero}
+use Rattle.ipc_encode.specs.Segments.{bytes_of_segments}
 use Rattle.ipc_dict.specs.declared.entry.TallyEntry.{TallyEntry}
 use Rattle.ipc_dict.specs.declared.kept.KeptEntry.{KeptEntry}
 use Rattle.ipc_dict.specs.Planning.{AllSettled, FindsAll, after_all, index, sends_of}
 use Rattle.ipc_dict.specs.SchemaIds.{ids_of, kept_ids, tally_ids}
-use Rattle.ipc_dict.specs.Sending.{tallied}
+use Rattle.ipc_dict.specs.Sending.{tally_of_rows}
 use Rattle.ipc_dict.proofs.Sending.{sent_is, tallied_ids}
 use Rattle.ipc_stream.specs.Dictionaries.{AreDictionariesWithin}
 use Rattle.ipc_stream.specs.Messages.{SetDictionaries}
 use Rattle.ipc_stream.specs.OpenStreams.{CanBeSent}
-use Rattle.ipc_stream.specs.Parts.{TellsRows}
-use Rattle.ipc_stream.specs.Pushed.{with_rows}
+use Rattle.ipc_stream.specs.Parts.{DenotesRows}
+use Rattle.ipc_stream.specs.PendingBatches.{with_rows}
 use Rattle.ipc_stream.proofs.BatchSent.{batch_sent, plan_can, segmented_counts, short_tallied}
 use Rattle.ipc_stream.proofs.ColumnRefusals.{accepted, lengths_refused, pairs_refused}
 use Rattle.ipc_stream.proofs.PlanFinds.{plan_finds_indices}
@@ -34,13 +34,13 @@ use Rattle.ipc_stream.proofs.column_messages.column_messages.Goals as goal
 
 -- what was sent has the ids of the plan's entries
 ids_are : (fields : List Field) (rows : List (List Value)) (kept : List KeptEntry) (es : List TallyEntry) → kept_ids kept ≡ ids_of fields
-    → es ≡ tallied fields rows → kept_ids kept ≡ tally_ids es
+    → es ≡ tally_of_rows fields rows → kept_ids kept ≡ tally_ids es
 ids_are fields rows kept es ids same = ids ∙ sym (tallied_ids fields rows) ∙ ap tally_ids (sym same)
 
 -- each dictionary that is sent can be
 cans : (limits : Limits) (s : Schema) (rows : List (List Value)) (sends : List (ℤ × List (List Value))) (es : List TallyEntry)
     (os : List (Option (List ℕ))) → WellFormed limits s → AllByRecursion (RowFits s.fields) rows
-    → AreDictionariesWithin limits s.fields rows → sends ≡ sends_of es os → es ≡ tallied s.fields rows
+    → AreDictionariesWithin limits s.fields rows → sends ≡ sends_of es os → es ≡ tally_of_rows s.fields rows
     → AllByRecursion (CanBeSent limits s) sends
 cans limits s rows sends es os well fit within is same =
     subst (AllByRecursion (CanBeSent limits s)) (sym (is ∙ ap (λ xs. sends_of xs os) same))
@@ -55,7 +55,7 @@ pub returns-in_err-parts-clause-judged : goal.returns-in_err-parts-clause-judged
 returns-in_err-parts-clause-judged c =
     let rows = c.args.batch.now.rows in
     let fault = c.in_err-parts.field-0.0 in
-    let refused = subst (λ (fields : List Field). IsRefused c.args.limits.now fields rows fault) c.as_slice-fields.ensures
+    let refused = subst (λ (fields : List Field). AreRowsRefused c.args.limits.now fields rows fault) c.as_slice-fields.ensures
     c.in_err-parts.ensures.refused in
     let p = err_from_is_err_and c.from_residual-in_err-parts.result c.from_residual-in_err-parts.ensures.1 in
     rw (p.1, p.2) (lengths_refused c.args.limits.now c.args.schema.now (with_rows c.args.pairs.now rows) fault refused)
@@ -63,7 +63,7 @@ returns-in_err-parts-clause-judged c =
 pub returns-in_err-parts-clause-only : goal.returns-in_err-parts-clause-only
 returns-in_err-parts-clause-only c =
     let p = err_from_is_err_and c.from_residual-in_err-parts.result c.from_residual-in_err-parts.ensures.1 in
-    rw (p.1, p.2) (λ e. subst (λ (f : WriteFault). IsRefused c.args.limits.now c.as_slice-fields.result.now c.args.batch.now.rows f) e
+    rw (p.1, p.2) (λ e. subst (λ (f : WriteFault). AreRowsRefused c.args.limits.now c.as_slice-fields.result.now c.args.batch.now.rows f) e
     c.in_err-parts.ensures.refused)
 
 -- the parts have a node and the buffers of each field
@@ -138,10 +138,10 @@ returns-clause-messages c =
     let parts = c.in_ok-parts.parts in
     let es = c.in_ok-plan.plan.entries in
     let os = c.in_ok-plan.plan.numbers in
-    let body = joined parts.segments.items in
+    let body = bytes_of_segments parts.segments.items in
     let own = c.in_ok-front.front.items ++ body in
-    let same : es ≡ tallied s.fields rows = c.in_ok-plan.ensures.tallied in
-    let known = told (index (tallied s.fields rows) os) in
+    let same : es ≡ tally_of_rows s.fields rows = c.in_ok-plan.ensures.tallied in
+    let known = index_or_zero (index (tally_of_rows s.fields rows) os) in
     let settled = subst (λ (xs : List TallyEntry). AllSettled kept xs os) same c.in_ok-plan.ensures.settled in
     let finds = subst (λ (xs : List TallyEntry). FindsAll kept xs os) same c.in_ok-plan.ensures.finds in
     let can = cans limits s rows c.sends.result.now es os c.requires.well_formed c.in_ok-plan.ensures.fit c.in_ok-plan.ensures.within
@@ -151,8 +151,8 @@ returns-clause-messages c =
     let laid = c.in_ok-parts.ensures.segmented in
     let size : length body ≡ parts.len = ap length laid.body ∙ sym laid.len in
     let read = rw c.as_slice-fields.ensures at c.in_ok-parts.ensures.rows in
-    let tells : (ds : Dictionaries) → FindsRows ds known s.fields rows → TellsRows limits ds s (with_rows pairs rows) own = λ ds found.
-    let here = subst (λ (xs : List TallyEntry). FindsRows ds (told (index xs os)) s.fields rows) (sym same) found in
+    let tells : (ds : Dictionaries) → FindsRows ds known s.fields rows → DenotesRows limits ds s (with_rows pairs rows) own = λ ds found.
+    let here = subst (λ (xs : List TallyEntry). FindsRows ds (index_or_zero (index xs os)) s.fields rows) (sym same) found in
     let given = read ds c.requires.well_formed.each c.in_ok-plan.ensures.fit here in
     let numbered = subst (λ (n : ℕ). Rows limits ds s.fields
     (record { length = pos n; nodes = parts.nodes; buffers = parts.buffers }) body rows) (sym c.rows.ensures) given in

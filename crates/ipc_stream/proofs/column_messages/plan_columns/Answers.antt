@@ -3,7 +3,7 @@ use Rattle.std.proofs.lemmas.Result.{IfErr-weaker, err_from_is_err_and}
 use Rattle.ipc_model.proofs.Depths.{short_paths}
 use Rattle.ipc_dict.specs.Noting.{AllFit}
 use Rattle.ipc_dict.specs.Within.{AllWithin}
-use Rattle.ipc_stream.specs.Pushed.{with_rows}
+use Rattle.ipc_stream.specs.PendingBatches.{with_rows}
 use Rattle.ipc_stream.proofs.ColumnRefusals.{if_three, refused_three, rows_refused, rows_unsent, values_refused, values_unsent}
 use Rattle.ipc_stream.proofs.column_messages.plan_columns.Goals as goal
 

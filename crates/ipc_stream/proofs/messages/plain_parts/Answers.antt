@@ -4,10 +4,10 @@ use Rattle.std.specs.List.{Contains}
 use Rattle.std.proofs.lemmas.List.{take_all, take_more, take-append-drop}
 use Rattle.std.proofs.lemmas.Result.{err_from_is_err_and}
 use Rattle.ipc_model.specs.declared.value.Value.{Value}
-use Rattle.ipc_encode.specs.Built.{HasRows}
+use Rattle.ipc_encode.specs.Built.{StoresRows}
 use Rattle.ipc_encode.specs.Faults.{write_fault}
-use Rattle.ipc_encode.specs.Indices.{Finds}
-use Rattle.ipc_encode.specs.Limits.{IsRefused, IsWithin}
+use Rattle.ipc_encode.specs.Indices.{FindsIndex}
+use Rattle.ipc_encode.specs.Limits.{AreRowsRefused, IsWithin}
 use Rattle.ipc_encode.specs.Numbers.{no_indices}
 use Rattle.ipc_encode.specs.Weights.{capped, row_weight}
 use Rattle.ipc_encode.proofs.Growing.{refused_more}
@@ -40,9 +40,9 @@ returns-in_err-push-clause-refused c = λ within.
     let row = c.as_slice.ensures in
     let fault = write_fault c.in_err-push.field-0.0 in
     rw (p.1, p.2) (memory_alone c.args.limits.now c.args.fields.now rows fault within
-    (subst (λ (rs : List (List Value)). IsRefused c.args.limits.now c.args.fields.now rs fault) (take-append-drop (i + 1) rows)
+    (subst (λ (rs : List (List Value)). AreRowsRefused c.args.limits.now c.args.fields.now rs fault) (take-append-drop (i + 1) rows)
     (refused_more c.args.limits.now c.args.fields.now (take (i + 1) rows) (drop (i + 1) rows) fault
-    (subst (λ (rs : List (List Value)). IsRefused c.args.limits.now c.args.fields.now rs fault)
+    (subst (λ (rs : List (List Value)). AreRowsRefused c.args.limits.now c.args.fields.now rs fault)
     (ap (λ (r : List Value). take i rows ++ r ∷ []) row ∙ next rows i c.row-item.result c.loop-row-test.true c.row-item.is) here))))
 
 pub loop-row-preserved : goal.loop-row-preserved
@@ -52,16 +52,16 @@ loop-row-preserved c = λ within.
     let is = ap (λ (r : List Value). take i rows ++ r ∷ []) c.as_slice.ensures
     ∙ next rows i c.row-item.result c.loop-row-test.true c.row-item.is in
     let light : capped (row_weight c.args.fields.now c.as_slice.result.now) ≤ 2 ^ 64 - 1 = min-le_right _ _ in
-    subst (λ (rs : List (List Value)). HasRows no_indices c.args.limits.now c.args.fields.now rs c.push.new.self) is
+    subst (λ (rs : List (List Value)). StoresRows no_indices c.args.limits.now c.args.fields.now rs c.push.new.self) is
     (c.in_ok-push.ensures.pushed c.args.limits.now c.args.fields.now (take i rows) (c.loop-row.invariant within) light)
 
 pub returns-clause-rows : goal.returns-clause-rows
 returns-clause-rows c = λ fine fit one within.
     let rows = c.args.rows.now in
     let whole : take c.loop-row.row-index rows ≡ rows = take_all c.loop-row.row-index rows (omega (arith, c.loop-row-test.false)) in
-    let held = subst (λ (rs : List (List Value)). HasRows no_indices c.args.limits.now c.args.fields.now rs c.loop-row.builder) whole
+    let held = subst (λ (rs : List (List Value)). StoresRows no_indices c.args.limits.now c.args.fields.now rs c.loop-row.builder) whole
     (c.loop-row.invariant within) in
     let none : of_fields c.args.fields.now ≡ [] = ap of_fields one.2 ∙ column_names one.0 one.1 in
     c.finish.ensures.rows no_indices c.args.limits.now c.args.fields.now rows [] held fine fit
-    (covered (Finds [] no_indices) c.args.limits.now c.args.fields.now rows fine
+    (covered (FindsIndex [] no_indices) c.args.limits.now c.args.fields.now rows fine
     (λ d v named pair. let out : Contains [] d = subst (λ ds. Contains ds d) none named in absurd (omega (arith, out.1))))

@@ -29,8 +29,8 @@ use denote.Struct.Struct.{within}
 use denote.Struct.Owning.{shape}
 use denote.Struct.OwningLaws.{Lowered}
 use denote.Triple.Walked.{Stays, walk_of, says, stay_dropped, ends_at}
-use Rattle.ipc_session.specs.contracts.session.ReadSession as held
-use Rattle.ipc_session.proofs.session.ReadSession.TheLaws as held_laws
+use Rattle.ipc_stream_session.specs.contracts.session.ReadSession as held
+use Rattle.ipc_stream_session.proofs.session.ReadSession.TheLaws as held_laws
 use Rattle.arrowstream_c.specs.contracts.reader.ReaderHandle as handle
 use Rattle.arrowstream_c.specs.contracts.block.Block as block
 use Rattle.arrowstream_c.proofs.block.Block.TheLaws as laws

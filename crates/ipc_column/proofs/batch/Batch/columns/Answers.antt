@@ -4,7 +4,7 @@ use Rattle.ipc_model.specs.declared.value.Value.{Value}
 use Rattle.ipc_column.specs.declared.batch.Shared.{Shared}
 use Rattle.ipc_column.specs.Contents.{Contents}
 use Rattle.ipc_column.specs.declared.ranges.ColumnRanges.{ColumnRanges}
-use Rattle.ipc_column.specs.Views.{columns}
+use Rattle.ipc_column.specs.Views.{part_columns}
 use Rattle.ipc_column.specs.Values.{row, rows_of}
 use Rattle.ipc_column.proofs.Cells.{row_length}
 use Rattle.ipc_column.proofs.batch.Batch.columns.Goals as goal
@@ -15,9 +15,10 @@ all_more P [] x all one = (one, tt)
 all_more P (y ∷ ys) x all one = (all.0, all_more P ys x all.1 one)
 
 -- rows are as wide as there are parts
-wide : (body : List ℕ) (ps : List ColumnRanges) (n : ℕ) → AllByRecursion (λ r. length r ≡ length ps) (rows_of (columns body ps) n)
+wide : (body : List ℕ) (ps : List ColumnRanges) (n : ℕ) → AllByRecursion (λ r. length r ≡ length ps) (rows_of (part_columns body ps) n)
 wide body ps zero = tt
-wide body ps (suc n) = all_more (λ r. length r ≡ length ps) (rows_of (columns body ps) n) (row (columns body ps) n) (wide body ps n)
+wide body ps (suc n) = all_more (λ r. length r ≡ length ps) (rows_of (part_columns body ps) n) (row (part_columns body ps) n)
+    (wide body ps n)
     (row_length body ps n)
 
 pub returns-clause-rows : goal.returns-clause-rows

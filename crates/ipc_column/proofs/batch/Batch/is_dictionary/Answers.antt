@@ -7,10 +7,10 @@ pub returns-clause-yes : goal.returns-clause-yes
 returns-clause-yes c = λ h.
     let s = c.self.inside.shared.value in
     subst IsDictionary c.self.view_is
-    (as_dictionary s (rw (c.deref.ensures.value, c.as_ref-shared.ensures) at (c.are_alone.ensures.yes h s.body.value.items)))
+    (as_dictionary s (rw (c.deref.ensures.value, c.as_ref-shared.ensures) at (c.is_one_leaf.ensures.yes h s.body.value.items)))
 
 pub returns-clause-no : goal.returns-clause-no
 returns-clause-no c = λ d.
     let s = c.self.inside.shared.value in
-    c.are_alone.ensures.no s.body.value.items
+    c.is_one_leaf.ensures.no s.body.value.items
     (rw (c.deref.ensures.value, c.as_ref-shared.ensures) (from_dictionary s (subst IsDictionary (sym c.self.view_is) d)))

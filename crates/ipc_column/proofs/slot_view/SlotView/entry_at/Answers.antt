@@ -6,10 +6,10 @@ use Rattle.ipc_model.specs.declared.layout.Layout.TheVariants.{Indices}
 use Rattle.ipc_model.specs.declared.schema.IntBits.{IntBits}
 use Rattle.ipc_model.specs.declared.value.Value.{Value}
 use Rattle.ipc_model.specs.declared.value.Value.TheVariants as v
-use Rattle.ipc_column.specs.Lent.{found}
+use Rattle.ipc_column.specs.Lent.{column_of_buffers}
 use Rattle.ipc_column.specs.Nested.{Nested, slot_values}
 use Rattle.ipc_column.specs.Values.{is_valid, number_in, own_value, place_below, row, value_at}
-use Rattle.ipc_column.specs.Views.{columns}
+use Rattle.ipc_column.specs.Views.{part_columns}
 use Rattle.ipc_column.proofs.Alone.{index_value, index_within, no_value}
 use Rattle.ipc_column.proofs.Lendings.{entry_held, null_holds, other_holds}
 use Rattle.ipc_column.specs.Lending.{HoldsEntry}
@@ -22,25 +22,25 @@ pub is_valid-valid-requires : goal.is_valid-valid-requires
 is_valid-valid-requires c =
     let s = c.self.inside in
     bitmap_front s.slots c.args.slot (length s.validity.now) c.self.invariant.bitmap
-    (slot_inside (found s.layout s.slots s.validity.now s.offsets.now s.values.now s.dictionary.now) s.body.now s.children.now
+    (slot_inside (column_of_buffers s.layout s.slots s.validity.now s.offsets.now s.values.now s.dictionary.now) s.body.now s.children.now
     c.args.self.now c.args.slot
     c.self.view_is c.requires)
 
 pub returns-then-not-valid-clause-null : goal.returns-then-not-valid-clause-null
 returns-then-not-valid-clause-null c = λ bits signed id e.
     let s = c.self.inside in
-    slot_shows (found s.layout s.slots s.validity.now s.offsets.now s.values.now s.dictionary.now) s.body.now s.children.now
+    slot_shows (column_of_buffers s.layout s.slots s.validity.now s.offsets.now s.values.now s.dictionary.now) s.body.now s.children.now
     c.args.self.now c.args.slot
     c.self.view_is c.requires
     ∙ ap (λ (b : Bool). Some (cond b (own_value s.layout s.dictionary.now (row
-    (columns s.body.now s.children.now)) s.offsets.now s.values.now c.args.slot)
+    (part_columns s.body.now s.children.now)) s.offsets.now s.values.now c.args.slot)
     v.Null)) (sym c.is_valid-valid.ensures ∙ c.if-not-valid.true)
 
 pub index_in-requires : goal.index_in-requires
 index_in-requires c =
     let s = c.self.inside in
     width_inside _ s.slots c.args.slot (length s.values.now) (rw c.in-Indices.is at c.self.invariant.values)
-    (slot_inside (found s.layout s.slots s.validity.now s.offsets.now s.values.now s.dictionary.now) s.body.now s.children.now
+    (slot_inside (column_of_buffers s.layout s.slots s.validity.now s.offsets.now s.values.now s.dictionary.now) s.body.now s.children.now
     c.args.self.now c.args.slot
     c.self.view_is c.requires)
 
@@ -49,8 +49,8 @@ shows : (c : goal.After-index_in) → slice_get (slot_values c.args.self.now) c.
     ≡ Some (value_at c.self.inside.dictionary.now (number_in c.in-Indices.bits c.in-Indices.signed c.self.inside.values.now c.args.slot))
 shows c =
     let s = c.self.inside in
-    let below = row (columns s.body.now s.children.now) in
-    slot_shows (found s.layout s.slots s.validity.now s.offsets.now s.values.now s.dictionary.now) s.body.now s.children.now
+    let below = row (part_columns s.body.now s.children.now) in
+    slot_shows (column_of_buffers s.layout s.slots s.validity.now s.offsets.now s.values.now s.dictionary.now) s.body.now s.children.now
     c.args.self.now c.args.slot
     c.self.view_is c.requires
     ∙ (ap (λ (b : Bool). Some (cond b (own_value s.layout s.dictionary.now below s.offsets.now s.values.now c.args.slot) v.Null))
@@ -106,7 +106,7 @@ held c =
     subst (λ (n : Nested). IfSome c.index_in.result (λ i. HoldsEntry n c.args.slot i)
     × IfNone c.index_in.result ((i : ℕ) → ¬ HoldsEntry n c.args.slot i)) c.self.view_is
     (entry_held (record {
-      column = found s.layout s.slots s.validity.now s.offsets.now s.values.now s.dictionary.now;
+      column = column_of_buffers s.layout s.slots s.validity.now s.offsets.now s.values.now s.dictionary.now;
       body = s.body.now;
       children = s.children.now;
     }) c.args.slot c.in-Indices.bits c.in-Indices.signed c.in-Indices.id c.index_in.result c.in-Indices.is

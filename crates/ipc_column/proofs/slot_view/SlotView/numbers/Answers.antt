@@ -1,6 +1,6 @@
 use Rattle.std.proofs.Common.{◌∙◌, sym, ap, refl}
 use Rattle.ipc_column.specs.Lending.{are_numbers}
-use Rattle.ipc_column.specs.Lent.{found}
+use Rattle.ipc_column.specs.Lent.{column_of_buffers}
 use Rattle.ipc_column.specs.Nested.{Nested}
 use Rattle.ipc_column.proofs.Lent.{lent_numbers}
 use Rattle.ipc_column.proofs.slot_view.SlotView.numbers.Goals as goal
@@ -12,6 +12,6 @@ returns-in-Numbers-clause-lent c =
 pub returns-in-Numbers-clause-numbers : goal.returns-in-Numbers-clause-numbers
 returns-in-Numbers-clause-numbers c =
     let s = c.self.inside in
-    lent_numbers (found s.layout s.slots s.validity.now s.offsets.now s.values.now s.dictionary.now) s.body.now s.children.now
+    lent_numbers (column_of_buffers s.layout s.slots s.validity.now s.offsets.now s.values.now s.dictionary.now) s.body.now s.children.now
     c.args.self.now _
     c.self.view_is c.in-Numbers.is refl refl c.self.invariant.values

@@ -1,6 +1,6 @@
 use Rattle.std.proofs.Common.{arith, ℕ, ◌≡◌, ◌∙◌, ◌++◌, sym, ap, subst, take, drop, length}
 use Rattle.std.proofs.Math.Seq.{take-append_seam}
-use Rattle.ipc_dict.specs.Planned.{Planned}
+use Rattle.ipc_dict.specs.PlanState.{PlanState}
 use Rattle.ipc_dict.specs.SchemaIds.{kept_ids, tally_ids}
 use Rattle.ipc_dict.specs.Sending.{AreAddressed, AreCounted}
 use Rattle.ipc_dict.proofs.Ids.{ids_after_all}
@@ -25,7 +25,7 @@ returns-clause-counted c = λ fields ids values before.
     let whole = ap (λ (n : ℕ). take n (new ++ drop (length new) c.kept.inside.entries.items)) len
     ∙ take-append_seam new (drop (length new) c.kept.inside.entries.items) in
     let old = c.deref_mut-2.ensures.value ∙ c.kept.view_is in
-    let plan = c.deref_mut.ensures.value ∙ ap (λ (p : Planned). p.entries) c.self.view_is in
+    let plan = c.deref_mut.ensures.value ∙ ap (λ (p : PlanState). p.entries) c.self.view_is in
     subst (AreCounted fields) (sym (whole ∙ c.commit.ensures))
     (counted_plan fields kept entries c.deref.result.now (ap kept_ids old ∙ ids ∙ ap tally_ids (sym plan))
     (subst (AreAddressed fields) (sym plan) values) (subst (AreCounted fields) (sym old) before))

@@ -8,10 +8,10 @@ use Rattle.ipc_model.specs.declared.value.Value.{Value}
 use Rattle.ipc_dict.specs.declared.entry.TallyEntry.{TallyEntry}
 use Rattle.ipc_encode.specs.Faults.{write_fault}
 use Rattle.ipc_dict.specs.Counted.{HoldsRows}
-use Rattle.ipc_dict.specs.Noting.{note_all, AllFit, IsFull}
+use Rattle.ipc_dict.specs.Noting.{note_all, AllFit, IsIndexOverflow}
 use Rattle.ipc_dict.specs.Pairs.{row_pairs, rows_pairs}
 use Rattle.ipc_dict.specs.Planning.{FindsAll, FindsNoted}
-use Rattle.ipc_dict.specs.SchemaIds.{tally_ids, unused}
+use Rattle.ipc_dict.specs.SchemaIds.{tally_ids, empty_entries}
 use Rattle.ipc_dict.specs.Within.{AllWithin, IsOfLimits, IsOverLimit}
 use Rattle.ipc_dict.proofs.EntryColumns.{over_first, over_step}
 use Rattle.ipc_dict.proofs.Notes.{if_ok}
@@ -36,17 +36,17 @@ returns-in_err-note-clause-full c =
     let rest = rows_pairs fs (drop (i + 1) rs) in
     let step : rows_pairs fs (drop i rs) ≡ one ++ rest =
     rows-step fs rs i r (omega arith) c.row-item.is ∙ ap (λ p. p ++ rest) (sym (λ j. row_pairs (inv.fields j) (c.as_slice.ensures j))) in
-    left (λ e. e ≡ fault.DictionaryFull → IsFull (note_all u.entries one)) (write_fault c.in_err-note.field-0.0)
+    left (λ e. e ≡ fault.DictionaryFull → IsIndexOverflow (note_all u.entries one)) (write_fault c.in_err-note.field-0.0)
     (err_from_is_err_and c.from_residual-in_err-note.result c.from_residual-in_err-note.ensures.1) c.in_err-note.ensures.full
     (λ e h same.
-    full-step (unused fs) u.entries u.entries (rows_pairs fs rs) (rows_pairs fs (drop i rs)) one rest inv.noted step (h same))
+    full-step (empty_entries fs) u.entries u.entries (rows_pairs fs rs) (rows_pairs fs (drop i rs)) one rest inv.noted step (h same))
 
 pub returns-in_err-tally-clause-over : goal.returns-in_err-tally-clause-over
 returns-in_err-tally-clause-over c =
     let fs = c.args.schema.now.fields in
     let fault = c.in_err-tally.field-0.0 in
     let p = err_from_is_err_and c.from_residual.result c.from_residual.ensures.1 in
-    rw (p.1, p.2) (over_first c.args.limits.now fs (unused fs) (rows_pairs fs c.args.rows.now) fault c.in_err-tally.ensures.over
+    rw (p.1, p.2) (over_first c.args.limits.now fs (empty_entries fs) (rows_pairs fs c.args.rows.now) fault c.in_err-tally.ensures.over
     c.in_err-tally.ensures.only)
 
 pub returns-in_err-note-clause-over : goal.returns-in_err-note-clause-over
@@ -67,7 +67,7 @@ returns-in_err-note-clause-over c =
     (λ e h same.
     let here = subst (λ (l : Limits). IsOverLimit l fs (note_all u.entries one) e) inv.limits
     (subst (λ (fields : List Field). IsOverLimit u.limits fields (note_all u.entries one) e) inv.fields (h same)) in
-    over_step limits fs (unused fs) u.entries (rows_pairs fs rs) (rows_pairs fs (drop i rs)) one rest e inv.noted step here)
+    over_step limits fs (empty_entries fs) u.entries (rows_pairs fs rs) (rows_pairs fs (drop i rs)) one rest e inv.noted step here)
 
 pub loop-row-preserved : goal.loop-row-preserved
 loop-row-preserved c =
@@ -84,7 +84,8 @@ loop-row-preserved c =
       limits = ap (λ t. t.limits) after ∙ inv.limits;
       failed = ap (λ t. t.failed) after ∙ inv.failed;
       fields = ap (λ t. t.fields) after ∙ inv.fields;
-      noted = noted-step (unused fs) u.entries c.note.new.self.entries (rows_pairs fs rs) (rows_pairs fs (drop i rs)) (row_pairs fs r)
+      noted = noted-step (empty_entries fs) u.entries c.note.new.self.entries (rows_pairs fs rs) (rows_pairs fs (drop i rs))
+          (row_pairs fs r)
           (rows_pairs fs (drop (i + 1) rs)) inv.noted (rows-step fs rs i r (omega arith) c.row-item.is) now;
       fits = c.note.ensures.fits;
       ids = ap tally_ids now ∙ ids_note_all u.entries (row_pairs fs r) ∙ inv.ids;

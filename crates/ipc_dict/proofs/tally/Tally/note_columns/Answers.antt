@@ -3,7 +3,7 @@ use Rattle.ipc_model.specs.declared.value.Value.{Value}
 use Rattle.ipc_dict.specs.Noting.{note_all}
 use Rattle.ipc_dict.specs.Pairs.{rows_pairs}
 use Rattle.ipc_dict.proofs.Notes.{none_noted}
-use Rattle.ipc_dict.specs.Tallied.{Tallied}
+use Rattle.ipc_dict.specs.TallyState.{TallyState}
 use Rattle.ipc_dict.specs.Within.{AllWithin}
 use Rattle.ipc_dict.proofs.EntryColumns.{counted_within, within_again}
 use Rattle.ipc_dict.proofs.tally.Tally.note_columns.Goals as goal
@@ -11,7 +11,7 @@ use Rattle.ipc_dict.proofs.tally.Tally.note_columns.Goals as goal
 pub returns-then-self-clause-within : goal.returns-then-self-clause-within
 returns-then-self-clause-within c =
     let inside = c.self.inside in
-    subst (λ (t : Tallied). AllWithin t.limits t.fields t.entries) c.self.view_is
+    subst (λ (t : TallyState). AllWithin t.limits t.fields t.entries) c.self.view_is
     (counted_within inside.fields inside.entries.items inside.columns c.self.invariant.1.1)
 
 pub returns-in-Err-clause-within : goal.returns-in-Err-clause-within
@@ -27,7 +27,7 @@ returns-clause-within c =
     (omega (arith, c.add_batch.auto.entries, c.deref_mut.ensures.len)) c.add_batch.ensures.counted
 
 -- a tally without entries is as before with rows noted
-as_before : (t : Tallied) (rows : List (List Value)) → t.entries ≡ []
+as_before : (t : TallyState) (rows : List (List Value)) → t.entries ≡ []
     → t ≡ record t { entries = note_all t.entries (rows_pairs t.fields rows) }
 as_before t rows none =
     let ps = rows_pairs t.fields rows in

@@ -5,7 +5,7 @@ use Rattle.ipc_dict.specs.declared.entry.TallyEntry.{TallyEntry}
 use Rattle.ipc_dict.specs.declared.columns.EntryColumns.{EntryColumns}
 use Rattle.ipc_dict.specs.EntryColumns.{AreEntriesCounted}
 use Rattle.ipc_dict.specs.Noting.{AllFit}
-use Rattle.ipc_dict.specs.SchemaIds.{tally_bounds, unused}
+use Rattle.ipc_dict.specs.SchemaIds.{tally_bounds, empty_entries}
 use Rattle.ipc_dict.specs.Within.{AllWithin}
 use Rattle.ipc_dict.proofs.EntryColumns.{counted_within}
 use Rattle.ipc_dict.proofs.SchemaIds.{fit-unused}
@@ -24,7 +24,8 @@ invariant_of-result c =
     let all = counted c.args.schema.now.fields _ es columns c.deref-2.ensures.value c.in_ok-columns.ensures.counted in (
       (
         c.in_ok-marks.ensures ∙ ap length c.deref.ensures.value,
-        ap tally_bounds c.in_ok-entries.ensures ∙ ap (λ (fs : List Field). tally_bounds (unused fs)) (c.as_slice.ensures ∙ sym copied),
+        ap tally_bounds c.in_ok-entries.ensures ∙ ap (λ (fs : List Field). tally_bounds (empty_entries fs))
+            (c.as_slice.ensures ∙ sym copied),
       ),
       (
         subst AllFit (sym c.in_ok-entries.ensures) (fit-unused _),

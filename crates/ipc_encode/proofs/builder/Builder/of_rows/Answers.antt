@@ -4,59 +4,59 @@ use Rattle.std.proofs.lemmas.Result.{err_from_is_err_and}
 use Rattle.ipc_model.specs.declared.fault.WriteFault.{WriteFault}
 use Rattle.ipc_column.specs.Shapes.{shape_of}
 use Rattle.ipc_encode.specs.declared.node.Node.{Node}
-use Rattle.ipc_encode.specs.Buffers.{columns}
-use Rattle.ipc_encode.specs.Built.{AreColumns}
-use Rattle.ipc_encode.specs.Numbers.{told}
-use Rattle.ipc_encode.specs.Limits.{IsRefused}
+use Rattle.ipc_encode.specs.Buffers.{row_columns}
+use Rattle.ipc_encode.specs.Built.{HoldColumns}
+use Rattle.ipc_encode.specs.Numbers.{index_or_zero}
+use Rattle.ipc_encode.specs.Limits.{AreRowsRefused}
 use Rattle.ipc_encode.proofs.Held.{built_within, rows_refused}
 use Rattle.ipc_encode.proofs.RowHeadroom.{no_headroom}
 use Rattle.ipc_encode.proofs.builder.Builder.of_rows.Goals as goal
 
 pub returns-in_err-push_rows-clause-refused : goal.returns-in_err-push_rows-clause-refused
 returns-in_err-push_rows-clause-refused g c =
-    let known = told (g.I.IndexOf.index c.args.indices.now) in
+    let known = index_or_zero (g.I.IndexOf.index c.args.indices.now) in
     let limits = c.args.limits.now in
     let fields = c.args.fields.now in
-    let fresh = subst (λ (ns : List Node). AreColumns known limits (shape_of fields) ns (λ j. [])) (sym c.deref_mut.ensures.value)
+    let fresh = subst (λ (ns : List Node). HoldColumns known limits (shape_of fields) ns (λ j. [])) (sym c.deref_mut.ensures.value)
     (c.in_ok-nodes.ensures known limits) in
-    let told = c.in_err-push_rows.ensures.refused (shape_of fields) fresh in
+    let index_or_zero = c.in_err-push_rows.ensures.refused (shape_of fields) fresh in
     let p = err_from_is_err_and c.from_residual-in_err-push_rows.result c.from_residual-in_err-push_rows.ensures.1 in
-    rw (p.1, p.2) (rows_refused limits fields c.args.rows.now c.in_err-push_rows.field-0.0 told)
+    rw (p.1, p.2) (rows_refused limits fields c.args.rows.now c.in_err-push_rows.field-0.0 index_or_zero)
 
 pub returns-in_err-check_len-clause-refused : goal.returns-in_err-check_len-clause-refused
 returns-in_err-check_len-clause-refused g c =
-    let known = told (g.I.IndexOf.index c.args.indices.now) in
+    let known = index_or_zero (g.I.IndexOf.index c.args.indices.now) in
     let limits = c.args.limits.now in
     let fields = c.args.fields.now in
     let rows = c.args.rows.now in
-    let fresh = subst (λ (ns : List Node). AreColumns known limits (shape_of fields) ns (λ j. [])) (sym c.deref_mut.ensures.value)
+    let fresh = subst (λ (ns : List Node). HoldColumns known limits (shape_of fields) ns (λ j. [])) (sym c.deref_mut.ensures.value)
     (c.in_ok-nodes.ensures known limits) in
     let size : length c.push_rows.new.nodes ≡ c.in_ok-nodes.nodes.len = c.push_rows.auto.nodes ∙ c.deref_mut.ensures.len in
-    let held = subst (λ (ns : List Node). AreColumns known limits (shape_of fields) ns (columns rows))
+    let held = subst (λ (ns : List Node). HoldColumns known limits (shape_of fields) ns (row_columns rows))
     (sym (c.deref.ensures.value ∙ with_items_is c.in_ok-nodes.nodes c.push_rows.new.nodes size))
     (c.in_ok-push_rows.ensures.pushed (shape_of fields) fresh) in
-    let told = c.in_err-check_len.ensures.refused known fields rows held in
+    let index_or_zero = c.in_err-check_len.ensures.refused known fields rows held in
     let p = err_from_is_err_and c.from_residual-in_err-check_len.result c.from_residual-in_err-check_len.ensures.1 in
-    rw (p.1, p.2) (subst (λ (fault : WriteFault). IsRefused limits fields rows fault) (sym told.0) told.1)
+    rw (p.1, p.2) (subst (λ (fault : WriteFault). AreRowsRefused limits fields rows fault) (sym index_or_zero.0) index_or_zero.1)
 
 pub returns-clause-rows : goal.returns-clause-rows
 returns-clause-rows g c =
-    let known = told (g.I.IndexOf.index c.args.indices.now) in
+    let known = index_or_zero (g.I.IndexOf.index c.args.indices.now) in
     let limits = c.args.limits.now in
     let fields = c.args.fields.now in
     let rows = c.args.rows.now in
-    let fresh = subst (λ (ns : List Node). AreColumns known limits (shape_of fields) ns (λ j. [])) (sym c.deref_mut.ensures.value)
+    let fresh = subst (λ (ns : List Node). HoldColumns known limits (shape_of fields) ns (λ j. [])) (sym c.deref_mut.ensures.value)
     (c.in_ok-nodes.ensures known limits) in
     let size : length c.push_rows.new.nodes ≡ c.in_ok-nodes.nodes.len = c.push_rows.auto.nodes ∙ c.deref_mut.ensures.len in
     let same = with_items_is c.in_ok-nodes.nodes c.push_rows.new.nodes size in
     let pushed = c.in_ok-push_rows.ensures.pushed (shape_of fields) fresh in
-    let held = subst (λ (ns : List Node). AreColumns known limits (shape_of fields) ns (columns rows)) (sym (c.deref.ensures.value
+    let held = subst (λ (ns : List Node). HoldColumns known limits (shape_of fields) ns (row_columns rows)) (sym (c.deref.ensures.value
     ∙ same)) pushed in
     record {
       limits_are = refl;
       works = refl;
       count = refl;
-      columns_are = subst (λ (ns : List Node). AreColumns known limits (shape_of fields) ns (columns rows)) (sym same) pushed;
+      columns_are = subst (λ (ns : List Node). HoldColumns known limits (shape_of fields) ns (row_columns rows)) (sym same) pushed;
       within = built_within known limits fields rows c.deref.result.now (omega (arith, c.if-rows-limits.false)) held
           (c.in_ok-check_len.ensures.within known fields rows held);
       has_headroom = no_headroom limits fields rows;

@@ -1,5 +1,5 @@
 use Rattle.std.proofs.Common.{refl, subst, Ok}
-use Rattle.ipc_frame.specs.Parts.{bytes_of}
+use Rattle.ipc_frame.specs.Parts.{received_bytes}
 use Rattle.ipc_frame.specs.Pieces.{IsSound}
 use Rattle.ipc_frame.specs.Steps.{FeedsOn}
 use Rattle.ipc_frame.proofs.Fed.{feeds_none, feeds_whole, sound_behind}
@@ -12,7 +12,7 @@ pub invariant_of-self : goal.invariant_of-self
 invariant_of-self c =
     let more = c.in-Ok-default-More in
     let limits = c.self.inside.limits in
-    let z = bytes_of c.self.inside.parts in
+    let z = received_bytes c.self.inside.parts in
     (subst (λ s. FeedsOn limits z c.args.piece.now c.feed_on.new.parts (Ok (more.taken, s))) more.field-0-1-is
     (subst (λ r. FeedsOn limits z c.args.piece.now c.feed_on.new.parts r) more.is c.feed_on.ensures.feeds)).2
 
@@ -20,7 +20,7 @@ pub returns-in-Ok-default-More-clause-feeds : goal.returns-in-Ok-default-More-cl
 returns-in-Ok-default-More-clause-feeds c =
     let more = c.in-Ok-default-More in
     let limits = c.self.inside.limits in
-    let z = bytes_of c.self.inside.parts in
+    let z = received_bytes c.self.inside.parts in
     rw (← c.self.view_is, c.in-Reading.is) (feeds_none limits z _ _ _ more.awaited
     (subst (λ s. FeedsOn limits z c.args.piece.now c.feed_on.new.parts (Ok (more.taken, s))) more.field-0-1-is
     (subst (λ r. FeedsOn limits z c.args.piece.now c.feed_on.new.parts r) more.is c.feed_on.ensures.feeds)))
@@ -28,7 +28,7 @@ returns-in-Ok-default-More-clause-feeds c =
 pub returns-in-Err-clause-feeds : goal.returns-in-Err-clause-feeds
 returns-in-Err-clause-feeds c =
     let limits = c.self.inside.limits in
-    let z = bytes_of c.self.inside.parts in
+    let z = received_bytes c.self.inside.parts in
     rw (← c.self.view_is, c.in-Reading.is)
     (refl, subst (λ r. FeedsOn limits z c.args.piece.now c.feed_on.new.parts r) c.in-Err.is c.feed_on.ensures.feeds)
 
@@ -36,16 +36,16 @@ pub invariant_of-self-in-Ok-default-Whole : goal.invariant_of-self-in-Ok-default
 invariant_of-self-in-Ok-default-Whole c =
     let whole = c.in-Ok-default-Whole in
     let limits = c.self.inside.limits in
-    let z = bytes_of c.self.inside.parts in
+    let z = received_bytes c.self.inside.parts in
     let fed = subst (λ s. FeedsOn limits z c.args.piece.now c.feed_on.new.parts (Ok (whole.taken, s))) whole.field-0-1-is
     (subst (λ r. FeedsOn limits z c.args.piece.now c.feed_on.new.parts r) whole.is c.feed_on.ensures.feeds) in
-    rw c.phase_behind-self-inside.ensures (sound_behind _ _ _ whole.frame fed.1)
+    rw c.state_after-self-inside.ensures (sound_behind _ _ _ whole.frame fed.1)
 
 pub returns-in-Ok-default-Whole-clause-feeds : goal.returns-in-Ok-default-Whole-clause-feeds
 returns-in-Ok-default-Whole-clause-feeds c =
     let whole = c.in-Ok-default-Whole in
     let limits = c.self.inside.limits in
-    let z = bytes_of c.self.inside.parts in
-    rw (← c.self.view_is, c.in-Reading.is, c.phase_behind-self-inside.ensures) (feeds_whole limits z _ _ _ whole.frame
+    let z = received_bytes c.self.inside.parts in
+    rw (← c.self.view_is, c.in-Reading.is, c.state_after-self-inside.ensures) (feeds_whole limits z _ _ _ whole.frame
     (subst (λ s. FeedsOn limits z c.args.piece.now c.feed_on.new.parts (Ok (whole.taken, s))) whole.field-0-1-is
     (subst (λ r. FeedsOn limits z c.args.piece.now c.feed_on.new.parts r) whole.is c.feed_on.ensures.feeds)))

@@ -7,27 +7,27 @@ use Rattle.ipc_model.specs.declared.value.Value.{Value}
 use Rattle.ipc_model.proofs.Depths.{short_paths}
 use Rattle.ipc_dict.specs.declared.kept.KeptEntry.{KeptEntry}
 use Rattle.ipc_dict.specs.declared.seed.Seed.{Seed}
-use Rattle.ipc_dict.specs.Tallied.{Tallied}
-use Rattle.ipc_stream.specs.OpenStreams.{Opened}
-use Rattle.ipc_stream.specs.Pushed.{HoldsBatch, RefusesHeld, no_rows, with_rows}
-use Rattle.ipc_stream.specs.declared.pushed.PushedRows.{PushedRows}
+use Rattle.ipc_dict.specs.TallyState.{TallyState}
+use Rattle.ipc_stream.specs.OpenStreams.{OpenStreamState}
+use Rattle.ipc_stream.specs.PendingBatches.{HoldsBatch, RefusesPending, no_rows, with_rows}
+use Rattle.ipc_stream.specs.declared.pending_batch.PendingBatch.{PendingBatch}
 use Rattle.std.specs.Prelude.{false}
 use Rattle.ipc_stream.proofs.FirstRows.{refused_at_first}
 use Rattle.ipc_stream.proofs.HeldRows.{judged_sent}
 use Rattle.ipc_stream.proofs.open_stream.OpenStream.send_batch.Goals as goal
 
 -- the batch whose rows were pushed is held
-all_held : (old begun : Opened) (limits : Limits) (s : Schema) (kept : List KeptEntry) (seed : Seed) (b : BatchRows)
-    (pairs : List (List ℕ × List ℕ)) (rows : List (List Value)) (held new : PushedRows)
+all_held : (old begun : OpenStreamState) (limits : Limits) (s : Schema) (kept : List KeptEntry) (seed : Seed) (b : BatchRows)
+    (pairs : List (List ℕ × List ℕ)) (rows : List (List Value)) (held new : PendingBatch)
     → record { limits = limits; schema = s; kept = kept; seed = seed } ≡ begun → begun ≡ old → pairs ≡ b.pairs → rows ≡ b.rows
     → HoldsBatch old.limits old.schema (no_rows pairs) held
     → (HoldsBatch limits s (no_rows pairs) held → HoldsBatch limits s (with_rows pairs rows) new)
     → HoldsBatch begun.limits begun.schema b new
 all_held old begun limits s kept seed b pairs rows held new view same copied all begins pushes =
-    let first = subst (λ (o : Opened). HoldsBatch o.limits o.schema (no_rows pairs) held) (sym (view ∙ same)) begins in
+    let first = subst (λ (o : OpenStreamState). HoldsBatch o.limits o.schema (no_rows pairs) held) (sym (view ∙ same)) begins in
     let given = subst (λ (rs : List (List Value)). HoldsBatch limits s (with_rows pairs rs) new) all (pushes first) in
     let whole = subst (λ (ps : List (List ℕ × List ℕ)). HoldsBatch limits s (with_rows ps b.rows) new) copied given in
-    subst (λ (o : Opened). HoldsBatch o.limits o.schema b new) view whole
+    subst (λ (o : OpenStreamState). HoldsBatch o.limits o.schema b new) view whole
 
 pub returns-in_err-held-clause-judged : goal.returns-in_err-held-clause-judged
 returns-in_err-held-clause-judged g c =
@@ -36,7 +36,7 @@ returns-in_err-held-clause-judged g c =
     rw (p.1, p.2)
     (refused_at_first c.args.self.now.limits c.args.self.now.schema c.args.batch.now.pairs c.args.batch.now.rows 0 _
     (subst (λ (ps : List (List ℕ × List ℕ)).
-    RefusesHeld c.args.self.now.limits c.args.self.now.schema (no_rows ps) false c.in_err-held.field-0.0)
+    RefusesPending c.args.self.now.limits c.args.self.now.schema (no_rows ps) false c.in_err-held.field-0.0)
     copied c.in_err-held.ensures.refused))
 
 pub push_all-requires : goal.push_all-requires
@@ -50,7 +50,7 @@ send_rows-requires g c =
     c.self.inside.seed c.args.batch.now _ _ _ _ c.self.view_is c.begin_batch.ensures.same copied c.as_slice.ensures
     c.in_ok-held.ensures.holds
     (λ h. c.in_ok-push_all.ensures.holds c.self.inside.limits c.in_ok-clone.field-0 c.self.invariant.well_formed h) in
-    (ap (λ (t : Tallied). t.limits) held.tally, ap (λ (t : Tallied). t.fields) held.tally)
+    (ap (λ (t : TallyState). t.limits) held.tally, ap (λ (t : TallyState). t.fields) held.tally)
 
 pub returns-clause-sends : goal.returns-clause-sends
 returns-clause-sends g c =

@@ -1,18 +1,18 @@
 use Rattle.std.proofs.Common.{◌≡◌, ◌∙◌, ◌++◌, sym, ℕ, List}
 use Rattle.std.proofs.lemmas.Result.{err_from_is_err_and}
 use Rattle.ipc_encode.specs.declared.segments.Segment.{Segment}
-use Rattle.ipc_encode.specs.Segments.{joined}
+use Rattle.ipc_encode.specs.Segments.{bytes_of_segments}
 use Rattle.ipc_stream.specs.declared.message.Message.{Message}
 use Rattle.ipc_stream.specs.Dictionaries.{SendsBatch}
 use Rattle.ipc_stream.specs.Messages.{all_bytes}
-use Rattle.ipc_stream.specs.Pushed.{with_rows}
+use Rattle.ipc_stream.specs.PendingBatches.{with_rows}
 use Rattle.ipc_stream.proofs.SentBytes.{whole_cut, whole_sent}
 use Rattle.ipc_stream.proofs.open_stream.OpenStream.send_columns.Goals as goal
 
 -- the bytes of equal lists
 bytes : (ms ns : List Message) (f g : List ℕ) (ss ts : List Segment) → ms ≡ ns → f ≡ g → ss ≡ ts
-    → all_bytes ms ++ (f ++ joined ss) ≡ all_bytes ns ++ (g ++ joined ts)
-bytes ms ns f g ss ts p q r = λ i. all_bytes (p i) ++ (q i ++ joined (r i))
+    → all_bytes ms ++ (f ++ bytes_of_segments ss) ≡ all_bytes ns ++ (g ++ bytes_of_segments ts)
+bytes ms ns f g ss ts p q r = λ i. all_bytes (p i) ++ (q i ++ bytes_of_segments (r i))
 
 pub returns-in_err-send_segmented-clause-sends : goal.returns-in_err-send_segmented-clause-sends
 returns-in_err-send_segmented-clause-sends g c = rw (← c.self.view_is) (

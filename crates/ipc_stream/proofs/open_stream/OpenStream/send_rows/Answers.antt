@@ -5,7 +5,7 @@ use Rattle.ipc_dict.specs.declared.entry.TallyEntry.{TallyEntry}
 use Rattle.ipc_dict.specs.SchemaIds.{ids_of}
 use Rattle.ipc_dict.specs.Sending.{AreAddressed}
 use Rattle.ipc_stream.specs.Dictionaries.{SendsBatch}
-use Rattle.ipc_stream.specs.OpenStreams.{Opened}
+use Rattle.ipc_stream.specs.OpenStreams.{OpenStreamState}
 use Rattle.ipc_stream.specs.Messages.{all_bytes}
 use Rattle.ipc_stream.proofs.SentBytes.{whole_cut, whole_sent}
 use Rattle.ipc_stream.proofs.open_stream.OpenStream.send_rows.Goals as goal
@@ -30,14 +30,14 @@ addressed_in fields others es same h = subst (λ (fs : List Field). AreAddressed
 
 pub returns-clause-counted : goal.returns-clause-counted
 returns-clause-counted g c =
-    let fields = c.requires.1 ∙ sym (ap (λ (o : Opened). o.schema.fields) c.self.view_is) in
+    let fields = c.requires.1 ∙ sym (ap (λ (o : OpenStreamState). o.schema.fields) c.self.view_is) in
     let ids = c.self.invariant.ids ∙ sym (c.in_ok-messages.ensures.ids ∙ ap ids_of fields) in
     c.commit.ensures.counted c.self.inside.schema.fields ids (addressed_in _ _ _ fields c.in_ok-messages.ensures.addressed)
     c.self.invariant.counted
 
 pub invariant_of-self : goal.invariant_of-self
 invariant_of-self g c =
-    let fields = c.requires.1 ∙ sym (ap (λ (o : Opened). o.schema.fields) c.self.view_is) in
+    let fields = c.requires.1 ∙ sym (ap (λ (o : OpenStreamState). o.schema.fields) c.self.view_is) in
     let ids = c.self.invariant.ids ∙ sym (c.in_ok-messages.ensures.ids ∙ ap ids_of fields) in
     record {
       well_formed = c.self.invariant.well_formed;

@@ -1,8 +1,0 @@
-use Rattle.std.proofs.Common.{◌≡◌, ℕ, List, drop, map}
-use Rattle.std.specs.Prelude.{◌&&◌}
-use Rattle.ipc_column.specs.Marks.{each_valid, mark}
-use Rattle.ipc_column.proofs.known.are_known.Given as goal
-
-abbrev pub invariant-loop-part : goal.invariant-loop-part
-invariant-loop-part l = (body : List ℕ)
-    → (l.known && each_valid (map (mark body) (drop l.part-index l.parts))) ≡ each_valid (map (mark body) l.parts)

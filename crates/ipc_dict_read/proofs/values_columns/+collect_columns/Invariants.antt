@@ -1,0 +1,7 @@
+use Rattle.std.proofs.Common.{◌≡◌, ◌++◌, drop}
+use Rattle.ipc_dict_read.specs.ValuesColumns.{dictionary_columns}
+use Rattle.ipc_dict_read.proofs.values_columns.+collect_columns.Given as goal
+
+abbrev pub invariant-collect_columns-loop-field : goal.invariant-collect_columns-loop-field
+invariant-collect_columns-loop-field l =
+    l.found.items ++ dictionary_columns (drop l.field-index l.fields) ≡ l.initial.found.items ++ dictionary_columns l.fields

@@ -1,0 +1,4 @@
+pub mod ConcatLists
+pub mod InForce
+pub mod ValuesColumns
+pub mod DictionariesState

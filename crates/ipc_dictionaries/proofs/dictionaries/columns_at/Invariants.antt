@@ -1,6 +1,0 @@
-use Rattle.std.proofs.Common.{◌≡◌, drop}
-use Rattle.ipc_dictionaries.specs.ValuesColumns.{columns_for}
-use Rattle.ipc_dictionaries.proofs.dictionaries.columns_at.Given as goal
-
-abbrev pub invariant-loop-entry : goal.invariant-loop-entry
-invariant-loop-entry l = columns_for (drop l.entry-index l.columns) l.id ≡ columns_for l.columns l.id

@@ -1,4 +1,0 @@
-pub mod Joined
-pub mod InForce
-pub mod ValuesColumns
-pub mod Applied

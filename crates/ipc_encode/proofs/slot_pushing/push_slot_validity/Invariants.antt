@@ -1,0 +1,10 @@
+use Rattle.std.proofs.Common.{◌≡◌, [], take}
+use Rattle.ipc_column.specs.Nested.{slot_values}
+use Rattle.ipc_encode.specs.Bitmaps.{bitmap}
+use Rattle.ipc_encode.specs.Cells.{flags}
+use Rattle.ipc_encode.specs.Pieces.{Valid}
+use Rattle.ipc_encode.proofs.slot_pushing.push_slot_validity.Given as goal
+
+-- the bits of the first slots
+abbrev pub invariant-loop-slot : goal.invariant-loop-slot
+invariant-loop-slot l = l.fn.bits.items ≡ [] → l.bits.items ≡ bitmap (flags Valid (take l.slot (slot_values l.view)))

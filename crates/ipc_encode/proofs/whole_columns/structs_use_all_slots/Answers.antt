@@ -1,0 +1,31 @@
+use Rattle.std.proofs.Common.{◌≡◌, ◌∙◌, sym, ap, subst, ℕ, ◌<◌, length, arith}
+use Rattle.ipc_column.specs.Nested.{Nested, only_column, slot_values}
+use Rattle.ipc_column.specs.Rules.{SpellsTexts}
+use Rattle.ipc_encode.proofs.LentBuffers.{buffers_bits}
+use Rattle.ipc_encode.proofs.NestedSlots.{some_same, struct_gives}
+use Rattle.ipc_encode.proofs.NestedTexts.{struct_spells}
+use Rattle.ipc_encode.proofs.whole_columns.structs_use_all_slots.Goals as goal
+
+pub nulls_are_shared-requires : goal.nulls_are_shared-requires
+nulls_are_shared-requires c = λ some.
+    let bits = buffers_bits c.args.view.now c.buffers-buffers.result c.buffers-buffers.ensures some in
+    omega (arith, bits, c.len.ensures, c.len-2.ensures, c.if-len.false)
+
+pub returns-clause-slots : goal.returns-clause-slots
+returns-clause-slots c = λ shared child is.
+    let s = c.args.view.now in
+    let own = c.child-child.result in
+    let size : length (slot_values s) ≡ length (slot_values own) = omega (arith, c.len.ensures, c.len-2.ensures, c.if-len.false) in
+    struct_gives s own c.buffers-buffers.result c.args.i c.buffers-buffers.ensures c.in-Structs.is c.child-child.ensures size
+    (λ i m. c.nulls_are_shared.ensures shared i (omega (arith, m, size)))
+    ∙ ap (λ (n : Nested). slot_values n) (some_same own child (sym c.child-child.ensures ∙ is))
+
+pub returns-clause-texts : goal.returns-clause-texts
+returns-clause-texts c = λ shared child is spelled.
+    let s = c.args.view.now in
+    let own = c.child-child.result in
+    let size : length (slot_values s) ≡ length (slot_values own) = omega (arith, c.len.ensures, c.len-2.ensures, c.if-len.false) in
+    subst (λ (n : Nested). (j : ℕ) → j < length (slot_values n) → SpellsTexts (only_column n) j)
+    (some_same own child (sym c.child-child.ensures ∙ is))
+    (struct_spells s own c.buffers-buffers.result c.args.i c.buffers-buffers.ensures c.in-Structs.is c.child-child.ensures size
+    (λ i m. c.nulls_are_shared.ensures shared i (omega (arith, m, size))) spelled)

@@ -1,9 +1,0 @@
-pub mod ColumnLines
-pub mod ColumnsAlone
-pub mod Explained
-pub mod FieldPaths
-pub mod Followed
-pub mod Formats
-pub mod Kept
-pub mod Known
-pub mod Writes

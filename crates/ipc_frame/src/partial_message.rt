@@ -1,0 +1,80 @@
+ghost use Rattle.std.specs.Prelude.{◌≡◌, ◌≤◌, ◌++◌, [], length, OnErr, OnOk};
+ghost use Rattle.ipc_frame.specs.Bodies.{body_bytes};
+ghost use Rattle.ipc_frame.specs.Parts.{FitsExpectation, HasSize, received_bytes, no_capacity};
+ghost use Rattle.ipc_frame.specs.Parts.{capacity_of, bytes_needed};
+
+use crate::body::Body;
+use crate::message_prefix::MessagePrefix;
+use ipc_model::Limits;
+use std::alloc::{AllocError, Global};
+
+// The bytes that came of one message: its mark and the size of its metadata, its metadata, and its
+// body.
+#[derive(Drop)]
+pub struct PartialMessage {
+    pub start: MessagePrefix,
+    pub meta: Vec<u8>,
+    pub body: Body,
+}
+
+// What the next decision about a message waits for: its mark, the size of its metadata, or all
+// bytes of its metadata or of its body, with their number.
+#[derive(Clone, Copy)]
+pub enum Expectation {
+    Continuation,
+    Size,
+    Metadata(usize),
+    Body(usize),
+}
+
+impl PartialMessage {
+    // With no byte.
+    pub fn new(alloc: Global) -> PartialMessage
+        ensures start { result.start ≡ [] }
+        ensures meta { result.meta.items ≡ [] }
+        ensures body { body_bytes result.body ≡ [] }
+        ensures room { capacity_of result ≡ no_capacity }
+    {
+        PartialMessage {
+            start: MessagePrefix::new(),
+            meta: Vec::new(alloc),
+            body: Body::new(alloc),
+        }
+    }
+}
+
+// How many bytes are needed before the next decision.
+pub fn bytes_needed(limits: &Limits, parts: &PartialMessage, awaited: Expectation) -> usize
+    requires { FitsExpectation limits.now parts.now awaited }
+    ensures { result ≡ bytes_needed parts.now awaited }
+{
+    match awaited {
+        Expectation::Continuation => 4 - parts.start.len(),
+        Expectation::Size => 8 - parts.start.len(),
+        Expectation::Metadata(size) => size - parts.meta.len(),
+        Expectation::Body(size) => size - parts.body.len(),
+    }
+}
+
+// Appends bytes to those that are there.
+pub fn extend(
+    limits: &Limits,
+    parts: &mut PartialMessage,
+    awaited: Expectation,
+    bytes: &[u8],
+) -> Result<(), AllocError>
+    requires fits { FitsExpectation limits.now parts.old awaited }
+    requires few { length bytes.now ≤ bytes_needed parts.old awaited }
+    ensures fits { OnOk result (FitsExpectation limits.now parts.new awaited) }
+    ensures bytes { OnOk result (received_bytes parts.new ≡ received_bytes parts.old ++ bytes.now) }
+    ensures memory { OnErr result (HasSize awaited) }
+{
+    match awaited {
+        Expectation::Continuation | Expectation::Size => {
+            parts.start.extend(bytes);
+            Ok(())
+        }
+        Expectation::Metadata(_) => parts.meta.extend_from_slice(bytes),
+        Expectation::Body(_) => parts.body.extend(bytes),
+    }
+}

@@ -1,5 +1,0 @@
-use Rattle.ipc_print.proofs.SetApart.{none_on_true}
-use Rattle.ipc_print.proofs.unquoted.put_if_unquoted.Goals as goal
-
-pub returns-clause-none : goal.returns-clause-none
-returns-clause-none c = none_on_true c.args.delimiter c.put_and_look.result c.args.field.now c.put_and_look.ensures.none

@@ -1,3 +1,0 @@
-pub mod Raised
-pub mod Reporting
-pub mod Rewriting

@@ -1,0 +1,51 @@
+-- What a scope brings and sets.
+use Rattle.std.proofs.Common.{◌≡◌, ◌∙◌, sym, ap, subst, ℕ, ℤ, List, [], ◌∷◌, length, Some, None, Result, Ok, Err}
+use Rattle.std.specs.Prelude.{IfErr, OnErr, OnOk}
+use Rattle.ipc_model.specs.declared.fault.Fault.{Fault}
+use Rattle.ipc_model.specs.declared.fault.Fault.TheVariants.{OutOfMemory}
+use Rattle.ipc_model.specs.declared.limits.Limits.{Limits}
+use Rattle.ipc_model.specs.declared.schema.Schema.{Schema}
+use Rattle.ipc_meta.specs.declared.head.BatchHead.{BatchHead}
+use Rattle.ipc_meta.specs.declared.head.Head.TheVariants as h
+use Rattle.ipc_frame.specs.declared.frame.Frame.{Frame as Framed}
+use Rattle.ipc_frame.specs.declared.frame.Frame.TheVariants as f
+use Rattle.ipc_column.specs.Contents.{Contents}
+use Rattle.ipc_column.specs.DictionaryBatches.{dictionary_values}
+use Rattle.ipc_dict_read.specs.DictionariesState.{DictionariesState}
+use Rattle.ipc_dict_read.specs.InForce.{put}
+use Rattle.ipc_stream_read.specs.declared.event.Event.TheVariants as told
+use Rattle.ipc_stream_read.specs.declared.scope.Scope.{Scope}
+use Rattle.ipc_stream_read.specs.StreamStates.{Brings, BringsScope, GivesValues, SetsValues}
+use Rattle.ipc_stream_read.specs.Scopes.{dictionaries_of, in_scope}
+use Rattle.ipc_stream_read.specs.Stream.{DictionaryInForce, InForce, Step, first, sets, schema}
+use Rattle.ipc_stream_read.proofs.Dictionaries.{kept_put}
+
+-- a frame that brings a scope tells its schema
+pub first_brings : (limits : Limits) (frame : Framed) (scope : Scope) → BringsScope frame (Ok scope)
+    → Brings limits None frame (Some (in_scope scope)) (Ok (Some told.Schema))
+first_brings limits f.End scope b = absurd b
+first_brings limits (f.Message meta head body) scope b =
+    let s = scope.schema in (
+      s,
+      subst (λ g. Step limits None g body.items (schema s ∷ []) (Some (in_scope scope))) (sym b.0)
+          (subst (λ o. Step limits None (h.Schema s) body.items (schema s ∷ []) (Some o)) (sym b.1) first),
+    )
+
+-- what is in force with these batches
+abbrev with_batches : Schema → DictionariesState → InForce
+with_batches s a = record { schema = s; dictionaries = dictionaries_of a.current }
+
+-- values that are put in force are set
+pub sets_values : (limits : Limits) (s : Schema) (a b : DictionariesState) (id : ℤ) (head : BatchHead) (body : List ℕ) (values : Contents)
+    (r : Result (Unit {0}) Fault) → GivesValues limits (with_batches s a) id head body values
+    → OnOk r (b ≡ record a { current = put a.current id values }) → OnErr r (b ≡ a) → IfErr r (λ fault. fault ≡ OutOfMemory)
+    → SetsValues limits (with_batches s a) (with_batches s b) id head body r
+sets_values limits s a b id head body values (Ok x) gives after err memory =
+    let m = dictionaries_of a.current in
+    let now : dictionaries_of b.current ≡ put m id (record { values = dictionary_values values; bytes = length body }) =
+    ap (λ (x : DictionariesState). dictionaries_of x.current) after ∙ (kept_put a.current id values
+    ∙ ap (λ n. put m id (record { values = dictionary_values values; bytes = n })) gives.3) in
+    subst (λ (d : List (ℤ × DictionaryInForce)). Step limits (Some (with_batches s a)) (h.Dictionary id head) body []
+    (Some (record { schema = s; dictionaries = d }))) (sym now) (sets gives.1 gives.2)
+sets_values limits s a b id head body values (Err e) gives after err memory =
+    (ap (with_batches s) err, λ other. absurd (other memory))

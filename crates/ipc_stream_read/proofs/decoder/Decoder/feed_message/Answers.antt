@@ -1,0 +1,43 @@
+use Rattle.std.proofs.Common.{refl}
+use Rattle.std.proofs.lemmas.Result.{err_from_is_err_and}
+use Rattle.ipc_stream_read.proofs.Decoders.{feeds_none, feeds_refused, feeds_event, feeds_frame_refused, feeds_silent}
+use Rattle.ipc_stream_read.proofs.decoder.Decoder.feed_message.Goals as goal
+use Rattle.ipc_stream_read.proofs.decoder.Decoder.feed_message.Goals.{in-Some, in-None}
+
+pub returns-in_err-event-in-Ok-default-Some-clause-fed :
+    goal.returns-in_err-event-in-Ok-default-Some-clause-fed
+returns-in_err-event-in-Ok-default-Some-clause-fed c =
+    let p = err_from_is_err_and c.from_residual.result c.from_residual.ensures.1 in
+    rw (p.1, p.2)
+    (feeds_frame_refused c.self.inside.frames c.feed.new.self c.self.inside.course c.accept.new.self c.self.invariant c.in-Reading.is
+    c.self.inside.course.counted _ c.self.view_is c.in-Ok-default-Some.taken _ _
+    c.in-Ok-default-Some.frame c.in_err-event-in-Ok-default-Some.field-0.0 c.in-Ok-default-Some.field-0-1-is
+    c.in-Ok-default-Some.ensures.feeds
+    c.in_err-event-in-Ok-default-Some.ensures.brings c.in_err-event-in-Ok-default-Some.ensures.moves
+    c.in_err-event-in-Ok-default-Some.ensures.memory)
+
+pub returns-in-Err-clause-fed : goal.returns-in-Err-clause-fed
+returns-in-Err-clause-fed c =
+    feeds_refused c.self.inside.frames c.feed.new.self c.self.inside.course c.refuse.new.self c.self.invariant c.in-Reading.is
+    c.self.inside.course.counted _ c.self.view_is _ c.in-Err.fault _ c.refuse.ensures.fault
+    c.in-Err.ensures.feeds c.in-Err.ensures.memory c.refuse.ensures.refused
+
+pub returns-in-Ok-default-None-clause-fed : goal.returns-in-Ok-default-None-clause-fed
+returns-in-Ok-default-None-clause-fed c =
+    feeds_none c.self.inside.frames c.feed.new.self c.self.inside.course c.self.inside.course c.self.invariant c.in-Reading.is
+    c.self.inside.course.counted _ c.self.view_is c.in-Ok-default-None.taken _ _
+    c.in-Ok-default-None.field-0-1-is c.in-Ok-default-None.ensures.feeds refl
+
+pub returns-after-branch-2-clause-fed : goal.returns-after-branch-2-clause-fed
+returns-after-branch-2-clause-fed c = elim c.match-branch-2.branch [
+  | in-Some w ↦ rw w.result-is (feeds_event c.self.inside.frames c.feed.new.self c.self.inside.course c.accept.new.self c.self.invariant
+      c.in-Reading.is c.self.inside.course.counted _ c.self.view_is c.in-Ok-default-Some.taken _ _
+      c.in-Ok-default-Some.frame c.in_ok-event-in-Ok-default-Some.field-0 w.in-Some.event w.in-Some.is
+      c.in-Ok-default-Some.field-0-1-is c.in-Ok-default-Some.ensures.feeds
+      c.in_ok-event-in-Ok-default-Some.ensures.brings c.in_ok-event-in-Ok-default-Some.ensures.moves)
+  | in-None w ↦ rw w.result-is (feeds_silent c.self.inside.frames c.feed.new.self c.self.inside.course c.accept.new.self c.self.invariant
+      c.in-Reading.is c.self.inside.course.counted _ c.self.view_is c.in-Ok-default-Some.taken _ _
+      c.in-Ok-default-Some.frame c.in_ok-event-in-Ok-default-Some.field-0 w.in-None.is
+      c.in-Ok-default-Some.field-0-1-is c.in-Ok-default-Some.ensures.feeds
+      c.in_ok-event-in-Ok-default-Some.ensures.brings c.in_ok-event-in-Ok-default-Some.ensures.moves)
+]

@@ -1,0 +1,18 @@
+use Rattle.std.proofs.Common.{◌∙◌, sym}
+use Rattle.std.proofs.lemmas.Result.{err_from_is_err_and}
+use Rattle.ipc_stream_read.proofs.Tables.{table_broken, table_read, schema_is}
+use Rattle.ipc_stream_read.proofs.table.read_messages.Goals as goal
+
+pub returns-in_err-batches-clause-table : goal.returns-in_err-batches-clause-table
+returns-in_err-batches-clause-table g c =
+    let p = err_from_is_err_and c.from_residual-in_err-batches.result c.from_residual-in_err-batches.ensures.1 in
+    rw (p.1, p.2) (table_broken _ _ _ _ _ _ _ _ c.new-decoder.ensures.limits c.in_ok-read_schema.ensures.schema
+    c.in_err-batches.field-0.0 c.in_err-batches.ensures.batches)
+
+pub returns-in-Some-clause-table : goal.returns-in-Some-clause-table
+returns-in-Some-clause-table g c =
+    table_read _ _ _ _ _ _ _ _ c.new-decoder.ensures.limits c.in_ok-read_schema.ensures.schema c.in_ok-batches.batches
+    c.in_ok-batches.end c.in-Some.schema
+    (schema_is _ _ (g.R.Source.remaining c.args.source.now) _ _ _ _ _ c.new-decoder.ensures.limits c.in_ok-read_schema.ensures.schema _
+    c.in-Some.schema
+    (sym c.into_schema.ensures ∙ c.in-Some.is) c.in_ok-batches.ensures.schema) c.in_ok-batches.ensures.batches

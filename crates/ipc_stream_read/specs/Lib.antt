@@ -1,0 +1,15 @@
+pub mod Failures
+pub mod Stream
+pub mod Found
+pub mod Counts
+pub mod Reasons
+pub mod Verdicts
+pub mod Decoding
+pub mod MessageFeeds
+pub mod PieceFeeds
+pub mod Alone
+pub mod Scopes
+pub mod StreamStates
+pub mod Taken
+pub mod Reader
+pub mod Laws

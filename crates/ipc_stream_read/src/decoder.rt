@@ -1,0 +1,305 @@
+use crate::end::End;
+use crate::event::Event;
+use crate::feed_progress::FeedProgress;
+use crate::stream_phase::StreamPhase;
+use crate::stream_state::StreamState;
+use ipc_column::Batch;
+use ipc_frame::{Frames, Source};
+use ipc_model::{Fault, Limits, Schema};
+use std::alloc::Global;
+use std::marker::Model;
+
+/// Reads a stream whose bytes arrive in pieces of any length (Arrow Columnar Format, "IPC Streaming
+/// Format" and "Encapsulated message format").
+///
+/// Bytes are pushed by `feed` or pulled by `feed_from`, and the two may be mixed. The decoder keeps
+/// all bytes of the current message that came, and none of them after it. The body of a record
+/// batch moves to the batch without a copy. The body of a dictionary batch is kept while its
+/// dictionary is in force.
+///
+/// For any size of the pieces, metadata is read once when it is complete, and once more with the
+/// complete body. Lists grow as bytes come, never by what a message states. Pass a batch that is no
+/// longer needed to `reuse`.
+///
+/// After a refusal each call returns `Failed` (F35) and takes no bytes; earlier events remain
+/// valid. After the end-of-stream mark, or after a `close` that returned `Ok`, no bytes are taken
+/// either.
+#[derive(Drop)]
+pub struct Decoder {
+    frames: Frames,
+    course: StreamState,
+    alloc: Global,
+}
+
+impl Model for Decoder {
+    ghost use Rattle.std.specs.Coded.{codes};
+    ghost use Rattle.ipc_model.specs.contracts.schema.Field as field;
+    ghost use Rattle.ipc_model.specs.contracts.value.Value as value;
+    ghost use Rattle.ipc_stream_read.specs.StreamStates.{IsSound, decoding_of};
+    ghost use Rattle.ipc_stream_read.specs.Decoding.{Decoding};
+
+    ghost Value = { Decoding };
+
+    ghost coded = { Prim.hlevel (codes, field.the_row.coded, value.the_row.coded) };
+
+    ghost view = { λ s. decoding_of s.frames s.course };
+
+    ghost invariant = { λ s. IsSound s.frames s.course };
+}
+
+impl Decoder {
+    ghost use Rattle.std.specs.Prelude.{◌≡◌, ◌≤◌, ◌+◌, [], None, IfOk, IfSome, MatchResult, OnOk};
+    ghost use Rattle.std.specs.Prelude.{option_copied};
+    ghost use Rattle.ipc_frame.specs.Parts.{no_capacity};
+    ghost use Rattle.ipc_stream_read.specs.Decoding.{ClosesAt, Draws, FailsWhile, Feeds};
+    ghost use Rattle.ipc_stream_read.specs.Decoding.{HasColumns};
+    ghost use Rattle.ipc_stream_read.specs.Decoding.{DropsLists};
+    ghost use Rattle.ipc_stream_read.specs.Decoding.{Wants, held_of, kept_bytes, schema_of, taking};
+    ghost use Rattle.ipc_stream_read.specs.MessageFeeds.{FeedsMessage, ForReported};
+    ghost use Rattle.ipc_stream_read.specs.Reader.{phase_of};
+
+    /// Creates a decoder at the beginning of a stream. All that it accepts, in each call, is within
+    /// `limits`. It takes no memory.
+    pub fn new(alloc: Global, limits: Limits) -> Decoder
+        ensures limits { result.limits ≡ limits }
+        ensures state { result.state ≡ None }
+        ensures stage { result.stage ≡ taking [] }
+        ensures messages { result.messages ≡ 0 }
+        ensures room { result.room ≡ no_capacity }
+    {
+        Decoder {
+            frames: Frames::new(alloc, limits),
+            course: StreamState::new(limits),
+            alloc,
+        }
+    }
+
+    /// Takes a beginning of `piece`, up to the first event. Returns the number of bytes taken, and
+    /// the event if there is one. Without an event the whole piece is taken.
+    ///
+    /// A dictionary batch is no event: its values are in force from its last byte on, and the
+    /// following bytes are taken in this call too. Pass the bytes that were not taken to the next
+    /// call. After the end-of-stream mark, or after a `close` that returned `Ok`, no bytes are
+    /// taken, and the call returns `Ok((0, None))`.
+    ///
+    /// Each refusal comes with the byte that decides it, wherever the piece ends, and is true of
+    /// the current message:
+    ///
+    /// - at its byte 4: F1, the bytes are not the continuation mark;
+    /// - at its byte 8: F2 and F3, for the size of the metadata, and F10, for an end-of-stream mark
+    ///   before the schema;
+    /// - at the last byte of its metadata: F5 to F9 and F12 to F24, for what the metadata states;
+    /// - at the last byte of its body: F10 if the first message is not a schema, and F11 if a later
+    ///   one is;
+    /// - at the last byte of its body: F25 if no field has the dictionary's id, F26 to F33 for a
+    ///   dictionary batch, and F26 to F34 for a record batch.
+    ///
+    /// Other errors: `Failed` (F35) if an earlier call was refused; `OutOfMemory` (F37) if memory
+    /// ran out, after byte 8 of a message.
+    pub fn feed(&mut self, piece: &[u8]) -> Result<(usize, Option<Event>), Fault>
+        ensures fed { Feeds self.old piece.now self.new result }
+        ensures limits { self.new.limits ≡ self.old.limits }
+        // A batch has a column for each field of the schema.
+        ensures columns { IfOk result (λ found. IfSome found.1 (HasColumns self.new.state)) }
+        // No list is kept with an event and after a refusal.
+        ensures moved { MatchResult result (λ found. IfSome found.1
+            (λ _. self.new.room ≡ no_capacity))
+            (λ _. self.new.room ≡ no_capacity) }
+    {
+        let mut taken = 0;
+        loop {
+            let (count, fed) = self.feed_message(&piece[taken..])?;
+            taken += count;
+            match fed {
+                FeedProgress::More => return Ok((taken, None)),
+                FeedProgress::WithEvent(event) => return Ok((taken, Some(event))),
+                FeedProgress::WithoutEvent => {}
+            }
+        }
+    }
+
+    // Takes a beginning of the piece, as `feed` does, but no byte after the current message.
+    fn feed_message(&mut self, piece: &[u8]) -> Result<(usize, FeedProgress), Fault>
+        ensures fed { FeedsMessage self.old piece.now self.new result }
+        ensures limits { self.new.limits ≡ self.old.limits }
+        ensures columns { IfOk result (λ fed. ForReported fed.1 (HasColumns self.new.state)) }
+        ensures moved { MatchResult result (λ fed. ForReported fed.1
+            (λ _. self.new.room ≡ no_capacity))
+            (λ _. self.new.room ≡ no_capacity) }
+    {
+        match self.course.phase {
+            StreamPhase::Refused => Err(Fault::Failed),
+            StreamPhase::Ended(_) => Ok((0, FeedProgress::More)),
+            StreamPhase::Reading => match self.frames.feed(piece) {
+                Err(fault) => Err(self.course.refuse(fault)),
+                Ok((taken, None)) => Ok((taken, FeedProgress::More)),
+                Ok((taken, Some(frame))) => match self.course.accept(self.alloc, frame)? {
+                    Some(event) => Ok((taken, FeedProgress::WithEvent(event))),
+                    None => Ok((taken, FeedProgress::WithoutEvent)),
+                },
+            },
+        }
+    }
+
+    /// Calls the source once, for at most `wants` bytes, and stores what comes without a further
+    /// copy. Returns the number of bytes that came, also with a refusal, and the event that they
+    /// complete. A dictionary batch is no event.
+    ///
+    /// Without a refusal, a count of 0 means that the source is at its end. After the end-of-stream
+    /// mark, or after a `close` that returned `Ok`, the source is not called, and the result is
+    /// `(0, Ok(None))`.
+    ///
+    /// Errors: those of `feed`, each with the byte that decides it, and `Read` (F36) if the source
+    /// failed.
+    pub fn feed_from<R: Source>(&mut self, source: &mut R) -> (usize, Result<Option<Event>, Fault>)
+        ensures drawn { Draws (R.remaining source.old) (R.remaining source.new) self.old self.new
+            result.0 result.1 }
+        ensures limits { self.new.limits ≡ self.old.limits }
+        ensures fewer { OnOk result.1 ((R.bound source.new + result.0) ≤ R.bound source.old) }
+        ensures failures { FailsWhile self.old.stage (R.failures source.old)
+            (R.failures source.new) result.1 }
+        // A batch has a column for each field of the schema.
+        ensures columns { IfOk result.1 (λ found. IfSome found (HasColumns self.new.state)) }
+        // No list is kept with an event and after a refusal.
+        ensures moved { MatchResult result.1 (λ found. IfSome found
+            (λ _. self.new.room ≡ no_capacity))
+            (λ _. self.new.room ≡ no_capacity) }
+    {
+        match self.course.phase {
+            StreamPhase::Refused => (0, Err(Fault::Failed)),
+            StreamPhase::Ended(_) => (0, Ok(None)),
+            StreamPhase::Reading => {
+                let (count, answer) = self.frames.feed_from(source);
+                match answer {
+                    Err(fault) => (count, Err(self.course.refuse(fault))),
+                    Ok(None) => (count, Ok(None)),
+                    Ok(Some(frame)) => match self.course.accept(self.alloc, frame) {
+                        Ok(found) => (count, Ok(found)),
+                        Err(fault) => (count, Err(fault)),
+                    },
+                }
+            }
+        }
+    }
+
+    /// Takes a batch back that is no longer needed. The next body is read over its bytes, so no
+    /// memory is allocated and cleared up to its length. The state of the stream does not change.
+    ///
+    /// The batch is dropped if it still has clones, or if bytes of a body already came. It is also
+    /// dropped at the end of the stream, and after a refusal.
+    pub fn reuse(&mut self, batch: Batch)
+        ensures same { self.new ≡ record self.old { room = self.new.room } }
+        // One list is kept for the next body, and none after the end or a refusal.
+        ensures metadata { self.new.room.metadata ≡ self.old.room.metadata }
+        ensures let_go { DropsLists self.new.stage self.new.room }
+    {
+        if let StreamPhase::Reading = self.course.phase {
+            if let Some(body) = batch.into_body() {
+                self.frames.reuse(body);
+            }
+        }
+    }
+
+    /// Returns the schema of the stream, or `None` before its message is complete. The schema
+    /// remains after a refusal.
+    pub fn schema(&self) -> Option<&Schema>
+        ensures { option_copied result ≡ schema_of self.now.state }
+    {
+        match &self.course.scope {
+            Some(scope) => Some(&scope.schema),
+            None => None,
+        }
+    }
+
+    /// Returns the number of bytes before the next decision: to byte 4 of a message, to byte 8, to
+    /// the end of its metadata, or to the end of its body. Returns 0 after the end-of-stream mark,
+    /// after a refusal, and after a `close` that returned `Ok`. It never fails and takes no memory.
+    pub fn wants(&self) -> usize
+        ensures { Wants self.now.limits self.now.stage result }
+    {
+        match self.course.phase {
+            StreamPhase::Reading => self.frames.wants(),
+            _ => 0,
+        }
+    }
+
+    /// Returns the number of bytes that are kept: all that came of the current message, and the
+    /// bodies of the dictionaries in force. After the end and after a refusal only the dictionaries
+    /// are kept. The body of a batch that was passed to `reuse` is not counted: at most one is
+    /// kept, between two messages. The count saturates at 2^64 - 1. It never fails and takes no
+    /// memory.
+    pub fn held(&self) -> usize
+        ensures { result ≡ held_of self.now }
+    {
+        self.course.dictionary_bytes().saturating_add(self.kept())
+    }
+
+    // How many bytes are kept of the message at hand.
+    fn kept(&self) -> usize
+        ensures { result ≡ kept_bytes self.now.stage }
+    {
+        match self.course.phase {
+            StreamPhase::Reading => self.frames.held(),
+            _ => 0,
+        }
+    }
+
+    /// Returns the limits that the decoder was created with.
+    pub fn limits(&self) -> Limits
+        ensures { result ≡ self.now.limits }
+    {
+        self.course.limits
+    }
+
+    // Whether messages still come.
+    pub(crate) fn phase(&self) -> StreamPhase
+        ensures { result ≡ phase_of self.now.stage }
+    {
+        self.course.phase
+    }
+
+    // The schema that is in force, alone.
+    pub(crate) fn into_schema(self) -> Option<Schema>
+        ensures { result ≡ schema_of self.state }
+    {
+        let Decoder {
+            frames: _,
+            course,
+            alloc: _,
+        } = self;
+        course.into_schema()
+    }
+
+    /// Returns the number of messages that came, including the schema's and those of dictionaries.
+    /// A refused message is not counted. The count saturates at 2^64 - 1.
+    pub fn messages(&self) -> u64
+        ensures { result ≡ self.now.messages }
+    {
+        self.course.messages
+    }
+
+    /// Ends the input: no more bytes come. Returns `End::Closed` after the schema and between two
+    /// messages, and `End::Mark` after the end-of-stream mark. A second call returns this end
+    /// again. It takes no memory.
+    ///
+    /// Errors: `Truncated` (F4) inside a message and before the schema, which is a refusal as in
+    /// `feed`; `Failed` (F35) after a refusal.
+    pub fn close(&mut self) -> Result<End, Fault>
+        ensures closes { ClosesAt self.old self.old.stage self.new result }
+        // No list is kept, whatever the result.
+        ensures let_go { self.new.room ≡ no_capacity }
+    {
+        match self.course.phase {
+            StreamPhase::Refused => Err(Fault::Failed),
+            StreamPhase::Ended(end) => Ok(end),
+            StreamPhase::Reading => {
+                let closed = self.frames.close();
+                if closed.is_ok() && self.course.scope.is_some() {
+                    self.course.phase = StreamPhase::Ended(End::Closed);
+                    return Ok(End::Closed);
+                }
+                Err(self.course.refuse(Fault::Truncated))
+            }
+        }
+    }
+}

@@ -1,0 +1,23 @@
+//! Reads streams in pieces, batch by batch or as a whole table (Arrow Columnar Format, "IPC
+//! Streaming Format").
+#![tactic(auto)]
+
+mod decoder;
+mod end;
+mod event;
+mod events;
+mod feed_progress;
+mod in_force;
+pub mod laws;
+mod reader;
+mod scope;
+mod source_reading;
+mod stream_phase;
+mod stream_state;
+mod table;
+
+pub use decoder::Decoder;
+pub use end::End;
+pub use event::Event;
+pub use reader::StreamReader;
+pub use table::read_table;

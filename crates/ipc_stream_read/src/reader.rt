@@ -1,0 +1,230 @@
+ghost use Rattle.std.specs.Prelude.{◌≡◌, ◌≢◌, ◌≤◌, ◌-◌, ◌^◌, ◌<◌, ◌++◌, ℕ, List, None, Some};
+ghost use Rattle.std.specs.Prelude.{IfOk, IfErr, IfSome, IsSome, MatchResult, length, true};
+ghost use Rattle.ipc_model.specs.declared.schema.Schema.{Schema};
+ghost use Rattle.ipc_model.specs.declared.table.BatchRows.{BatchRows};
+ghost use Rattle.ipc_stream_read.specs.declared.end.End.{End};
+ghost use Rattle.ipc_stream_read.specs.Failures.{StaysOrFails, CountsFault};
+ghost use Rattle.ipc_stream_read.specs.Reader.{BeginsEnd, GivesBatch, NextCall, Opens, OpenFails};
+ghost use Rattle.ipc_stream_read.specs.Reader.{KeepsNone, WorksWhile, end_of, in_force_of};
+ghost use Rattle.ipc_stream_read.specs.Reasons.{IsOutside};
+ghost use Rattle.ipc_stream_read.specs.Stream.{InForce, OpensStream, SetsOnly, DenotesOneBatch};
+
+use crate::decoder::Decoder;
+use crate::end::End;
+use crate::source_reading::{NextItem, read_next, read_schema};
+use crate::stream_phase::StreamPhase;
+use ipc_column::Batch;
+use ipc_frame::Source;
+use ipc_model::{Fault, Field, Items, Limits, Schema, Text};
+use std::alloc::Global;
+use std::marker::Model;
+
+/// Reads a stream batch by batch from a source.
+#[derive(Drop)]
+pub struct StreamReader<R: Source> {
+    source: R,
+    decoder: Decoder,
+    taken: u64,
+    ghost open: { decoder.state ≢ None },
+    ghost between: { KeepsNone decoder.stage },
+    ghost works: { WorksWhile decoder.stage (R.failures source) },
+    ghost counted: { decoder.messages ≤ 2 ^ 64 - 1 },
+    ghost taken_counted: { taken ≤ 2 ^ 64 - 1 },
+}
+
+impl<R: Source> Model for StreamReader<R> {
+    ghost use Rattle.std.specs.Coded.{codes};
+    ghost use Rattle.ipc_model.specs.contracts.schema.Field as field;
+    ghost use Rattle.ipc_model.specs.contracts.value.Value as value;
+    ghost use Rattle.ipc_stream_read.specs.Reader.{Reader, dictionaries_in, phase_of, schema_in};
+
+    ghost Value = { Reader };
+
+    ghost coded = { Prim.hlevel (codes, field.the_row.coded, value.the_row.coded) };
+
+    ghost view = { λ s. record {
+      remaining = R.remaining s.source;
+      failures = R.failures s.source;
+      bound = R.bound s.source;
+      limits = s.decoder.limits;
+      schema = schema_in s.decoder.state;
+      dictionaries = dictionaries_in s.decoder.state;
+      phase = phase_of s.decoder.stage;
+      messages = s.decoder.messages;
+      taken = s.taken;
+    } };
+}
+
+// A reader that took a schema's message, or the source again with the fault.
+fn open_with<R: Source>(
+    alloc: Global,
+    limits: Limits,
+    source: R,
+) -> Result<StreamReader<R>, (Fault, R)>
+    ensures opened { IfOk result (λ s. Opens limits (R.remaining source) s) }
+    ensures refused { IfErr result (λ e. OpenFails limits (R.remaining source)
+        (R.remaining e.1) e.0) }
+    ensures failures { MatchResult result (λ s. (R.failures source ≡ 0) × (s.failures ≡ 0))
+        (λ e. CountsFault (R.failures source) (R.failures e.1) e.0) }
+    ensures fewer { IfOk result (λ s. s.bound < R.bound source) }
+{
+    let mut source = source;
+    let mut decoder = Decoder::new(alloc, limits);
+    let mut taken = 0;
+    match read_schema(&mut source, &mut decoder, &mut taken) {
+        Ok(()) => Ok(StreamReader {
+            source,
+            decoder,
+            taken,
+        }),
+        Err(fault) => Err((fault, source)),
+    }
+}
+
+impl<R: Source> StreamReader<R> {
+    /// Reads the first message, which is the schema's, and no byte after it. All that is read, now
+    /// and later, is within `limits`.
+    ///
+    /// Errors: each fault is returned with the source. A source that failed before returns F36 at
+    /// its first call.
+    pub fn open(alloc: Global, limits: Limits, source: R) -> Result<StreamReader<R>, (Fault, R)>
+        ensures opened { IfOk result (λ s. Opens limits (R.remaining source) s) }
+        ensures refused { IfErr result (λ e. OpenFails limits (R.remaining source)
+            (R.remaining e.1) e.0) }
+        ensures failures { MatchResult result (λ s. (R.failures source ≡ 0) × (s.failures ≡ 0))
+            (λ e. CountsFault (R.failures source) (R.failures e.1) e.0) }
+        ensures fewer { IfOk result (λ s. s.bound < R.bound source) }
+        // The message of a schema, at the front of the source, is read, whatever follows it, unless
+        // memory runs out or the source fails.
+        ensures schema { (x rest : List ℕ) (s : Schema)
+            → R.remaining source ≡ Some (x ++ rest) → OpensStream limits s x
+            → MatchResult result (λ reader. reader.schema ≡ s) (λ e. IsOutside e.0) }
+    {
+        open_with(alloc, limits, source)
+    }
+
+    /// Returns the limits that the reader was opened with.
+    pub fn limits(&self) -> Limits
+        ensures { result ≡ self.now.limits }
+    {
+        self.decoder.limits()
+    }
+
+    /// Returns the schema of the stream.
+    pub fn schema(&self) -> &Schema
+        ensures { result.now ≡ self.now.schema }
+    {
+        self.decoder.schema().unwrap()
+    }
+
+    /// Returns the columns of the stream. Field `i` defines the meaning of the cells in column `i`
+    /// of each batch. For an `Int` cell, its type defines whether it is a number, a date, a time, a
+    /// timestamp or a duration, and its unit.
+    pub fn fields(&self) -> &[Field]
+        ensures { result.now ≡ self.now.schema.fields }
+    {
+        self.schema().fields.as_slice()
+    }
+
+    // Reads on, which `next` says in more words.
+    fn advance(&mut self) -> Result<Option<(Batch, Items<(Text, Text)>)>, Fault>
+        ensures next { NextCall self.old self.new result }
+        ensures columns { IfOk result
+            (λ next. IfSome next (λ found. found.0.columns ≡ length self.old.schema.fields)) }
+        ensures fewer { IfOk result (λ next. IsSome next → self.new.bound < self.old.bound) }
+        ensures failures { StaysOrFails self.old.failures self.new.failures result }
+        ensures rose { IfErr result (λ fault. fault ≡ Fault.Read → self.old.failures ≡ 0) }
+    {
+        match self.decoder.phase() {
+            StreamPhase::Refused => Err(Fault::Failed),
+            StreamPhase::Ended(_) => Ok(None),
+            StreamPhase::Reading => {
+                match read_next(&mut self.source, &mut self.decoder, &mut self.taken)? {
+                    NextItem::Batch(batch, pairs) => Ok(Some((batch, pairs))),
+                    NextItem::Ended(_) => Ok(None),
+                }
+            }
+        }
+    }
+
+    /// Returns the next batch with the pairs of key and value of its message, in order; keys may
+    /// repeat (Message.fbs, table Message, `custom_metadata`). Returns `None` at the end of the
+    /// stream and in each later call. Dictionaries that come before the batch are set, and remain
+    /// in force.
+    ///
+    /// Errors: F36 if the source failed, F37 if memory ran out, and any other refusal of the
+    /// stream. After a refusal each call returns F35 and takes no bytes.
+    pub fn next(&mut self) -> Result<Option<(Batch, Items<(Text, Text)>)>, Fault>
+        ensures next { NextCall self.old self.new result }
+        // A batch has a column for each field of the schema.
+        ensures columns { IfOk result
+            (λ next. IfSome next (λ found. found.0.columns ≡ length self.old.schema.fields)) }
+        ensures fewer { IfOk result (λ next. IsSome next → self.new.bound < self.old.bound) }
+        ensures failures { StaysOrFails self.old.failures self.new.failures result }
+        // F36 is answered only where the source had not failed before.
+        ensures rose { IfErr result (λ fault. fault ≡ Fault.Read → self.old.failures ≡ 0) }
+        // Messages that denote a batch, at the front of the source, are read, whatever dictionaries
+        // they set and whatever follows them, unless memory runs out or the source fails.
+        ensures batch { (x rest : List ℕ) (b : BatchRows)
+            → self.old.phase ≡ StreamPhase.Reading → self.old.remaining ≡ Some (x ++ rest)
+            → DenotesOneBatch self.old.limits (in_force_of self.old) b x
+            → MatchResult result (λ next. GivesBatch next b) IsOutside }
+        // An end of the stream is read too, after messages that only set dictionaries: the mark, or
+        // the end of the source.
+        ensures ended { (x z : List ℕ) (o : InForce) (end : End)
+            → self.old.phase ≡ StreamPhase.Reading → self.old.remaining ≡ Some (x ++ z)
+            → SetsOnly self.old.limits (in_force_of self.old) x o → BeginsEnd end z
+            → MatchResult result (λ next. (next ≡ None) × (self.new.phase ≡ StreamPhase.Ended end))
+            IsOutside }
+    {
+        self.advance()
+    }
+
+    /// Takes a batch back that is no longer needed, so that the next body is read over its bytes,
+    /// as `Decoder::reuse` does. The state of the stream does not change.
+    pub fn reuse(&mut self, batch: Batch)
+        ensures { self.new ≡ self.old }
+    {
+        self.decoder.reuse(batch)
+    }
+
+    /// Returns how the stream ended, or `None` until `next` has returned `Ok(None)`.
+    pub fn end(&self) -> Option<End>
+        ensures { result ≡ end_of self.now.phase }
+    {
+        match self.decoder.phase() {
+            StreamPhase::Ended(end) => Some(end),
+            _ => None,
+        }
+    }
+
+    /// Returns the number of messages that were read, including the schema's and those of
+    /// dictionaries. A refused message is not counted. The count saturates at 2^64 - 1.
+    pub fn messages(&self) -> u64
+        ensures { result ≡ self.now.messages }
+    {
+        self.decoder.messages()
+    }
+
+    /// Returns the number of bytes that were taken from the source, including the end-of-stream
+    /// mark. The count saturates at 2^64 - 1.
+    pub fn taken(&self) -> u64
+        ensures { result ≡ self.now.taken }
+    {
+        self.taken
+    }
+
+    /// Returns the source. It still has the bytes that were not taken.
+    pub fn into_inner(self) -> R
+        ensures remaining { R.remaining result ≡ self.remaining }
+        ensures bound { R.bound result ≡ self.bound }
+        ensures failures { R.failures result ≡ self.failures }
+    {
+        let StreamReader {
+            source,
+            decoder: _,
+            taken: _,
+        } = self;
+        source
+    }
+}

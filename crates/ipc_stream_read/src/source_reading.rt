@@ -1,0 +1,98 @@
+ghost use Rattle.std.specs.Prelude.{◌≡◌, ◌≢◌, ◌<◌, ◌≤◌, ◌-◌, ◌^◌, [], None, IfOk, IsSome, IfSome};
+ghost use Rattle.ipc_stream_read.specs.Decoding.{HasColumns, taking};
+ghost use Rattle.ipc_stream_read.specs.Failures.{FailsAs};
+ghost use Rattle.ipc_stream_read.specs.Taken.{HasAllColumns, IsBatch, Pulls, ReadsNext};
+ghost use Rattle.ipc_stream_read.specs.Taken.{TakesSchema};
+
+use crate::decoder::Decoder;
+use crate::end::End;
+use crate::event::Event;
+use ipc_column::Batch;
+use ipc_frame::Source;
+use ipc_model::{Fault, Items, Text};
+
+// What comes after the schema.
+#[derive(Drop)]
+pub enum NextItem {
+    // A batch, with the pairs of its message.
+    Batch(Batch, Items<(Text, Text)>),
+    // How the stream ends.
+    Ended(End),
+}
+
+// Calls the source until there is an event, or none at the source's end, after which the decoder is
+// closed. The number of bytes that came is added to `taken`.
+fn pull<R: Source>(
+    source: &mut R,
+    decoder: &mut Decoder,
+    taken: &mut u64,
+) -> Result<Option<Event>, Fault>
+    requires between { decoder.old.stage ≡ taking [] }
+    requires counted { decoder.old.messages ≤ 2 ^ 64 - 1 }
+    requires within { taken.old ≤ 2 ^ 64 - 1 }
+    ensures pulled { Pulls (R.remaining source.old) (R.remaining source.new) taken.old taken.new
+        decoder.old decoder.new result }
+    ensures limits { decoder.new.limits ≡ decoder.old.limits }
+    ensures columns { IfOk result (λ found. IfSome found (HasColumns decoder.new.state)) }
+    ensures fewer { IfOk result (λ found. IsSome found → R.bound source.new < R.bound source.old) }
+    ensures failures { FailsAs (R.failures source.old) (R.failures source.new) result }
+{
+    loop {
+        let (count, answer) = decoder.feed_from(source);
+        *taken = taken.saturating_add(count as u64);
+        if let Some(event) = answer? {
+            return Ok(Some(event));
+        }
+        if count == 0 {
+            decoder.close()?;
+            return Ok(None);
+        }
+    }
+}
+
+// Puts the schema at the front of the source in force.
+pub fn read_schema<R: Source>(
+    source: &mut R,
+    decoder: &mut Decoder,
+    taken: &mut u64,
+) -> Result<(), Fault>
+    requires between { decoder.old.stage ≡ taking [] }
+    requires fresh { decoder.old.state ≡ None }
+    requires none { decoder.old.messages ≡ 0 }
+    requires within { taken.old ≤ 2 ^ 64 - 1 }
+    ensures schema { TakesSchema (R.remaining source.old) (R.remaining source.new) taken.old
+        taken.new decoder.old decoder.new result }
+    ensures fewer { IfOk result (λ done. R.bound source.new < R.bound source.old) }
+    ensures failures { FailsAs (R.failures source.old) (R.failures source.new) result }
+{
+    match pull(source, decoder, taken)? {
+        Some(Event::Schema) => Ok(()),
+        Some(Event::Batch(_batch, _pairs)) => Err(Fault::MissingSchema),
+        Some(Event::End) => Err(Fault::MissingSchema),
+        None => Err(Fault::MissingSchema),
+    }
+}
+
+// The next batch after the schema, or how the stream ends.
+pub fn read_next<R: Source>(
+    source: &mut R,
+    decoder: &mut Decoder,
+    taken: &mut u64,
+) -> Result<NextItem, Fault>
+    requires between { decoder.old.stage ≡ taking [] }
+    requires open { decoder.old.state ≢ None }
+    requires counted { decoder.old.messages ≤ 2 ^ 64 - 1 }
+    requires within { taken.old ≤ 2 ^ 64 - 1 }
+    ensures next { ReadsNext (R.remaining source.old) (R.remaining source.new) taken.old taken.new
+        decoder.old decoder.new result }
+    ensures columns { IfOk result (HasAllColumns decoder.old.state) }
+    ensures fewer { IfOk result (λ next. IsBatch next → R.bound source.new < R.bound source.old) }
+    ensures failures { FailsAs (R.failures source.old) (R.failures source.new) result }
+{
+    match pull(source, decoder, taken)? {
+        Some(Event::Batch(batch, pairs)) => Ok(NextItem::Batch(batch, pairs)),
+        Some(Event::End) => Ok(NextItem::Ended(End::Mark)),
+        None => Ok(NextItem::Ended(End::Closed)),
+        Some(Event::Schema) => Err(Fault::SecondSchema),
+    }
+}

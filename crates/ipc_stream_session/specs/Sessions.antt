@@ -1,0 +1,82 @@
+-- What the calls of a session do to its decoder, and what the session keeps.
+use Rattle.std.specs.Prelude.{◌≡◌, ◌≢◌, ℕ, List, [], Option, Some, None, Result, Ok, Err}
+use Rattle.std.specs.Prelude.{string_bytes}
+use Rattle.std.specs.declared.alloc.Global.{Global}
+use Rattle.std.specs.declared.string.String.{String}
+use Rattle.ipc_model.specs.declared.fault.Fault.{Fault}
+use Rattle.ipc_model.specs.declared.fault.Fault.TheVariants.{OutOfMemory}
+use Rattle.ipc_model.specs.declared.fault.FaultAt.{FaultAt}
+use Rattle.ipc_model.specs.declared.limits.Limits.{Limits}
+use Rattle.ipc_model.specs.declared.schema.Schema.{Schema}
+use Rattle.ipc_model.specs.Texts.{fault_line}
+use Rattle.ipc_text_json.specs.SchemaJson.{schema_text}
+use Rattle.ipc_stream_read.specs.declared.end.End.{End}
+use Rattle.ipc_stream_read.specs.declared.event.Event.{Event}
+use Rattle.ipc_stream_read.specs.declared.event.Event.TheVariants as told
+use Rattle.ipc_stream_read.specs.Decoding as d
+use Rattle.ipc_stream_read.specs.Stream.{State}
+use Rattle.ipc_stream_session.specs.declared.arrival.Arrival.{Arrival}
+use Rattle.ipc_stream_session.specs.declared.arrival.Arrival.TheVariants as arrival
+use Rattle.ipc_stream_session.specs.declared.batch.ReadBatch.{ReadBatch}
+use Rattle.ipc_stream_session.specs.declared.session.ReadSession.{ReadSession}
+
+-- a session at the beginning of a stream, within these limits
+pub record IsNew (limits : Limits) (s : ReadSession) : Type 0 where
+  pub within : s.decoder.limits ≡ limits
+  pub state : s.decoder.state ≡ None
+  pub stage : s.decoder.stage ≡ d.taking []
+  pub messages : s.decoder.messages ≡ 0
+  pub batch : s.batch ≡ None
+  pub refusal : s.refusal ≡ None
+
+-- what an event of the decoder is called
+abbrev pub arrival_of : Option Event → Arrival
+arrival_of None = arrival.Nothing
+arrival_of (Some told.Schema) = arrival.Schema
+arrival_of (Some (told.Batch batch pairs)) = arrival.Batch
+arrival_of (Some told.End) = arrival.End
+
+-- the session has the batch of an event with its message's pairs, or none
+abbrev pub batch_in : Option Event → Option ReadBatch → Type 0
+batch_in (Some (told.Batch batch pairs)) (Some found) =
+    (found.batch ≡ batch) × (found.pairs ≡ pairs)
+batch_in (Some (told.Batch batch pairs)) None = ⊥
+batch_in event found = found ≡ None
+
+-- the first refusal is kept, with the number of its message
+abbrev pub with_refusal : Option FaultAt → Fault → ℕ → Option FaultAt
+with_refusal None fault message = Some (record { fault = fault; message = message })
+with_refusal (Some first) fault message = Some first
+
+-- the decoder takes the piece as `Decoder::feed` does. The session has the batch of the event, and
+-- the first refusal
+abbrev pub Feeds : ReadSession → List ℕ → ReadSession → Result (ℕ × Arrival) Fault → Type 0
+Feeds old piece new (Ok r) = (event : Option Event)
+    × d.Feeds old.decoder piece new.decoder (Ok (r.0, event)) × (r.1 ≡ arrival_of event)
+    × batch_in event new.batch × (new.refusal ≡ old.refusal)
+Feeds old piece new (Err fault) = d.Feeds old.decoder piece new.decoder (Err fault)
+    × (new.batch ≡ None) × (new.refusal ≡ with_refusal old.refusal fault new.decoder.messages)
+
+-- the refusal that is kept after a call with this result
+abbrev pub refusal_after : ReadSession → ReadSession → Result End Fault → Option FaultAt
+refusal_after old new (Ok end) = old.refusal
+refusal_after old new (Err fault) = with_refusal old.refusal fault new.decoder.messages
+
+-- the decoder ends the input as `Decoder::close` does, and the session has the first refusal
+abbrev pub Closes : ReadSession → ReadSession → Result End Fault → Type 0
+Closes old new r = d.ClosesAt old.decoder old.decoder.stage new.decoder r
+    × (new.batch ≡ old.batch) × (new.refusal ≡ refusal_after old new r)
+
+-- the text of the schema in force, if one came
+abbrev pub GivesSchemaText : State → Result (Option (String Global)) Fault → Type 0
+GivesSchemaText state (Ok None) = d.schema_of state ≡ None
+GivesSchemaText state (Ok (Some text)) = (schema : Schema) × (d.schema_of state ≡ Some schema)
+    × (string_bytes text ≡ schema_text schema)
+GivesSchemaText state (Err fault) = (d.schema_of state ≢ None) × (fault ≡ OutOfMemory)
+
+-- the line of the refusal that is kept, if there is one
+abbrev pub GivesLine : Option FaultAt → Result (Option (String Global)) Fault → Type 0
+GivesLine refusal (Ok None) = refusal ≡ None
+GivesLine refusal (Ok (Some text)) = (at : FaultAt) × (refusal ≡ Some at)
+    × (string_bytes text ≡ fault_line at)
+GivesLine refusal (Err fault) = (refusal ≢ None) × (fault ≡ OutOfMemory)

@@ -1,0 +1,428 @@
+//! Writes a row as CSV.
+ghost use Rattle.std.specs.Prelude.{◌≡◌, ◌++◌, length, List, ℕ, OnOk, OnErr, IfOk};
+ghost use Rattle.std.specs.Prelude.{IfErr, Ok, decimal};
+ghost use Rattle.std.specs.List.{list_any};
+ghost use Rattle.csv.specs.Writing as csv;
+ghost use Rattle.csv.specs.Writing.{default_writer};
+ghost use Rattle.hex.specs.Hex.{encode_lower};
+ghost use Rattle.ipc_model.specs.declared.value.Value.{out-Value};
+ghost use Rattle.ipc_text_temporal.specs.Temporals.{temporal_text};
+ghost use Rattle.ipc_text_csv.specs.Dialects.{writer};
+ghost use Rattle.ipc_text_csv.specs.RowCsv as spec;
+ghost use Rattle.ipc_text_csv.specs.RowCsv.{RefusesValue, IsRefusal, null_text, bool_text};
+ghost use Rattle.ipc_text_csv.specs.RowCsv.{with_backslash};
+ghost use Rattle.ipc_text_csv.specs.RowCsv.{chars_text, unless_null};
+ghost use Rattle.ipc_text_csv.specs.RowCsv.{with_field, flat_fault, unless_fault};
+ghost use Rattle.ipc_text_csv.specs.RowCsv.{Appended, Ended, names, csv_text, int_text, body_from};
+ghost use Rattle.ipc_text_csv.specs.RowCsv.{put_texts, BeginsWith, end_behind};
+ghost use Rattle.ipc_model.specs.declared.schema.Field.{out-Field};
+
+use crate::dialect::{Dialect, needs_quotes};
+use ipc_model::{DataType, Field, Schema, Value};
+use ipc_text_temporal::{TextFault, push_digits, temporal_text};
+use itoa::Buffer;
+use std::alloc::{AllocError, Global};
+
+#[tactic(auto, unfolding(csv::specs::Writing::escaped))]
+fn push_escaped(out: &mut Vec<u8>, field: &[u8]) -> Result<(), AllocError>
+    ensures ok { OnOk result
+        (out.new.items ≡ out.old.items ++ csv.escaped default_writer field.now) }
+    ensures refused { BeginsWith out.old.items out.new.items }
+{
+    for byte in field {
+        if *byte == b'"' {
+            out.push(b'"')?;
+        }
+        out.push(*byte)?;
+    }
+    Ok(())
+}
+
+// Appends two texts between quotes, until memory runs out.
+fn push_quoted(out: &mut Vec<u8>, front: &[u8], field: &[u8]) -> Result<(), AllocError>
+    ensures ok { OnOk result
+        (out.new.items ≡ out.old.items ++ csv.quoted default_writer (front.now ++ field.now)) }
+    ensures refused { BeginsWith out.old.items out.new.items }
+{
+    out.push(b'"')?;
+    push_escaped(out, front)?;
+    push_escaped(out, field)?;
+    out.push(b'"')?;
+    Ok(())
+}
+
+// Appends two texts without quotes, until memory runs out.
+fn push_plain(out: &mut Vec<u8>, front: &[u8], field: &[u8]) -> Result<(), AllocError>
+    ensures ok { OnOk result (out.new.items ≡ out.old.items ++ front.now ++ field.now) }
+    ensures refused { BeginsWith out.old.items out.new.items }
+{
+    out.extend_from_slice(front)?;
+    out.extend_from_slice(field)
+}
+
+// Two texts as one field, or nothing.
+#[tactic(auto, using(crate::proofs::Quoted::field_quoted, crate::proofs::Quoted::field_plain, crate::proofs::Quoted::cut_back))]
+fn push_joined(
+    out: &mut Vec<u8>,
+    delimiter: u8,
+    front: &[u8],
+    field: &[u8],
+) -> Result<(), AllocError>
+    ensures ok { OnOk result
+        (out.new.items ≡ with_field delimiter out.old.items (front.now ++ field.now)) }
+    ensures refused { OnErr result (out.new.items ≡ out.old.items) }
+{
+    let start = out.len();
+    let pushed = if needs_quotes(delimiter, front) || needs_quotes(delimiter, field) {
+        push_quoted(out, front, field)
+    } else {
+        push_plain(out, front, field)
+    };
+    if pushed.is_err() {
+        out.truncate(start);
+    }
+    pushed
+}
+
+/// Appends a text as a CSV field (RFC 4180, section 2). It is quoted if it has a delimiter, a quote
+/// or an end of line, and each quote in it is doubled. If memory ran out, `out` is unchanged.
+pub fn push_field(out: &mut Vec<u8>, dialect: Dialect<'_>, field: &[u8]) -> Result<(), AllocError>
+    ensures ok { OnOk result
+        (out.new.items ≡ with_field dialect.entry.delimiter out.old.items field.now) }
+    ensures refused { OnErr result (out.new.items ≡ out.old.items) }
+{
+    push_joined(out, dialect.delimiter(), b"", field)
+}
+
+/// Appends null as a CSV field. If memory ran out, `out` is unchanged.
+pub fn push_null(out: &mut Vec<u8>, dialect: Dialect<'_>) -> Result<(), AllocError>
+    ensures ok { OnOk result (out.new.items
+        ≡ with_field dialect.entry.delimiter out.old.items (null_text dialect.entry)) }
+    ensures refused { OnErr result (out.new.items ≡ out.old.items) }
+{
+    push_field(out, dialect, dialect.null().as_bytes())
+}
+
+/// Appends a boolean as a CSV field: `true` or `false`. If memory ran out, `out` is unchanged.
+pub fn push_bool(out: &mut Vec<u8>, dialect: Dialect<'_>, truth: bool) -> Result<(), AllocError>
+    ensures ok { OnOk result
+        (out.new.items ≡ with_field dialect.entry.delimiter out.old.items (bool_text truth)) }
+    ensures refused { OnErr result (out.new.items ≡ out.old.items) }
+{
+    match truth {
+        true => push_field(out, dialect, b"true"),
+        false => push_field(out, dialect, b"false"),
+    }
+}
+
+/// Appends an unsigned number as a CSV field, in decimal. If memory ran out, `out` is unchanged.
+pub fn push_uint(out: &mut Vec<u8>, dialect: Dialect<'_>, number: u64) -> Result<(), AllocError>
+    ensures ok { OnOk result
+        (out.new.items ≡ with_field dialect.entry.delimiter out.old.items (decimal number)) }
+    ensures refused { OnErr result (out.new.items ≡ out.old.items) }
+{
+    let mut digits = Buffer::new();
+    push_field(out, dialect, digits.format(number).as_bytes())
+}
+
+fn push_temporal(
+    out: &mut Vec<u8>,
+    dialect: Dialect<'_>,
+    column: u64,
+    kind: &DataType,
+    number: i64,
+) -> Result<(), TextFault>
+    ensures ok { OnOk result (Appended dialect.entry.delimiter out.old.items
+        (temporal_text kind.now number) out.new.items) }
+    ensures refused { IfErr result (RefusesValue column (temporal_text kind.now number)) }
+    ensures same { OnErr result (out.new.items ≡ out.old.items) }
+{
+    let Some(text) = temporal_text(kind, number) else {
+        return Err(TextFault::NoTextForm { column });
+    };
+    Ok(push_field(out, dialect, text.as_str().as_bytes())?)
+}
+
+/// Appends a signed number of a column of this type as a CSV field: a date, a time or a timestamp
+/// as its text, any other number in decimal. Errors: X3 with the column's number if it has no text;
+/// `OutOfMemory`. After an error `out` is unchanged.
+pub fn push_int(
+    out: &mut Vec<u8>,
+    dialect: Dialect<'_>,
+    column: u64,
+    kind: &DataType,
+    number: i64,
+) -> Result<(), TextFault>
+    ensures ok { OnOk result (Appended dialect.entry.delimiter out.old.items
+        (int_text kind.now number) out.new.items) }
+    ensures refused { IfErr result (RefusesValue column (int_text kind.now number)) }
+    ensures same { OnErr result (out.new.items ≡ out.old.items) }
+{
+    match kind {
+        DataType::Date(_) | DataType::Time(_) | DataType::Timestamp { .. } => {
+            push_temporal(out, dialect, column, kind, number)
+        }
+        _ => Ok(push_field(out, dialect, Buffer::new().format(number).as_bytes())?),
+    }
+}
+
+/// Appends bytes as a CSV field: two lower-case hexadecimal digits for each. Errors: X3 with the
+/// column's number if there are no bytes and null is the empty text; `OutOfMemory`. After an error
+/// `out` is unchanged.
+pub fn push_bytes(
+    out: &mut Vec<u8>,
+    dialect: Dialect<'_>,
+    column: u64,
+    bytes: &[u8],
+) -> Result<(), TextFault>
+    ensures ok { OnOk result (Appended dialect.entry.delimiter out.old.items
+        (unless_null dialect.entry (encode_lower bytes.now)) out.new.items) }
+    ensures refused { IfErr result
+        (RefusesValue column (unless_null dialect.entry (encode_lower bytes.now))) }
+    ensures same { OnErr result (out.new.items ≡ out.old.items) }
+{
+    if bytes.is_empty() && dialect.null().is_empty() {
+        return Err(TextFault::NoTextForm { column });
+    }
+    Ok(push_digits(out, bytes)?)
+}
+
+// Appends a text as a CSV field, unless it is the text of null.
+fn push_unless_null(
+    out: &mut Vec<u8>,
+    dialect: Dialect<'_>,
+    column: u64,
+    text: &[u8],
+) -> Result<(), TextFault>
+    ensures ok { OnOk result (Appended dialect.entry.delimiter out.old.items
+        (unless_null dialect.entry text.now) out.new.items) }
+    ensures refused { IfErr result (RefusesValue column (unless_null dialect.entry text.now)) }
+    ensures same { OnErr result (out.new.items ≡ out.old.items) }
+{
+    if text == dialect.null().as_bytes() {
+        return Err(TextFault::NoTextForm { column });
+    }
+    Ok(push_field(out, dialect, text)?)
+}
+
+// Appends a text as a CSV field, with one more backslash before it if it begins with one.
+fn push_backslashed(out: &mut Vec<u8>, dialect: Dialect<'_>, text: &[u8]) -> Result<(), AllocError>
+    ensures ok { OnOk result (out.new.items
+        ≡ with_field dialect.entry.delimiter out.old.items (with_backslash text.now)) }
+    ensures refused { OnErr result (out.new.items ≡ out.old.items) }
+{
+    if text.first() != Some(&b'\\') {
+        return push_field(out, dialect, text);
+    }
+    push_joined(out, dialect.delimiter(), b"\\", text)
+}
+
+/// Appends a text as a CSV field. If null is `\N` and the text begins with a backslash, one more is
+/// added before it. Errors: X3 with the column's number if it is the text of null, other than `\N`;
+/// `OutOfMemory`. After an error `out` is unchanged.
+pub fn push_text(
+    out: &mut Vec<u8>,
+    dialect: Dialect<'_>,
+    column: u64,
+    text: &str,
+) -> Result<(), TextFault>
+    ensures ok { OnOk result (Appended dialect.entry.delimiter out.old.items
+        (chars_text dialect.entry text.now) out.new.items) }
+    ensures refused { IfErr result (RefusesValue column (chars_text dialect.entry text.now)) }
+    ensures same { OnErr result (out.new.items ≡ out.old.items) }
+{
+    if dialect.escapes_backslash() {
+        return Ok(push_backslashed(out, dialect, text.as_bytes())?);
+    }
+    push_unless_null(out, dialect, column, text.as_bytes())
+}
+
+/// Appends a value of a column of this type as a CSV field. After an error `out` is unchanged.
+///
+/// Errors: `OutOfMemory`, and X3 with the column's number if the value has no text. These values
+/// have no text:
+///
+/// - a date or a timestamp outside the years 0001 to 9999;
+/// - milliseconds of a date that are no whole days;
+/// - a time outside 24 hours;
+/// - if null is not `\N`: its text, and no bytes if it is empty;
+/// - a list, a fixed-size list or a struct.
+pub fn push_value(
+    out: &mut Vec<u8>,
+    dialect: Dialect<'_>,
+    column: u64,
+    kind: &DataType,
+    value: &Value,
+) -> Result<(), TextFault>
+    ensures ok { OnOk result (Appended dialect.entry.delimiter out.old.items
+        (csv_text dialect.entry kind.now value.now) out.new.items) }
+    ensures refused { IfErr result
+        (RefusesValue column (csv_text dialect.entry kind.now value.now)) }
+    ensures same { OnErr result (out.new.items ≡ out.old.items) }
+{
+    match value {
+        Value::Null => push_null(out, dialect)?,
+        Value::Bool(truth) => push_bool(out, dialect, *truth)?,
+        Value::Int(number) => return push_int(out, dialect, column, kind, *number),
+        Value::UInt(number) => push_uint(out, dialect, *number)?,
+        Value::Bytes(bytes) => return push_bytes(out, dialect, column, bytes.as_slice()),
+        Value::Text(text) => return push_text(out, dialect, column, text.as_str()),
+        Value::List(_) | Value::Struct(_) => return Err(TextFault::NoTextForm { column }),
+    }
+    Ok(())
+}
+
+/// Appends the delimiter before the column with this number. The first column, number 0, has none.
+/// If memory ran out, `out` is unchanged.
+pub fn push_delimiter(
+    out: &mut Vec<u8>,
+    dialect: Dialect<'_>,
+    column: usize,
+) -> Result<(), AllocError>
+    ensures ok { OnOk result (out.new.items
+        ≡ out.old.items ++ csv.next_sep (writer dialect.entry.delimiter) column) }
+    ensures refused { OnErr result (out.new.items ≡ out.old.items) }
+{
+    if column > 0 {
+        out.push(dialect.delimiter())?;
+    }
+    Ok(())
+}
+
+// Appends the end of a record, until memory runs out.
+fn push_end(out: &mut Vec<u8>, start: usize) -> Result<(), AllocError>
+    ensures ok { OnOk result (out.new.items ≡ out.old.items ++ end_behind start out.old.items) }
+    ensures refused { BeginsWith out.old.items out.new.items }
+{
+    if out.len() == start {
+        out.extend_from_slice(b"\"\"")?;
+    }
+    out.push(b'\n')?;
+    Ok(())
+}
+
+/// Ends a record whose fields are in `out` from `start` on. It appends a line feed; if there are no
+/// bytes from `start` on, two quotes come before it. If memory ran out, `out` is unchanged.
+#[tactic(auto, using(crate::proofs::Quoted::cut_back))]
+pub fn end_record(out: &mut Vec<u8>, start: usize) -> Result<(), AllocError>
+    ensures ok { OnOk result (out.new.items ≡ out.old.items ++ end_behind start out.old.items) }
+    ensures ended { (delimiter : ℕ) → OnOk result
+        (Ended delimiter start out.old.items out.new.items) }
+    ensures refused { OnErr result (out.new.items ≡ out.old.items) }
+{
+    let length = out.len();
+    let pushed = push_end(out, start);
+    if pushed.is_err() {
+        out.truncate(length);
+    }
+    pushed
+}
+
+fn push_names(out: &mut Vec<u8>, dialect: Dialect<'_>, fields: &[Field]) -> Result<(), AllocError>
+    ensures { OnOk result (out.new.items
+        ≡ out.old.items ++ body_from dialect.entry.delimiter 0 (names fields.now)) }
+{
+    for (column, field) in fields.iter().enumerate() {
+        push_delimiter(out, dialect, column)?;
+        push_field(out, dialect, field.name.as_str().as_bytes())?;
+    }
+    Ok(())
+}
+
+fn push_values(
+    out: &mut Vec<u8>,
+    dialect: Dialect<'_>,
+    fields: &[Field],
+    row: &[Value],
+) -> Result<(), TextFault>
+    ensures ok { OnOk result
+        (put_texts dialect.entry out.old.items fields.now row.now ≡ Ok out.new.items) }
+    ensures refused { IfErr result
+        (IsRefusal (put_texts dialect.entry out.old.items fields.now row.now)) }
+{
+    for (column, field) in fields.iter().enumerate() {
+        let Some(value) = row.get(column) else {
+            return Ok(());
+        };
+        push_delimiter(out, dialect, column)?;
+        push_value(out, dialect, column as u64, &field.kind, value)?;
+    }
+    Ok(())
+}
+
+/// Returns whether a type is a list, a fixed-size list or a struct.
+pub(crate) fn is_nested(kind: &DataType) -> bool
+    ensures { result ≡ spec.is_nested kind.now }
+{
+    matches!(
+        kind,
+        DataType::List | DataType::FixedSizeList(_) | DataType::Struct
+    )
+}
+
+fn has_nested(fields: &[Field]) -> bool
+    ensures { result ≡ list_any (λ f. spec.is_nested (out-Field f).kind) fields.now }
+{
+    fields.iter().any(|field| is_nested(&field.kind))
+}
+
+/// Checks that CSV can represent the columns of a schema. Errors: X1 for a column that is a list or
+/// a struct; X2 if there is no column.
+pub fn check_flat(schema: &Schema) -> Result<(), TextFault>
+    ensures { result ≡ unless_fault (flat_fault schema.now.fields) (Ok tt) }
+{
+    let fields = schema.fields.as_slice();
+    if has_nested(fields) {
+        return Err(TextFault::NotFlat);
+    }
+    if fields.is_empty() {
+        return Err(TextFault::NoColumns);
+    }
+    Ok(())
+}
+
+/// Returns the CSV header of a schema's columns: their names, unchanged, with a line feed. Errors:
+/// X1 and X2 as in `check_flat`; `OutOfMemory`.
+pub fn csv_header(
+    alloc: Global,
+    dialect: Dialect<'_>,
+    schema: &Schema,
+) -> Result<Vec<u8>, TextFault>
+    ensures ok { IfOk result
+        (λ text. spec.header_text dialect.entry schema.now.fields ≡ Ok text.items) }
+    ensures refused { IfErr result
+        (IsRefusal (spec.header_text dialect.entry schema.now.fields)) }
+{
+    check_flat(schema)?;
+    let mut out = Vec::new(alloc);
+    push_names(&mut out, dialect, schema.fields.as_slice())?;
+    end_record(&mut out, 0)?;
+    Ok(out)
+}
+
+/// Returns a row as a CSV record with its line feed (RFC 4180).
+///
+/// Null is its text in the dialect, numbers and durations are decimal, bytes are lower-case
+/// hexadecimal digits, and dates, times and timestamps are their texts. If null is `\N`, a text
+/// that begins with a backslash gets one more before it. The row must conform to the schema, except
+/// that nulls in columns that are not nullable are written too.
+///
+/// Errors: X1 and X2 as in `check_flat`; X3 with the first column whose value has no text, as in
+/// `push_value`; `OutOfMemory`.
+pub fn csv_record(
+    alloc: Global,
+    dialect: Dialect<'_>,
+    schema: &Schema,
+    row: &[Value],
+) -> Result<Vec<u8>, TextFault>
+    ensures ok { IfOk result
+        (λ text. spec.row_csv dialect.entry schema.now.fields row.now ≡ Ok text.items) }
+    ensures refused { IfErr result
+        (IsRefusal (spec.row_csv dialect.entry schema.now.fields row.now)) }
+{
+    check_flat(schema)?;
+    let mut out = Vec::new(alloc);
+    push_values(&mut out, dialect, schema.fields.as_slice(), row)?;
+    end_record(&mut out, 0)?;
+    Ok(out)
+}

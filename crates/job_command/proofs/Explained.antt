@@ -1,0 +1,28 @@
+-- The line for a field that is refused.
+use Rattle.std.proofs.Common.{◌≡◌, ◌∙◌, sym, subst, ℕ, List, Some}
+use Rattle.std.specs.Prelude.{Err, IfOk, IfSome, Ok, Result, slice_get}
+use Rattle.std.specs.Result.{result_ok}
+use Rattle.std.proofs.lemmas.Option.{same_Some}
+use Rattle.csv.specs.Records.{field_at}
+use Rattle.ipc_model.specs.declared.schema.Field.{Field}
+use Rattle.ipc_text_temporal.specs.declared.fault.TextFault.TheVariants.{BadField}
+use Rattle.job_command.specs.Explanations.{ExplainsRecord, IsExcerpt, bad_field, middle_words}
+
+-- the words for a field of the record and its column explain the fault
+pub field_explained : (number place line : ℕ) (columns : List Field) (texts : List (List ℕ)) (f : Field) (text out : List ℕ)
+    → slice_get columns place ≡ Some f → field_at texts place ≡ Some text
+    → (shown : List ℕ) × IsExcerpt text shown × (out ≡ bad_field line shown (middle_words number) f)
+    → ExplainsRecord (BadField number place) columns texts out
+field_explained number place line columns texts f text out column field told g t e1 e2 =
+    let same_column : f ≡ g = same_Some _ _ (sym column ∙ e1) in
+    let same_text : text ≡ t = same_Some _ _ (sym field ∙ e2) in (
+      line,
+      told.0,
+      subst (λ x. IsExcerpt x told.0) same_text told.1,
+      subst (λ x. out ≡ bad_field line told.0 (middle_words number) x) same_column told.2,
+    )
+
+-- what holds of the value of a result holds of the value that `ok` returns
+pub told_if_ok : {V F : Type 0} (r : Result V F) (P : V → Type 0) → IfOk r P → IfSome (result_ok r) P
+told_if_ok (Ok v) P h = h
+told_if_ok (Err e) P h = tt

@@ -1,0 +1,209 @@
+-- What the jobs read and send, and the exit statuses.
+use Rattle.std.specs.Prelude.{◌≡◌, ◌≢◌, ◌⊎◌, ℕ, List, Option, Some, Result, Ok, Err, ⊤}
+use Rattle.std.specs.Prelude.{Bool, IfSome, None, option_and_then, string_bytes, true, false}
+use Rattle.std.specs.List.{AllByRecursion}
+use Rattle.std.specs.Str.{IsUtf8}
+use Rattle.serde_json.specs.Read.{read}
+use Rattle.ipc_model.specs.Entries.{entries}
+use Rattle.ipc_model.specs.Limits.{IsStandard}
+use Rattle.ipc_model.specs.Numbering.{fault_status, write_fault_status}
+use Rattle.ipc_model.specs.WellFormed.{WellFormed}
+use Rattle.ipc_model.specs.declared.fault.Fault.TheVariants as f
+use Rattle.ipc_model.specs.declared.fault.WriteFault.TheVariants as w
+use Rattle.ipc_model.specs.declared.limits.Limits.{Limits}
+use Rattle.ipc_model.specs.declared.schema.Schema.{Schema}
+use Rattle.ipc_text_json.specs.SchemaJson.{schema_json}
+use Rattle.ipc_text_json.specs.SchemaTexts.{HasWideId}
+use Rattle.ipc_text_temporal.specs.declared.fault.TextFault.{TextFault}
+use Rattle.ipc_text_temporal.specs.declared.fault.TextFault.TheVariants as x
+use Rattle.job_print.specs.Streams.{Prints, PrintsSchema, CountsPrintFailures as PrintTells}
+use Rattle.ipc_text_csv.specs.RowCsv.{null_text}
+use Rattle.ipc_text_csv.specs.declared.dialect.Dialect.{Dialect}
+use Rattle.ipc_text_json.specs.declared.row.RowShape.{RowShape}
+use Rattle.ipc_text_json.specs.declared.row.RowShape.TheVariants.{Array, Object}
+use Rattle.job_print.specs.declared.form.PrintOptions.{PrintOptions}
+use Rattle.job_print.specs.declared.form.Form.TheVariants.{Counts, Rows, Records}
+use Rattle.job_print.specs.declared.stop.PrintStop.{PrintStop}
+use Rattle.job_print.specs.declared.stop.PrintStop.TheVariants as print
+use Rattle.job_rewrite.specs.Rewriting.{Rewrites, CountsRewriteFailures as RewriteTells}
+use Rattle.job_rewrite.specs.declared.stop.RewriteStop.{RewriteStop}
+use Rattle.job_rewrite.specs.declared.stop.RewriteStop.TheVariants as rewrite
+use Rattle.job_from_csv.specs.Conversion as csv
+use Rattle.job_from_csv.specs.Stops.{CountsSourceFailure}
+use Rattle.job_from_csv.specs.declared.stop.FromCsvStop.{FromCsvStop as CsvStop}
+use Rattle.job_from_csv.specs.declared.stop.FromCsvStop.TheVariants as from_csv
+use Rattle.job_command.specs.declared.csv_dialect.CsvDialect.{CsvDialect}
+use Rattle.job_command.specs.declared.stop.Stop.{Stop}
+use Rattle.job_command.specs.declared.stop.Stop.TheVariants as stop
+use Rattle.job_command.specs.declared.arguments.Job.{Job}
+use Rattle.job_command.specs.declared.arguments.Job.TheVariants as job
+
+-- the exit status of a refusal of texts
+abbrev pub text_status : TextFault → ℕ
+text_status x.OutOfMemory = write_fault_status w.OutOfMemory
+text_status _ = 1
+
+-- the exit status of a job that stopped: memory ran out, a device failed, or what was read is
+-- refused
+abbrev pub stop_status : Stop → ℕ
+stop_status (stop.Read fault message) = fault_status fault
+stop_status stop.Input = fault_status f.Read
+stop_status stop.Schema = fault_status f.Read
+stop_status (stop.Write fault) = write_fault_status fault
+stop_status (stop.Rows fault s) = write_fault_status fault
+stop_status (stop.Text fault) = text_status fault
+stop_status (stop.SchemaText text) = 1
+stop_status (stop.Record fault refused s) = 1
+
+-- the exit status of a job
+abbrev pub exit_status : {T : Type 0} → Result T Stop → ℕ
+exit_status (Ok done) = 0
+exit_status (Err why) = stop_status why
+
+-- the reason why printing stopped, as the job's
+abbrev pub stop_of_print : PrintStop → Stop
+stop_of_print (print.Read fault message) = stop.Read fault message
+stop_of_print (print.Write fault) = stop.Write fault
+stop_of_print (print.Text fault) = stop.Text fault
+
+-- the reason why rewriting a stream stopped, as the job's
+abbrev pub stop_of_rewrite : RewriteStop → Stop
+stop_of_rewrite (rewrite.Read fault message) = stop.Read fault message
+stop_of_rewrite (rewrite.Write fault) = stop.Write fault
+
+-- the reason why a conversion from CSV by a schema stopped, as the job's
+abbrev pub stop_of_csv : Schema → CsvStop → Stop
+stop_of_csv s from_csv.Input = stop.Input
+stop_of_csv s (from_csv.Write fault) = stop.Rows fault s
+stop_of_csv s (from_csv.Text fault) = stop.Text fault
+stop_of_csv s (from_csv.Record fault refused) = stop.Record fault refused s
+
+-- a result with its reason for stopping as the job's
+abbrev pub job_result : {A : Type 0} → (A → Stop) → Result ⊤ A → Result ⊤ Stop
+job_result stop_of (Ok done) = Ok done
+job_result stop_of (Err why) = Err (stop_of why)
+
+-- the dialect of CSV with this delimiter and text of null
+abbrev pub IsDialectOf : CsvDialect → Dialect → Type 0
+IsDialectOf c d = (d.delimiter ≡ c.delimiter) × (null_text d ≡ string_bytes c.null)
+
+-- the shape of rows: objects or arrays
+abbrev pub shape_of : Bool → RowShape
+shape_of true = Object
+shape_of false = Array
+
+-- what a result states about the schema of a stream that is printed
+abbrev pub AnswersSchemaJob : Limits → Option (List ℕ) → Option (List ℕ) → Option (List ℕ)
+    → Option (List ℕ) → ℕ → ℕ → ℕ → ℕ → Result ⊤ Stop → Type 0
+AnswersSchemaJob limits old new written_old written_new source_old source_new sink_old sink_new r =
+    (p : Result ⊤ PrintStop) × (r ≡ job_result stop_of_print p)
+    × PrintsSchema limits old new written_old written_new p
+    × PrintTells source_old source_new sink_old sink_new p
+
+-- what a result states about a stream that is printed by these options. When W9 and F36 come, the
+-- counts of failures of sink and source tell, as `print` states it
+abbrev pub AnswersPrint : PrintOptions → Limits → Option (List ℕ) → Option (List ℕ)
+    → Option (List ℕ) → Option (List ℕ) → ℕ → ℕ → ℕ → ℕ → Result ⊤ Stop → Type 0
+AnswersPrint options limits old new written_old written_new source_old source_new sink_old sink_new
+    r = (p : Result ⊤ PrintStop) × (r ≡ job_result stop_of_print p)
+    × Prints options limits old new written_old written_new p
+    × PrintTells source_old source_new sink_old sink_new p
+
+-- what a result states about a stream that is rewritten. When W9 and F36 come, the counts of
+-- failures of sink and source tell, as `rewrite` states it
+abbrev pub AnswersRewrite : Bool → Limits → Option (List ℕ) → Option (List ℕ) → Option (List ℕ)
+    → Option (List ℕ) → ℕ → ℕ → ℕ → ℕ → Result ⊤ Stop → Type 0
+AnswersRewrite mark limits old new written_old written_new source_old source_new sink_old sink_new
+    r =
+    (p : Result ⊤ RewriteStop) × (r ≡ job_result stop_of_rewrite p)
+    × Rewrites mark limits old new written_old written_new sink_old sink_new p
+    × RewriteTells source_old source_new sink_old sink_new p
+
+-- the bytes of a file, if it was opened and they are known
+abbrev pub file_bytes : {P : Type 0} → (P → Option (List ℕ)) → Option P → Option (List ℕ)
+file_bytes remaining file = option_and_then remaining file
+
+-- a schema that is well formed under the standard limits; the JSON text in these bytes, if they are
+-- known, reads as this schema (RFC 8259)
+pub record IsSchemaOf (bytes : Option (List ℕ)) (s : Schema) : Type 0 where
+  pub read : IfSome bytes (λ text. read text ≡ Some (schema_json s))
+  pub limits : Limits
+  pub standard : IsStandard limits
+  pub formed : WellFormed limits s
+
+-- the text is no schema's: it is not UTF-8 (RFC 8259, section 8.1), or not a schema that is well
+-- formed under the standard limits and has dictionary ids of 64 bits
+abbrev pub HoldsNoSchema : List ℕ → Type 0
+HoldsNoSchema text = (s : Schema) (limits : Limits) → IsUtf8 text → read text ≡ Some (schema_json s)
+    → IsStandard limits → WellFormed limits s
+    → AllByRecursion (λ e. HasWideId e.dictionary) (entries s.fields) → ⊥
+
+-- how many calls of a file failed; 1 if it was not opened
+abbrev pub failures_of : {P : Type 0} → (P → ℕ) → Option P → ℕ
+failures_of failures None = 1
+failures_of failures (Some file) = failures file
+
+-- why a file is not read to its end: a call of it failed, or memory ran out; `failures` is its
+-- count
+abbrev pub IsUnreadable : ℕ → Stop → Type 0
+IsUnreadable failures why =
+    ((why ≡ stop.Schema) × (failures ≡ 1)) ⊎ (why ≡ stop.Text x.OutOfMemory)
+
+-- why there is no schema: the file was not opened or a call of it failed; or no call failed, and
+-- its text is no schema's; or memory ran out
+abbrev pub HasNoSchema : Option (List ℕ) → ℕ → Stop → Type 0
+HasNoSchema bytes failures stop.Schema = failures ≡ 1
+HasNoSchema bytes failures (stop.SchemaText text) =
+    (failures ≡ 0) × IfSome bytes (λ xs. text.items ≡ xs) × HoldsNoSchema text.items
+HasNoSchema bytes failures (stop.Text x.OutOfMemory) = ⊤
+HasNoSchema bytes failures why = ⊥
+
+-- the sink's count of failures before and after a conversion with this result: at W9 it is 1, and
+-- any other answer leaves a sink that works as one
+pub record CountsSinkFault (old new : ℕ) (r : Result ⊤ CsvStop) : Type 0 where
+  pub failed : r ≡ Err (from_csv.Write w.Write) → new ≡ 1
+  pub works : r ≢ Err (from_csv.Write w.Write) → old ≡ 0 → new ≡ 0
+
+-- what a result states about records of CSV. Either there was no schema, and neither the source nor
+-- the sink was called; or the records were converted by the file's schema to a stream with batches
+-- of `size` rows, or that broke off
+abbrev pub AnswersCsv : Dialect → Option (List ℕ) → ℕ → ℕ → Option (List ℕ) → Option (List ℕ)
+    → Option (List ℕ) → ℕ → ℕ → ℕ → ℕ → Result ⊤ Stop → Type 0
+AnswersCsv d bytes failures size input written_old written_new source_old source_new sink_old
+    sink_new
+    r = ((why : Stop) × (r ≡ Err why) × HasNoSchema bytes failures why
+    × (written_new ≡ written_old) × (source_new ≡ source_old) × (sink_new ≡ sink_old))
+    ⊎ ((s : Schema) × IsSchemaOf bytes s × (failures ≡ 0) × (p : Result ⊤ CsvStop)
+    × (r ≡ job_result (stop_of_csv s) p)
+    × csv.AnswersConversion d input s size written_old written_new sink_old sink_new p
+    × CountsSourceFailure source_old source_new p × CountsSinkFault sink_old sink_new p)
+
+-- what a result states about a job: what was read of the input, what was sent, and which device
+-- failed. `bytes` and `failures` are those of the schema's file
+abbrev pub Answers : Job → Option (List ℕ) → ℕ → Option (List ℕ) → Option (List ℕ)
+    → Option (List ℕ) → Option (List ℕ) → ℕ → ℕ → ℕ → ℕ → Result ⊤ Stop → Type 0
+Answers (job.Schema limits) bytes failures old new written_old written_new source_old source_new
+    sink_old sink_new r = AnswersSchemaJob limits old new written_old written_new source_old
+    source_new
+    sink_old sink_new r
+Answers (job.Check limits mark) bytes failures old new written_old written_new source_old source_new
+    sink_old sink_new r =
+    AnswersPrint (record { form = Counts; require_mark = mark; limit = None }) limits old new
+    written_old written_new source_old source_new sink_old sink_new r
+Answers (job.Show limits objects pairs count mark) bytes failures old new written_old written_new
+    source_old source_new sink_old sink_new r = AnswersPrint (record {
+      form = Rows (shape_of objects) pairs;
+      require_mark = mark;
+      limit = count;
+    }) limits old new written_old written_new source_old source_new sink_old sink_new r
+Answers (job.ToCsv limits dialect count mark) bytes failures old new written_old written_new
+    source_old source_new sink_old sink_new r = (d : Dialect) × IsDialectOf dialect d
+    × AnswersPrint (record { form = Records d; require_mark = mark; limit = count }) limits old new
+    written_old written_new source_old source_new sink_old sink_new r
+Answers (job.Rewrite limits mark) bytes failures old new written_old written_new source_old
+    source_new sink_old sink_new r = AnswersRewrite mark limits old new written_old written_new
+    source_old source_new sink_old sink_new r
+Answers (job.FromCsv path size dialect) bytes failures old new written_old written_new source_old
+    source_new sink_old sink_new r = (d : Dialect) × IsDialectOf dialect d
+    × AnswersCsv d bytes failures size old written_old written_new source_old source_new sink_old
+    sink_new r

@@ -1,0 +1,61 @@
+-- The line that is printed for a job that stopped.
+use Rattle.std.specs.Prelude.{◌≡◌, ◌++◌, ◌∷◌, [], ℕ, List, MatchResult, Option, Result, Ok, Err, ⊤}
+use Rattle.std.specs.Prelude.{◌⊎◌, Bool, IsTrue, codes}
+use Rattle.std.specs.Io.KnownBytes.{Appends}
+use Rattle.ipc_model.specs.Texts.{fault_text, stop_line, write_fault_text}
+use Rattle.ipc_model.specs.declared.fault.Fault.TheVariants as f
+use Rattle.ipc_model.specs.declared.fault.WriteFault.{WriteFault}
+use Rattle.ipc_model.specs.declared.fault.WriteFault.TheVariants as w
+use Rattle.ipc_text_temporal.specs.FaultLines.{text_fault_line}
+use Rattle.csv.specs.Records.{fields_of}
+use Rattle.job_explain.specs.Explained.{Explains as ExplainsMessage, ExplainsUnwritten}
+use Rattle.job_explain.specs.Writes.{ExplainsWrite}
+use Rattle.job_explain.specs.declared.message_record.MessageRecord.{MessageRecord}
+use Rattle.ipc_text_temporal.specs.declared.fault.TextFault.TheVariants as x
+use Rattle.job_command.specs.Explanations.{ExplainsRecord}
+use Rattle.job_command.specs.SchemaExplanations.{ExplainsSchema}
+use Rattle.job_command.specs.declared.stop.Stop.{Stop}
+use Rattle.job_command.specs.declared.stop.Stop.TheVariants as stop
+
+-- the line of a refusal of the writer; if memory ran out, it has no number
+abbrev pub write_line : WriteFault → List ℕ
+write_line w.OutOfMemory = codes "out of memory"
+write_line fault = write_fault_text fault
+
+-- the line of a job that stopped, without its line feed
+abbrev pub stop_text : Stop → List ℕ
+stop_text (stop.Read fault message) = stop_line fault message
+stop_text stop.Input = fault_text f.Read
+stop_text stop.Schema = codes "cannot read schema"
+stop_text (stop.Write fault) = write_line fault
+stop_text (stop.Rows fault s) = write_line fault
+stop_text (stop.Text fault) = text_fault_line fault
+stop_text (stop.SchemaText text) = text_fault_line x.BadSchemaJson
+stop_text (stop.Record fault refused s) = text_fault_line fault
+
+-- the lines that explain a job that stopped: those of the message of a stream, the rows, the record
+-- of CSV or the schema's file that was refused, and else none
+abbrev pub ExplainsStop : Stop → List ℕ → Type 0
+ExplainsStop (stop.Read fault message) more =
+    (kept : Option MessageRecord) × ExplainsMessage kept fault message more
+ExplainsStop (stop.Write fault) more =
+    (kept : Option MessageRecord) × ExplainsUnwritten kept fault more
+ExplainsStop (stop.Rows fault s) more = ExplainsWrite s.fields fault more
+ExplainsStop (stop.Record fault refused s) more =
+    ExplainsRecord fault s.fields (fields_of refused) more
+ExplainsStop (stop.SchemaText text) more = ExplainsSchema text.items more
+ExplainsStop why more = more ≡ []
+
+-- what is printed of a result to messages with this count of failures: nothing if the job is done;
+-- if it stopped and no call failed, exactly its line, and after it, if that is asked for and memory
+-- does not run out, the lines that explain it
+abbrev pub PrintsStopLines : Bool → Option (List ℕ) → Option (List ℕ) → ℕ → Result ⊤ Stop → Type 0
+PrintsStopLines explain old new failures (Ok done) = new ≡ old
+PrintsStopLines explain old new failures (Err why) = failures ≡ 0 → (more : List ℕ)
+    × ((more ≡ []) ⊎ (IsTrue explain × ExplainsStop why more))
+    × Appends old new (stop_text why ++ 10 ∷ more)
+
+-- a sink's count of failures before and after a part of a line: it stays, or a call failed and it
+-- is 1
+abbrev pub SendsPart : {T E : Type 0} → ℕ → ℕ → Result T E → Type 0
+SendsPart old new r = MatchResult r (λ _. new ≡ old) (λ _. new ≡ 1)

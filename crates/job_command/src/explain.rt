@@ -1,0 +1,165 @@
+//! Explains a record of CSV that is refused.
+ghost use Rattle.std.specs.Prelude.{◌≡◌, ◌≤◌, ◌++◌, ℕ, List, length, slice_get, IfErr, IfOk, OnOk};
+ghost use Rattle.std.specs.Prelude.{IfSome, None, Some, codes};
+ghost use Rattle.std.specs.Fmt.{decimal};
+ghost use Rattle.csv.specs.Records.{fields_of};
+ghost use Rattle.job_command.specs.Explanations.{ExplainsRecord, IsExcerpt, bad_field};
+ghost use Rattle.job_command.specs.Explanations.{column_words};
+ghost use Rattle.job_command.specs.Explanations.{middle_words, other_count};
+
+use csv::ByteRecord;
+use ipc_model::{Field, Schema};
+use ipc_text_json::{string_json, type_json};
+use ipc_text_temporal::{TextFault, push_digits};
+use itoa::Buffer;
+use std::alloc::Global;
+
+// How many bytes of a field are shown.
+const MAX_EXCERPT: usize = 40;
+
+// Appends the digits of a number.
+pub(crate) fn push_number(out: &mut Vec<u8>, number: u64) -> Result<(), TextFault>
+    ensures { OnOk result (out.new.items ≡ out.old.items ++ decimal number) }
+{
+    let mut digits = Buffer::new();
+    out.extend_from_slice(digits.format(number).as_bytes())?;
+    Ok(())
+}
+
+// Appends the beginning of a field: in the quotes of JSON, or as hexadecimal digits.
+fn push_excerpt(alloc: Global, out: &mut Vec<u8>, field: &[u8]) -> Result<(), TextFault>
+    ensures { OnOk result ((shown : List ℕ) × IsExcerpt field.now shown
+        × (out.new.items ≡ out.old.items ++ shown)) }
+{
+    match str::from_utf8(field) {
+        Ok(text) => {
+            let front = &text[..text.floor_char_boundary(MAX_EXCERPT)];
+            out.extend_from_slice(string_json(alloc, front)?.as_bytes())?;
+        }
+        Err(_) => push_digits(out, &field[..MAX_EXCERPT.min(field.len())])?,
+    }
+    Ok(())
+}
+
+// Appends the words for a column.
+fn push_column(alloc: Global, out: &mut Vec<u8>, column: &Field) -> Result<(), TextFault>
+    ensures { OnOk result (out.new.items ≡ out.old.items ++ column_words column.now) }
+{
+    out.extend_from_slice(b"column ")?;
+    out.extend_from_slice(string_json(alloc, column.name.as_str())?.as_bytes())?;
+    out.extend_from_slice(b" of type ")?;
+    out.extend_from_slice(type_json(alloc, &column.kind)?.as_bytes())?;
+    if !column.nullable {
+        out.extend_from_slice(b" without nulls")?;
+    }
+    Ok(())
+}
+
+// Appends the number of a line.
+fn push_line(out: &mut Vec<u8>, line: u64) -> Result<(), TextFault>
+    ensures { OnOk result
+        (out.new.items ≡ out.old.items ++ codes "line " ++ decimal line ++ codes ": ") }
+{
+    out.extend_from_slice(b"line ")?;
+    push_number(out, line)?;
+    out.extend_from_slice(b": ")?;
+    Ok(())
+}
+
+// The words for a record of another length.
+fn explain_count(alloc: Global, line: u64, fields: u64, columns: u64) -> Result<Vec<u8>, TextFault>
+    ensures { IfOk result (λ out. out.items ≡ other_count line fields columns) }
+{
+    let mut out = Vec::new(alloc);
+    push_line(&mut out, line)?;
+    push_number(&mut out, fields)?;
+    out.extend_from_slice(b" fields for ")?;
+    push_number(&mut out, columns)?;
+    out.extend_from_slice(b" columns\n")?;
+    Ok(out)
+}
+
+// The words between a field of the record with this number and its column.
+fn words_of(number: u64) -> &'static [u8]
+    ensures { result.now ≡ middle_words number }
+{
+    match number {
+        0 => b" is not the name of ",
+        _ => b" is no value of ",
+    }
+}
+
+// The words for a field that is refused.
+fn explain_field(
+    alloc: Global,
+    line: u64,
+    field: &[u8],
+    words: &[u8],
+    column: &Field,
+) -> Result<Vec<u8>, TextFault>
+    ensures { IfOk result (λ out. (shown : List ℕ) × IsExcerpt field.now shown
+        × (out.items ≡ bad_field line shown words.now column.now)) }
+{
+    let mut out = Vec::new(alloc);
+    push_line(&mut out, line)?;
+    push_excerpt(alloc, &mut out, field)?;
+    out.extend_from_slice(words)?;
+    push_column(alloc, &mut out, column)?;
+    out.extend_from_slice(b"\n")?;
+    Ok(out)
+}
+
+// The column with this number, if there is one.
+fn column_at(columns: &[Field], place: usize) -> Option<&Field>
+    ensures some { IfSome result (λ column. slice_get columns.now place ≡ Some column.now) }
+    ensures none { result ≡ None → slice_get columns.now place ≡ None }
+{
+    if place < columns.len() {
+        Some(&columns[place])
+    } else {
+        None
+    }
+}
+
+/// Explains why a record is refused as X4 or X5, in a line with its line feed. The line has the
+/// number of the input's line. At X4 it has the beginning of the field, and the column's name and
+/// type; at X5 the numbers of fields and columns. For another fault the result is empty.
+///
+/// `refused` is the record, as `job_from_csv::FromCsvStop::Record` returns it. The line's number is
+/// that of its position, which no contract states.
+///
+/// Errors: `OutOfMemory` only.
+pub(crate) fn explain_record(
+    alloc: Global,
+    fault: &TextFault,
+    schema: &Schema,
+    refused: &ByteRecord,
+) -> Result<Vec<u8>, TextFault>
+    ensures explains { IfOk result (λ out. ExplainsRecord fault.now schema.now.fields
+        (fields_of refused.now) out.items) }
+{
+    let line = match refused.position() {
+        Some(position) => position.line(),
+        None => 1,
+    };
+    let columns = schema.fields.as_slice();
+    match fault {
+        TextFault::WrongFieldCount { .. } => {
+            explain_count(alloc, line, refused.len() as u64, columns.len() as u64)
+        }
+        TextFault::BadField {
+            record: number,
+            column,
+        } => {
+            let place = *column as usize;
+            let Some(field) = refused.get(place) else {
+                return Ok(Vec::new(alloc));
+            };
+            let Some(column) = column_at(columns, place) else {
+                return Ok(Vec::new(alloc));
+            };
+            explain_field(alloc, line, field, words_of(*number), column)
+        }
+        _ => Ok(Vec::new(alloc)),
+    }
+}

@@ -1,0 +1,191 @@
+//! Sends the line of a job that stopped to a sink, part by part: it takes no memory.
+ghost use Rattle.std.specs.Prelude.{◌≡◌, ◌∷◌, [], OnOk, codes};
+ghost use Rattle.std.specs.Fmt.{decimal};
+ghost use Rattle.std.specs.Io.KnownBytes.{Appends};
+ghost use Rattle.ipc_model.specs.Texts.{fault_text, label, place_text, steps_text, stop_line};
+ghost use Rattle.ipc_model.specs.Texts.{code_text};
+ghost use Rattle.ipc_text_temporal.specs.FaultLines.{text_fault_line};
+ghost use Rattle.ipc_stream.specs.Failures.{CountsFailures};
+ghost use Rattle.job_command.specs.Lines.{SendsPart, write_line};
+
+use ipc_model::{Fault, WriteFault};
+use ipc_stream::{Failed, Sink};
+use ipc_text_temporal::TextFault;
+use itoa::Buffer;
+
+// Sends a text.
+pub fn send<E: Sink>(messages: &mut E, text: &str) -> Result<(), Failed>
+    ensures sent { OnOk result
+        (Appends (E.written messages.old) (E.written messages.new) text.now) }
+    ensures failures { SendsPart (E.failures messages.old) (E.failures messages.new) result }
+{
+    send_bytes(messages, text.as_bytes())
+}
+
+// Sends bytes.
+pub fn send_bytes<E: Sink>(messages: &mut E, bytes: &[u8]) -> Result<(), Failed>
+    ensures sent { OnOk result
+        (Appends (E.written messages.old) (E.written messages.new) bytes.now) }
+    ensures failures { SendsPart (E.failures messages.old) (E.failures messages.new) result }
+{
+    let mut sent = 0;
+    while sent < bytes.len() {
+        match messages.write(&bytes[sent..]) {
+            Ok(count) => sent += count,
+            Err(failed) => return Err(failed),
+        }
+    }
+    Ok(())
+}
+
+// Sends the digits of a number.
+fn send_number<E: Sink>(messages: &mut E, number: u64) -> Result<(), Failed>
+    ensures sent { OnOk result
+        (Appends (E.written messages.old) (E.written messages.new) (decimal number)) }
+    ensures failures { SendsPart (E.failures messages.old) (E.failures messages.new) result }
+{
+    let mut digits = Buffer::new();
+    send(messages, digits.format(number))
+}
+
+// Sends the number and the name of a fault, as in `F31 BadNullCount`.
+fn send_label<E: Sink>(messages: &mut E, letter: &str, number: u8, name: &str) -> Result<(), Failed>
+    ensures sent { OnOk result (Appends (E.written messages.old) (E.written messages.new)
+        (label letter.now number name.now)) }
+    ensures failures { SendsPart (E.failures messages.old) (E.failures messages.new) result }
+{
+    send(messages, letter)?;
+    send_number(messages, number as u64)?;
+    send(messages, " ")?;
+    send(messages, name)
+}
+
+// Sends the code of a type that is not read.
+fn send_code<E: Sink>(messages: &mut E, fault: &Fault) -> Result<(), Failed>
+    ensures sent { OnOk result
+        (Appends (E.written messages.old) (E.written messages.new) (code_text fault.now)) }
+    ensures failures { SendsPart (E.failures messages.old) (E.failures messages.new) result }
+{
+    match fault {
+        Fault::UnsupportedType(code) => {
+            send(messages, "(")?;
+            send_number(messages, *code as u64)?;
+            send(messages, ")")
+        }
+        _ => Ok(()),
+    }
+}
+
+// Sends a fault of the reader, as in `F13 UnsupportedType(3)`.
+pub fn send_fault<E: Sink>(messages: &mut E, fault: &Fault) -> Result<(), Failed>
+    ensures sent { OnOk result
+        (Appends (E.written messages.old) (E.written messages.new) (fault_text fault.now)) }
+    ensures failures { SendsPart (E.failures messages.old) (E.failures messages.new) result }
+{
+    send_label(messages, "F", fault.number(), fault.name())?;
+    send_code(messages, fault)
+}
+
+// Sends a fault of the reader with the number of its message. Out of memory has neither.
+pub fn send_read_fault<E: Sink>(messages: &mut E, fault: &Fault, message: u64) -> Result<(), Failed>
+    ensures sent { OnOk result (Appends (E.written messages.old) (E.written messages.new)
+        (stop_line fault.now message)) }
+    ensures failures { SendsPart (E.failures messages.old) (E.failures messages.new) result }
+{
+    match fault {
+        Fault::OutOfMemory => send(messages, "out of memory"),
+        _ => {
+            send_fault(messages, fault)?;
+            send(messages, " at message ")?;
+            send_number(messages, message)
+        }
+    }
+}
+
+// Sends a space and the numbers of a path with dots between them, or nothing for an empty path.
+fn send_steps<E: Sink>(messages: &mut E, path: &[u32]) -> Result<(), Failed>
+    ensures sent { OnOk result
+        (Appends (E.written messages.old) (E.written messages.new) (steps_text path.now)) }
+    ensures failures { SendsPart (E.failures messages.old) (E.failures messages.new) result }
+{
+    let Some((first, rest)) = path.split_first() else {
+        return Ok(());
+    };
+    send(messages, " ")?;
+    send_number(messages, *first as u64)?;
+    for number in rest {
+        send(messages, ".")?;
+        send_number(messages, *number as u64)?;
+    }
+    Ok(())
+}
+
+// Sends the number of the row that does not fit, and the path to its value.
+fn send_place<E: Sink>(messages: &mut E, fault: &WriteFault) -> Result<(), Failed>
+    ensures sent { OnOk result
+        (Appends (E.written messages.old) (E.written messages.new) (place_text fault.now)) }
+    ensures failures { SendsPart (E.failures messages.old) (E.failures messages.new) result }
+{
+    match fault {
+        WriteFault::Row { row, fault } => {
+            send(messages, " at row ")?;
+            send_number(messages, *row)?;
+            send(messages, " path")?;
+            send_steps(messages, fault.path.numbers())
+        }
+        _ => Ok(()),
+    }
+}
+
+// Sends a fault of the writer. Out of memory has no number.
+pub fn send_write_fault<E: Sink>(messages: &mut E, fault: &WriteFault) -> Result<(), Failed>
+    ensures sent { OnOk result
+        (Appends (E.written messages.old) (E.written messages.new) (write_line fault.now)) }
+    ensures failures { SendsPart (E.failures messages.old) (E.failures messages.new) result }
+{
+    match fault {
+        WriteFault::OutOfMemory => send(messages, "out of memory"),
+        _ => {
+            send_label(messages, "W", fault.number(), fault.name())?;
+            send_place(messages, fault)
+        }
+    }
+}
+
+// Sends a fault of texts with its place, the record before the column.
+pub fn send_text_fault<E: Sink>(messages: &mut E, fault: &TextFault) -> Result<(), Failed>
+    ensures sent { OnOk result
+        (Appends (E.written messages.old) (E.written messages.new) (text_fault_line fault.now)) }
+    ensures failures { SendsPart (E.failures messages.old) (E.failures messages.new) result }
+{
+    match fault {
+        TextFault::NotFlat => send(messages, "X1 NotFlat"),
+        TextFault::NoColumns => send(messages, "X2 NoColumns"),
+        TextFault::NoTextForm { column } => {
+            send(messages, "X3 NoTextForm at column ")?;
+            send_number(messages, *column)
+        }
+        TextFault::BadField { record, column } => {
+            send(messages, "X4 BadField at record ")?;
+            send_number(messages, *record)?;
+            send(messages, " column ")?;
+            send_number(messages, *column)
+        }
+        TextFault::WrongFieldCount { record } => {
+            send(messages, "X5 WrongFieldCount at record ")?;
+            send_number(messages, *record)
+        }
+        TextFault::BadSchemaJson => send(messages, "X6 BadSchemaJson"),
+        TextFault::OutOfMemory => send(messages, "out of memory"),
+    }
+}
+
+// Sends the line feed.
+pub fn end_line<E: Sink>(messages: &mut E) -> Result<(), Failed>
+    ensures sent { OnOk result
+        (Appends (E.written messages.old) (E.written messages.new) (10 ∷ [])) }
+    ensures failures { CountsFailures (E.failures messages.old) (E.failures messages.new) result }
+{
+    messages.write(b"\n")?;
+    Ok(())
+}

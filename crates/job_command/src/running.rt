@@ -1,0 +1,370 @@
+//! Does jobs, each between an input and a sink.
+ghost use Rattle.std.specs.Io.KnownBytes.{Appends};
+ghost use Rattle.std.specs.Prelude.{◌≡◌, ◌≢◌, ◌⊎◌, ◌++◌, ◌∷◌, [], Result, Some, OnOk, is_some, ⊤};
+ghost use Rattle.std.specs.Prelude.{IfSome, IsTrue};
+ghost use Rattle.ipc_stream.specs.Failures.{CountsFailures};
+ghost use Rattle.job_command.specs.Jobs.{Answers, AnswersCsv, AnswersPrint, AnswersRewrite};
+ghost use Rattle.job_command.specs.Jobs.{AnswersSchemaJob, shape_of};
+ghost use Rattle.job_command.specs.Jobs.{file_bytes, exit_status, failures_of, job_result};
+ghost use Rattle.job_command.specs.Jobs.{stop_of_csv};
+ghost use Rattle.job_command.specs.Lines.{ExplainsStop, PrintsStopLines, stop_text};
+ghost use Rattle.job_command.specs.Arguments.{HasGoodSize, IsBatchSize};
+ghost use Rattle.job_command.specs.declared.stop.Stop.{Stop};
+
+use crate::arguments::{Invocation, Job};
+use crate::explain::explain_record;
+use crate::explain_schema::explain_schema;
+use crate::line::send_bytes;
+use crate::schema_file::read_schema;
+use crate::stop::Stop;
+use ipc_model::{Limits, Schema};
+use ipc_stream::{Failed, Progress, Seed, Sink, Source};
+use ipc_text_csv::Dialect;
+use ipc_text_json::RowShape;
+use job_explain::{Recorder, explain_write};
+use job_from_csv::from_csv_with_seed;
+use job_print::{Form, PrintOptions, print, print_schema};
+use job_rewrite::rewrite_with_seed;
+use std::alloc::Global;
+
+// Prints the schema of a stream.
+fn schema_job<S: Source, W: Sink>(
+    alloc: Global,
+    limits: Limits,
+    input: S,
+    sink: W,
+) -> (Result<(), Stop>, S, W)
+    ensures answers { AnswersSchemaJob limits (S.remaining input) (S.remaining result.1)
+        (W.written sink) (W.written result.2) (S.failures input) (S.failures result.1)
+        (W.failures sink) (W.failures result.2) result.0 }
+    ensures handed_on { OnOk result.0 (W.held_back result.2 ≡ Some []) }
+    ensures works { exit_status result.0 ≢ 3 → W.failures sink ≡ 0 → W.failures result.2 ≡ 0 }
+{
+    let mut sink = sink;
+    let (result, source) = print_schema(alloc, limits, input, &mut sink);
+    let result = match result {
+        Ok(()) => Ok(()),
+        Err(why) => Err(why.into()),
+    };
+    (result, source, sink)
+}
+
+// Prints a stream by these options.
+fn print_job<S: Source, W: Sink, N: Progress>(
+    alloc: Global,
+    options: PrintOptions<'_>,
+    limits: Limits,
+    input: S,
+    sink: W,
+    progress: &mut N,
+) -> (Result<(), Stop>, S, W)
+    ensures answers { AnswersPrint options.entry limits (S.remaining input) (S.remaining result.1)
+        (W.written sink) (W.written result.2) (S.failures input) (S.failures result.1)
+        (W.failures sink) (W.failures result.2) result.0 }
+    ensures handed_on { OnOk result.0 (W.held_back result.2 ≡ Some []) }
+    ensures works { exit_status result.0 ≢ 3 → W.failures sink ≡ 0 → W.failures result.2 ≡ 0 }
+{
+    let mut sink = sink;
+    let (result, source) = print(alloc, limits, options, input, &mut sink, progress);
+    let result = match result {
+        Ok(()) => Ok(()),
+        Err(why) => Err(why.into()),
+    };
+    (result, source, sink)
+}
+
+// Writes a stream anew.
+fn rewrite_job<S: Source, W: Sink, N: Progress>(
+    alloc: Global,
+    seed: Seed,
+    require_mark: bool,
+    limits: Limits,
+    input: S,
+    sink: W,
+    progress: &mut N,
+) -> (Result<(), Stop>, S, W)
+    ensures answers { AnswersRewrite require_mark limits (S.remaining input) (S.remaining result.1)
+        (W.written sink) (W.written result.2) (S.failures input) (S.failures result.1)
+        (W.failures sink) (W.failures result.2) result.0 }
+    ensures handed_on { OnOk result.0 (W.held_back result.2 ≡ Some []) }
+    ensures works { exit_status result.0 ≢ 3 → W.failures sink ≡ 0 → W.failures result.2 ≡ 0 }
+{
+    let (result, source, sink) = rewrite_with_seed(
+        alloc,
+        seed,
+        require_mark,
+        limits,
+        input,
+        sink,
+        progress,
+    );
+    let result = match result {
+        Ok(()) => Ok(()),
+        Err(why) => Err(why.into()),
+    };
+    (result, source, sink)
+}
+
+// What became of records of CSV, as what became of the job.
+fn csv_result(answer: Result<(), job_from_csv::FromCsvStop>, schema: Schema) -> Result<(), Stop>
+    ensures { result ≡ job_result (stop_of_csv schema) answer }
+{
+    match answer {
+        Ok(()) => Ok(()),
+        Err(why) => Err(Stop::of_csv(why, schema)),
+    }
+}
+
+// Writes records of CSV as a stream, by the schema of a file.
+fn csv_job<P: Source, S: Source, W: Sink>(
+    alloc: Global,
+    seed: Seed,
+    dialect: Dialect<'_>,
+    file: Option<P>,
+    batch: u64,
+    input: S,
+    sink: W,
+) -> (Result<(), Stop>, S, W, Option<P>)
+    requires { IsBatchSize batch }
+    ensures answers { AnswersCsv dialect.entry (file_bytes P.remaining file)
+        (failures_of P.failures result.3) batch (S.remaining input) (W.written sink)
+        (W.written result.2) (S.failures input) (S.failures result.1) (W.failures sink)
+        (W.failures result.2) result.0 }
+    ensures handed_on { OnOk result.0 (W.held_back result.2 ≡ Some []) }
+    ensures works { exit_status result.0 ≢ 3 → W.failures sink ≡ 0 → W.failures result.2 ≡ 0 }
+    ensures file { is_some result.3 ≡ is_some file }
+{
+    let (schema, file) = read_schema(alloc, file);
+    let schema = match schema {
+        Ok(schema) => schema,
+        Err(why) => return (Err(why), input, sink, file),
+    };
+    let (result, input, sink) = from_csv_with_seed(
+        alloc, seed, dialect, input, sink, &schema, batch,
+    );
+    (csv_result(result, schema), input, sink, file)
+}
+
+// The shape of rows that are printed as objects, or not.
+fn shape_of(objects: bool) -> RowShape
+    ensures { result ≡ shape_of objects }
+{
+    if objects {
+        RowShape::Object
+    } else {
+        RowShape::Array
+    }
+}
+
+// Does a job, as `run`.
+fn do_job<P: Source, S: Source, W: Sink, N: Progress>(
+    alloc: Global,
+    seed: Seed,
+    job: Job,
+    schema: Option<P>,
+    input: S,
+    sink: W,
+    progress: &mut N,
+) -> (Result<(), Stop>, S, W, Option<P>)
+    requires { HasGoodSize job }
+    ensures answers { Answers job (file_bytes P.remaining schema) (failures_of P.failures result.3)
+        (S.remaining input) (S.remaining result.1) (W.written sink) (W.written result.2)
+        (S.failures input) (S.failures result.1) (W.failures sink) (W.failures result.2) result.0 }
+    ensures handed_on { OnOk result.0 (W.held_back result.2 ≡ Some []) }
+    ensures works { exit_status result.0 ≢ 3 → W.failures sink ≡ 0 → W.failures result.2 ≡ 0 }
+    ensures file { is_some result.3 ≡ is_some schema }
+{
+    let (result, input, sink) = match job {
+        Job::Schema(limits) => schema_job(alloc, limits, input, sink),
+        Job::Check {
+            limits,
+            require_mark,
+        } => {
+            let options = PrintOptions {
+                form: Form::Counts,
+                require_mark,
+                limit: None,
+            };
+            print_job(alloc, options, limits, input, sink, progress)
+        }
+        Job::Show {
+            limits,
+            objects,
+            pairs,
+            limit,
+            require_mark,
+        } => {
+            let options = PrintOptions {
+                form: Form::Rows {
+                    shape: shape_of(objects),
+                    pairs,
+                },
+                require_mark,
+                limit,
+            };
+            print_job(alloc, options, limits, input, sink, progress)
+        }
+        Job::ToCsv {
+            limits,
+            dialect,
+            limit,
+            require_mark,
+        } => {
+            let options = PrintOptions {
+                form: Form::Records(dialect.dialect()),
+                require_mark,
+                limit,
+            };
+            print_job(alloc, options, limits, input, sink, progress)
+        }
+        Job::Rewrite {
+            limits,
+            require_mark,
+        } => rewrite_job(alloc, seed, require_mark, limits, input, sink, progress),
+        Job::FromCsv {
+            schema: _,
+            batch,
+            dialect,
+        } => return csv_job(alloc, seed, dialect.dialect(), schema, batch, input, sink),
+    };
+    (result, input, sink, schema)
+}
+
+// An input whose messages are kept, if a refusal of a stream is to be explained.
+fn record<S: Source>(alloc: Global, job: &Job, explain: bool, input: S) -> Recorder<S>
+    ensures { result.source ≡ input }
+{
+    let limits = match job {
+        Job::Schema(limits) => limits,
+        Job::Check { limits, .. } => limits,
+        Job::Show { limits, .. } => limits,
+        Job::ToCsv { limits, .. } => limits,
+        Job::Rewrite { limits, .. } => limits,
+        Job::FromCsv { .. } => return Recorder::new(alloc, Limits::standard(), input, false),
+    };
+    Recorder::new(alloc, *limits, input, explain)
+}
+
+// The lines that explain a job that stopped, if memory does not run out; they may be empty.
+fn lines_of<S: Source>(alloc: Global, stop: &Stop, input: &Recorder<S>) -> Option<Vec<u8>>
+    ensures { IfSome result (λ lines. (lines.items ≡ []) ⊎ ExplainsStop stop.now lines.items) }
+{
+    match stop {
+        Stop::Read(fault, message) => input.explain(alloc, fault, *message).ok(),
+        Stop::Write(fault) => input.explain_write(alloc, fault).ok(),
+        Stop::Rows { fault, schema } => explain_write(alloc, schema, fault).ok(),
+        Stop::Record {
+            fault,
+            refused,
+            schema,
+        } => explain_record(alloc, fault, schema, refused).ok(),
+        Stop::SchemaText(text) => explain_schema(alloc, text.as_slice()).ok(),
+        _ => None,
+    }
+}
+
+// The lines that explain a job that stopped, if that is asked for and memory does not run out.
+fn explanation_of<S: Source>(
+    alloc: Global,
+    explain: bool,
+    stop: &Stop,
+    input: &Recorder<S>,
+) -> Vec<u8>
+    ensures { (result.items ≡ []) ⊎ (IsTrue explain × ExplainsStop stop.now result.items) }
+{
+    if !explain {
+        return Vec::new(alloc);
+    }
+    match lines_of(alloc, stop, input) {
+        Some(lines) => lines,
+        None => Vec::new(alloc),
+    }
+}
+
+// Prints the line of a job that stopped, and the lines that explain it.
+fn write_stop<E: Sink>(messages: &mut E, stop: &Stop, lines: &[u8]) -> Result<(), Failed>
+    ensures told { OnOk result (Appends (E.written messages.old) (E.written messages.new)
+        (stop_text stop.now ++ 10 ∷ lines.now)) }
+    ensures failures { CountsFailures (E.failures messages.old) (E.failures messages.new) result }
+{
+    stop.write_line(messages)?;
+    send_bytes(messages, lines)
+}
+
+// Prints why a job stopped, if it did, and returns the exit status.
+fn report<S: Source, E: Sink>(
+    alloc: Global,
+    explain: bool,
+    outcome: &Result<(), Stop>,
+    input: &Recorder<S>,
+    messages: &mut E,
+) -> u8
+    ensures status { result ≡ exit_status outcome.now }
+    ensures told { PrintsStopLines explain (E.written messages.old) (E.written messages.new)
+        (E.failures messages.new) outcome.now }
+{
+    match outcome {
+        Ok(()) => 0,
+        Err(stop) => {
+            let lines = explanation_of(alloc, explain, stop, input);
+            let _ = write_stop(messages, stop, lines.as_slice());
+            stop.exit_status()
+        }
+    }
+}
+
+/// Does a job: reads `input` batch by batch and writes the result to `sink`. After a refusal it
+/// prints the fault's line to `messages`, and at success nothing; the bytes that were sent remain
+/// sent. Of a stream, no byte after its end-of-stream mark is read.
+///
+/// `schema` is the file that the job names, or `None` if it cannot be opened. Only `FromCsv` reads
+/// it. The batch size must be from 1 to 2^31 - 1, as `read_words` returns it. The values of
+/// dictionaries that are written are hashed with `seed`: nobody who does not know a random seed can
+/// choose values whose hashes collide.
+///
+/// Returns the exit status, the input, the sink and the schema's file. A failing `messages` changes
+/// nothing. The exit status is:
+///
+/// - 0 if the job is done;
+/// - 1 if what was read is refused;
+/// - 3 if the input, the schema's file or the sink failed;
+/// - 4 if memory ran out.
+pub fn run<P: Source, S: Source, W: Sink, N: Progress, E: Sink>(
+    alloc: Global,
+    seed: Seed,
+    asked: Invocation,
+    schema: Option<P>,
+    input: S,
+    sink: W,
+    progress: &mut N,
+    messages: &mut E,
+) -> (u8, S, W, Option<P>)
+    requires { HasGoodSize asked.job }
+    // The status is that of an answer, which says what was read, what went out and which device
+    // failed. Exactly its line was printed, and with `explain` the lines that explain it; at
+    // success nothing.
+    ensures answers { (r : Result ⊤ Stop) × (result.0 ≡ exit_status r)
+        × Answers asked.job (file_bytes P.remaining schema) (failures_of P.failures result.3)
+        (S.remaining input) (S.remaining result.1) (W.written sink) (W.written result.2)
+        (S.failures input) (S.failures result.1) (W.failures sink) (W.failures result.2) r
+        × PrintsStopLines asked.explain (E.written messages.old) (E.written messages.new)
+        (E.failures messages.new) r }
+    // Where all was done the sink holds nothing back.
+    ensures handed_on { result.0 ≡ 0 → W.held_back result.2 ≡ Some [] }
+    // A sink fails only at 3.
+    ensures works { result.0 ≢ 3 → W.failures sink ≡ 0 → W.failures result.2 ≡ 0 }
+    // There is no other status.
+    ensures one { (result.0 ≡ 0) ⊎ (result.0 ≡ 1) ⊎ (result.0 ≡ 3) ⊎ (result.0 ≡ 4) }
+    // A file that was opened comes back, and none is made up.
+    ensures file { is_some result.3 ≡ is_some schema }
+{
+    let Invocation {
+        job,
+        explain,
+        progress: _,
+    } = asked;
+    let input = record(alloc, &job, explain, input);
+    let (result, input, sink, schema) = do_job(alloc, seed, job, schema, input, sink, progress);
+    let status = report(alloc, explain, &result, &input, messages);
+    (status, input.into_inner(), sink, schema)
+}

@@ -1,0 +1,5 @@
+use Rattle.std.proofs.Common.{inl}
+use Rattle.job_explain.proofs.field_paths.field_line.Goals as goal
+
+pub returns-in_default-clause-line : goal.returns-in_default-clause-line
+returns-in_default-clause-line c = inl (λ t here u e h. c.in_default.ensures t here, c.new-line.ensures.items)

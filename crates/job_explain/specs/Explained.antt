@@ -1,0 +1,76 @@
+-- The lines that explain a refusal, by what is kept of the refused message.
+use Rattle.std.specs.Prelude.{◌≡◌, ◌≢◌, ◌<◌, ◌≤◌, ◌⊎◌, ◌++◌, ℕ, ℤ, zero, suc, List, [], drop}
+use Rattle.std.specs.Prelude.{Option, None, Some, MatchOption, codes, length}
+use Rattle.std.specs.Fmt.{signed_decimal}
+use Rattle.ipc_model.specs.Numbering.{fault_number}
+use Rattle.ipc_model.specs.declared.fault.Fault.{Fault}
+use Rattle.ipc_model.specs.declared.fault.WriteFault.{WriteFault}
+use Rattle.ipc_model.specs.declared.limits.Limits.{Limits}
+use Rattle.ipc_model.specs.declared.schema.Field.{Field}
+use Rattle.ipc_meta.specs.declared.head.BatchHead.{BatchHead}
+use Rattle.ipc_meta.specs.declared.head.Head.TheVariants as h
+use Rattle.ipc_frame.specs.declared.frame.Frame.{Frame as Framed}
+use Rattle.ipc_frame.specs.declared.frame.Frame.TheVariants as f
+use Rattle.ipc_column.specs.Dictionaries.{Dictionaries}
+use Rattle.ipc_column.specs.Shapes.{buffer_count, node_count, shape_of}
+use Rattle.ipc_stream_read.specs.Stream.{values_in}
+use Rattle.ipc_dict_read.specs.ValuesColumns.{columns_for, dictionary_columns}
+use Rattle.job_explain.specs.declared.stream_context.StreamContext.{StreamContext}
+use Rattle.job_explain.specs.declared.message_record.MessageRecord.{MessageRecord}
+use Rattle.job_explain.specs.ColumnLines.{NamesColumn, count_line}
+use Rattle.job_explain.specs.FieldPaths.{NamesField}
+use Rattle.job_explain.specs.Formats.{format_line, format_words}
+use Rattle.job_explain.specs.StreamContexts.{in_force}
+use Rattle.job_explain.specs.Writes.{ExplainsWrite}
+
+-- the line for the first message of a stream, of which these bytes are kept, by the number of the
+-- fault: of F1 the format that the input looks like; of F13 to F22 the field that has the fault, by
+-- the metadata, which follows the 8 bytes of the prefix; of any other nothing
+pub record ExplainsFirst (limits : Limits) (kept : List ℕ) (fault : Fault) (out : List ℕ)
+    : Type 0 where
+  pub format : fault_number fault ≡ 1 → out ≡ format_line (format_words kept)
+  pub field : 13 ≤ fault_number fault → fault_number fault ≤ 22
+      → NamesField limits (drop 8 kept) fault out
+  pub other : fault_number fault ≢ 1 → (fault_number fault < 13) ⊎ (22 < fault_number fault)
+      → out ≡ []
+
+-- the line for a batch of these fields, under these dictionaries, that was refused, by the number
+-- of the fault: of F26 and F27 the numbers of nodes or buffers; of F28 to F34 the column that has
+-- the fault; of any other nothing
+pub record ExplainsBatch (limits : Limits) (fault : Fault) (m : Dictionaries) (fields : List Field)
+    (head : BatchHead) (body front out : List ℕ) : Type 0 where
+  pub nodes : fault_number fault ≡ 26
+      → out ≡ front ++ count_line (codes "nodes") (length head.nodes) (node_count (shape_of fields))
+  pub buffers : fault_number fault ≡ 27 → out ≡ front
+      ++ count_line (codes "buffers") (length head.buffers) (buffer_count (shape_of fields))
+  pub column : 28 ≤ fault_number fault → fault_number fault ≤ 34
+      → NamesColumn limits fault m fields head body front out
+  pub other : (fault_number fault < 26) ⊎ (34 < fault_number fault) → out ≡ []
+
+-- the words before the line for the values of a dictionary
+abbrev pub dictionary_words : ℤ → List ℕ
+dictionary_words id = codes "dictionary " ++ signed_decimal id ++ codes ": "
+
+-- the line for a later message than the first, by what is in force and what is kept: a record batch
+-- has the columns of the schema, and a dictionary batch the one column of its values
+abbrev pub ExplainsLater : Option StreamContext → Option Framed → Fault → List ℕ → Type 0
+ExplainsLater (Some known) (Some (f.Message meta (h.Batch head pairs) body)) fault out =
+    ExplainsBatch known.limits fault (values_in (in_force known).dictionaries)
+    known.schema.fields head body.items [] out
+ExplainsLater (Some known) (Some (f.Message meta (h.Dictionary id head) body)) fault out =
+    MatchOption (columns_for (dictionary_columns known.schema.fields) id) (out ≡ [])
+    (λ fields. ExplainsBatch known.limits fault [] fields head body.items (dictionary_words id) out)
+ExplainsLater known last fault out = out ≡ []
+
+-- the lines for a refusal at the message with this number; none if nothing is kept
+abbrev pub Explains : Option MessageRecord → Fault → ℕ → List ℕ → Type 0
+Explains (Some kept) fault zero out = ExplainsFirst kept.limits kept.front.items fault out
+Explains (Some kept) fault (suc message) out = ExplainsLater kept.known kept.last fault out
+Explains None fault message out = out ≡ []
+
+-- the lines that explain a fault of the writer of the stream's rows, by the schema that is known;
+-- none if none is
+abbrev pub ExplainsUnwritten : Option MessageRecord → WriteFault → List ℕ → Type 0
+ExplainsUnwritten (Some kept) fault out =
+    MatchOption kept.known (out ≡ []) (λ known. ExplainsWrite known.schema.fields fault out)
+ExplainsUnwritten None fault out = out ≡ []

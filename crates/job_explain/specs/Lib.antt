@@ -1,0 +1,9 @@
+pub mod ColumnLines
+pub mod ColumnsAlone
+pub mod Explained
+pub mod FieldPaths
+pub mod Followed
+pub mod Formats
+pub mod Kept
+pub mod StreamContexts
+pub mod Writes

@@ -1,0 +1,256 @@
+//! The field of a refused schema that has the fault.
+ghost use Rattle.std.specs.Prelude.{◌≡◌, ◌+◌, ◌*◌, ◌<◌, ◌++◌, ◌↔◌, ℕ, List, None, Some, Ok};
+ghost use Rattle.std.specs.Prelude.{IsTrue, IfErr, IfOk, IfSome, MatchOption, OnOk, codes};
+ghost use Rattle.std.specs.Fmt.{decimal};
+ghost use Rattle.ipc_flat.specs.Views.{TableView, table_from};
+ghost use Rattle.ipc_model.specs.Numbering.{fault_number};
+ghost use Rattle.ipc_meta.specs.Tables.{text_at, code_at};
+ghost use Rattle.job_explain.specs.FieldPaths as spec;
+ghost use Rattle.job_explain.specs.FieldPaths.{field_alone, FirstWith, IsSchemaTable, NamesBelow};
+ghost use Rattle.job_explain.specs.FieldPaths.{NoneWith, RefusedAs};
+ghost use Rattle.job_explain.specs.FieldPaths.{NamesField, name_words, type_words};
+
+use crate::numbers::push_number;
+use ipc_flat::{Flat, TableRef, TableVec};
+use ipc_meta::read_only_field;
+use ipc_model::{Fault, Limits};
+use ipc_text_json::string_json;
+use std::alloc::Global;
+
+// Whether a fault has the number of another one. Errors: `OutOfMemory` only.
+fn is_same(found: Option<Fault>, fault: &Fault) -> Result<bool, Fault>
+    ensures same { IfOk result (λ b. IsTrue b
+        ↔ MatchOption found ⊥ (λ f. fault_number f ≡ fault_number fault.now)) }
+    ensures memory { OnOk result (found ≡ Some Fault.OutOfMemory → ⊥) }
+    ensures refused { IfErr result (λ f. f ≡ Fault.OutOfMemory) }
+{
+    match found {
+        None => Ok(false),
+        Some(Fault::OutOfMemory) => Err(Fault::OutOfMemory),
+        Some(found) => Ok(found.number() == fault.number()),
+    }
+}
+
+// Whether a Field table alone is refused for this fault.
+fn has_alone(
+    alloc: Global,
+    limits: &Limits,
+    fault: &Fault,
+    table: &TableRef<'_>,
+) -> Result<bool, Fault>
+    ensures found { IfOk result (λ b. IsTrue b ↔ RefusedAs fault.now
+        (field_alone limits.now table.now)) }
+    ensures refused { IfErr result (λ f. f ≡ Fault.OutOfMemory) }
+{
+    is_same(read_only_field(alloc, limits, table).err(), fault)
+}
+
+// The table in a place of a vector, if it is one that alone is refused for this fault.
+fn alone_at<'a>(
+    alloc: Global,
+    limits: &Limits,
+    fault: &Fault,
+    tables: &TableVec<'a>,
+    i: usize,
+) -> Result<Option<TableRef<'a>>, Fault>
+    requires { i < tables.now.len }
+    ensures some { IfOk result (λ o. IfSome o (λ u.
+        (table_from tables.now.bytes (tables.now.at + i * 4) ≡ Ok u)
+        × RefusedAs fault.now (field_alone limits.now u))) }
+    ensures none { IfOk result (λ o. o ≡ None → (v : TableView)
+        → table_from tables.now.bytes (tables.now.at + i * 4) ≡ Ok v
+        → RefusedAs fault.now (field_alone limits.now v) → ⊥) }
+    ensures refused { IfErr result (λ f. f ≡ Fault.OutOfMemory) }
+{
+    let Ok(table) = tables.at(i) else {
+        return Ok(None);
+    };
+    if has_alone(alloc, limits, fault, &table)? {
+        Ok(Some(table))
+    } else {
+        Ok(None)
+    }
+}
+
+// The first table of a vector that alone is refused for this fault, with its place.
+fn first_with<'a>(
+    alloc: Global,
+    limits: &Limits,
+    fault: &Fault,
+    table: &TableRef<'a>,
+    slot: u16,
+) -> Result<Option<(usize, TableRef<'a>)>, Fault>
+    ensures found { IfOk result (λ o. MatchOption o (NoneWith limits.now fault.now table.now slot)
+        (λ f. FirstWith limits.now fault.now table.now slot f.0 f.1)) }
+    ensures refused { IfErr result (λ f. f ≡ Fault.OutOfMemory) }
+{
+    let tables = match table.tables(slot) {
+        Ok(Some(tables)) => tables,
+        Ok(None) => return Ok(None),
+        Err(_) => return Ok(None),
+    };
+    for i in 0..tables.len() {
+        if let Some(field) = alone_at(alloc, limits, fault, &tables, i)? {
+            return Ok(Some((i, field)));
+        }
+    }
+    Ok(None)
+}
+
+// The name of the type with this code (Schema.fbs, union Type).
+fn type_name(code: u8) -> &'static [u8]
+    ensures { result.now ≡ spec.type_name code }
+{
+    match code {
+        1 => b"Null",
+        2 => b"Int",
+        3 => b"FloatingPoint",
+        4 => b"Binary",
+        5 => b"Utf8",
+        6 => b"Bool",
+        7 => b"Decimal",
+        8 => b"Date",
+        9 => b"Time",
+        10 => b"Timestamp",
+        11 => b"Interval",
+        12 => b"List",
+        13 => b"Struct_",
+        14 => b"Union",
+        15 => b"FixedSizeBinary",
+        16 => b"FixedSizeList",
+        17 => b"Map",
+        18 => b"Duration",
+        19 => b"LargeBinary",
+        20 => b"LargeUtf8",
+        21 => b"LargeList",
+        22 => b"RunEndEncoded",
+        23 => b"BinaryView",
+        24 => b"Utf8View",
+        25 => b"ListView",
+        26 => b"LargeListView",
+        _ => b"unknown",
+    }
+}
+
+// Appends the words for the name of a field.
+#[tactic(auto, unfolding(ipc_meta::specs::Tables::text_at))]
+fn push_name(alloc: Global, out: &mut Vec<u8>, table: &TableRef<'_>) -> Result<(), Fault>
+    ensures ok { OnOk result (out.new.items ≡ out.old.items ++ name_words (text_at table.now 0)) }
+    ensures refused { IfErr result (λ f. f ≡ Fault.OutOfMemory) }
+{
+    let Ok(name) = table.text(0) else {
+        return Ok(());
+    };
+    let Ok(name) = string_json(alloc, name.unwrap_or("")) else {
+        return Err(Fault::OutOfMemory);
+    };
+    out.extend_from_slice(b" ")?;
+    out.extend_from_slice(name.as_bytes())?;
+    Ok(())
+}
+
+// Appends the words for the type of a field.
+#[tactic(auto, unfolding(ipc_meta::specs::Tables::code_at))]
+fn push_type(out: &mut Vec<u8>, table: &TableRef<'_>) -> Result<(), Fault>
+    ensures ok { OnOk result (out.new.items ≡ out.old.items ++ type_words (code_at table.now)) }
+    ensures refused { IfErr result (λ f. f ≡ Fault.OutOfMemory) }
+{
+    let Ok(code) = table.scalar_u8(2, 0) else {
+        return Ok(());
+    };
+    out.extend_from_slice(b": type ")?;
+    out.extend_from_slice(type_name(code))?;
+    out.extend_from_slice(b" (code ")?;
+    push_number(out, u64::from(code))?;
+    out.extend_from_slice(b")")?;
+    Ok(())
+}
+
+// Appends the type of a field, and ends the line.
+fn push_end(out: &mut Vec<u8>, table: &TableRef<'_>) -> Result<(), Fault>
+    ensures ok { OnOk result
+        (out.new.items ≡ out.old.items ++ (type_words (code_at table.now) ++ codes "\n")) }
+    ensures refused { IfErr result (λ f. f ≡ Fault.OutOfMemory) }
+{
+    push_type(out, table)?;
+    out.extend_from_slice(b"\n")?;
+    Ok(())
+}
+
+// Appends the place and the name of a field.
+fn push_field(
+    alloc: Global,
+    out: &mut Vec<u8>,
+    word: &[u8],
+    i: usize,
+    table: &TableRef<'_>,
+) -> Result<(), Fault>
+    ensures ok { OnOk result (out.new.items
+        ≡ out.old.items ++ (word.now ++ decimal i ++ name_words (text_at table.now 0))) }
+    ensures refused { IfErr result (λ f. f ≡ Fault.OutOfMemory) }
+{
+    out.extend_from_slice(word)?;
+    push_number(out, i as u64)?;
+    push_name(alloc, out, table)
+}
+
+// Appends the rest of the path to the field that has the fault, from the Field table of which the
+// words were appended, and then the field's type.
+fn push_below(
+    alloc: Global,
+    limits: &Limits,
+    fault: &Fault,
+    depth: u64,
+    table: &TableRef<'_>,
+    out: &mut Vec<u8>,
+) -> Result<(), Fault>
+    ensures ok { OnOk result ((below : List ℕ)
+        × NamesBelow limits.now fault.now depth table.now below
+        × (out.new.items ≡ out.old.items ++ below)) }
+    ensures refused { IfErr result (λ f. f ≡ Fault.OutOfMemory) }
+{
+    if depth > 0 {
+        if let Some((i, child)) = first_with(alloc, limits, fault, table, 5)? {
+            push_field(alloc, out, b", child ", i, &child)?;
+            return push_below(alloc, limits, fault, depth - 1, &child, out);
+        }
+    }
+    push_end(out, table)
+}
+
+// The Schema table of the metadata of a message, if it has one.
+fn schema_table(metadata: &[u8]) -> Option<TableRef<'_>>
+    ensures { MatchOption result ((t : TableView) → IsSchemaTable metadata.now t → ⊥)
+        (λ u. IsSchemaTable metadata.now u
+        × ((t : TableView) → IsSchemaTable metadata.now t → t ≡ u)) }
+{
+    let root = Flat::root(metadata).ok()?;
+    if root.scalar_u8(1, 0) != Ok(1) {
+        return None;
+    }
+    root.table(2).ok()?
+}
+
+/// Returns the line for the field of a schema's metadata that has the fault. It is empty if no
+/// column alone has it. Errors: `OutOfMemory` only.
+pub(crate) fn field_line(
+    alloc: Global,
+    limits: &Limits,
+    fault: &Fault,
+    metadata: &[u8],
+) -> Result<Vec<u8>, Fault>
+    ensures line { IfOk result
+        (λ line. NamesField limits.now metadata.now fault.now line.items) }
+    ensures refused { IfErr result (λ f. f ≡ Fault.OutOfMemory) }
+{
+    let mut line = Vec::new(alloc);
+    let Some(table) = schema_table(metadata) else {
+        return Ok(line);
+    };
+    let Some((i, column)) = first_with(alloc, limits, fault, &table, 1)? else {
+        return Ok(line);
+    };
+    push_field(alloc, &mut line, b"column ", i, &column)?;
+    push_below(alloc, limits, fault, limits.depth, &column, &mut line)?;
+    Ok(line)
+}

@@ -1,0 +1,108 @@
+//! The message that is being read, or was read last.
+ghost use Rattle.std.specs.Prelude.{◌≡◌, ◌≤◌, ◌++◌, [], length, None, IfOk, IfSome};
+ghost use Rattle.ipc_frame.specs.Pieces.{taking};
+ghost use Rattle.job_explain.specs.Kept.{Keeps, KeepsFed, front_of, kept_of};
+ghost use Rattle.job_explain.specs.StreamContexts.{UpdatesContext};
+
+use crate::context_updates::context_after;
+use crate::stream_context::StreamContext;
+use ipc_frame::{Frame, Frames};
+use ipc_model::{Fault, Limits};
+use std::alloc::Global;
+
+/// What is kept of a stream: the first bytes of the message that is being read, or the message that
+/// was read last, if no byte of the next one has come. It also has what the messages before that
+/// one put in force.
+#[derive(Drop)]
+pub(crate) struct MessageRecord {
+    pub(crate) limits: Limits,
+    pub(crate) frames: Frames,
+    pub(crate) front: Vec<u8>,
+    pub(crate) last: Option<Frame>,
+    pub(crate) known: Option<StreamContext>,
+    pub(crate) ghost same_limits: { frames.limits ≡ limits },
+    pub(crate) ghost front_kept: { front.items ≡ kept_of limits frames.progress front.items },
+}
+
+// The first bytes of a message after a piece of it, as far as they are kept, or `None` if memory
+// ran out.
+fn extend_front(limits: &Limits, front: Vec<u8>, piece: &[u8]) -> Option<Vec<u8>>
+    ensures { IfSome result
+        (λ bytes. bytes.items ≡ front_of limits.now (front.items ++ piece.now)) }
+{
+    let mut front = front;
+    front.extend_from_slice(piece).ok()?;
+    front.truncate(8 + limits.metadata as usize);
+    Some(front)
+}
+
+// What is kept after a piece: the first bytes of the message, and the message that it completes.
+// `None` if memory ran out.
+fn kept_after(
+    limits: &Limits,
+    front: Vec<u8>,
+    piece: &[u8],
+    fed: Result<(usize, Option<Frame>), Fault>,
+) -> Option<(Vec<u8>, Option<Frame>)>
+    requires { IfOk fed (λ taken. taken.0 ≤ length piece.now) }
+    ensures { IfSome result
+        (λ kept. KeepsFed limits.now front.items piece.now kept.0.items kept.1 fed) }
+{
+    match fed {
+        Ok((_, Some(frame))) => {
+            let mut front = front;
+            front.clear();
+            Some((front, Some(frame)))
+        }
+        Ok((taken, None)) => Some((extend_front(limits, front, &piece[..taken])?, None)),
+        Err(Fault::OutOfMemory) => None,
+        Err(Fault::Failed) => Some((front, None)),
+        Err(_) => Some((extend_front(limits, front, piece)?, None)),
+    }
+}
+
+impl MessageRecord {
+    /// Starts at the beginning of a stream.
+    pub(crate) fn new(alloc: Global, limits: Limits) -> MessageRecord
+        ensures limits { result.limits ≡ limits }
+        ensures progress { result.frames.progress ≡ taking [] }
+        ensures last { result.last ≡ None }
+        ensures known { result.known ≡ None }
+    {
+        MessageRecord {
+            limits,
+            frames: Frames::new(alloc, limits),
+            front: Vec::new(alloc),
+            last: None,
+            known: None,
+        }
+    }
+
+    /// Takes the bytes that were read next, after a message that the reader accepted. Returns
+    /// `None` if memory ran out.
+    pub(crate) fn record(self, piece: &[u8]) -> Option<MessageRecord>
+        ensures limits { IfSome result (λ next. next.limits ≡ self.limits) }
+        ensures keeps { IfSome result (λ next. Keeps self.limits self.frames.progress
+            self.front.items piece.now next.frames.progress next.front.items next.last) }
+        ensures learns { IfSome result
+            (λ next. UpdatesContext self.limits self.known self.last next.known) }
+    {
+        let MessageRecord {
+            limits,
+            mut frames,
+            front,
+            last,
+            known,
+        } = self;
+        let known = context_after(*front.allocator(), limits, known, last).ok()?;
+        let fed = frames.feed(piece);
+        let (front, last) = kept_after(&limits, front, piece, fed)?;
+        Some(MessageRecord {
+            limits,
+            frames,
+            front,
+            last,
+            known,
+        })
+    }
+}

@@ -1,0 +1,153 @@
+//! A source that keeps the message that is being read.
+ghost use Rattle.std.specs.Prelude.{◌≡◌, ◌≤◌, ◌<◌, ◌+◌, length, take, IfErr, IfOk};
+ghost use Rattle.std.specs.Io.KnownBytes.{ReadConsumes};
+ghost use Rattle.ipc_frame.specs.Failures.{CountsFailures};
+ghost use Rattle.job_explain.specs.Explained.{Explains, ExplainsUnwritten};
+ghost use Rattle.job_explain.specs.Followed.{Follows, StartsRecorder};
+
+use crate::message_record::MessageRecord;
+use crate::writes::explain_write;
+use ipc_frame::{Failed, Source};
+use ipc_model::{Fault, Limits, WriteFault};
+use std::alloc::Global;
+use std::mem::replace;
+
+/// A source that returns the bytes of another one, and keeps those of the message that is being
+/// read, so that a refusal can be explained.
+#[derive(Drop)]
+pub struct Recorder<R> {
+    source: R,
+    recorded: Option<MessageRecord>,
+}
+
+impl<R: Source> Recorder<R> {
+    /// Creates a recorder of a source at the beginning of a stream. It keeps messages only if `on`,
+    /// and until memory for them runs out; it passes bytes on in any case.
+    pub fn new(alloc: Global, limits: Limits, source: R, on: bool) -> Recorder<R>
+        ensures source { result.source ≡ source }
+        ensures starts { StartsRecorder limits on result.recorded }
+    {
+        let recorded = if on {
+            Some(MessageRecord::new(alloc, limits))
+        } else {
+            None
+        };
+        Recorder { source, recorded }
+    }
+
+    /// Returns lines that explain why the stream is refused, each with a line feed: `fault`, at the
+    /// message with the number `message`. They are empty where nothing more is known.
+    ///
+    /// - F1 at the first message: what the input looks like, by its first four bytes.
+    /// - F13 to F22 at the first message: the field that has the fault, by the numbers and names of
+    ///   the column and of the children on the way to it, and its type (Schema.fbs, union Type).
+    ///   Nothing is said if no column alone has the fault, as mostly with F17 to F21.
+    /// - F26 and F27 at a later message: the numbers of nodes or buffers (Message.fbs, table
+    ///   RecordBatch), those of the batch and those that its fields need.
+    /// - F28 to F34 at a later message: the first column that alone has the fault, by its number,
+    ///   name and type, with its nodes and buffers. The column of a dictionary batch is that of the
+    ///   dictionary's values.
+    ///
+    /// Pass the fault of the message that was read last. No contract compares the two, because a
+    /// reader that is generic in its source does not state which message it read last.
+    ///
+    /// Errors: `OutOfMemory` only.
+    pub fn explain(&self, alloc: Global, fault: &Fault, message: u64) -> Result<Vec<u8>, Fault>
+        ensures lines { IfOk result
+            (λ lines. Explains self.now.recorded fault.now message lines.items) }
+        ensures refused { IfErr result (λ f. f ≡ Fault.OutOfMemory) }
+    {
+        match (&self.recorded, message) {
+            (Some(recorded), 0) => recorded.explain(alloc, fault),
+            (Some(recorded), _) => recorded.explain_later(alloc, fault),
+            (None, _) => Ok(Vec::new(alloc)),
+        }
+    }
+
+    /// Returns lines that explain why rows of the stream are not written, as `explain_write` does
+    /// for the stream's schema. They are empty if nothing is kept, or if no byte was read after the
+    /// schema's message.
+    ///
+    /// Errors: `OutOfMemory` only.
+    pub fn explain_write(&self, alloc: Global, fault: &WriteFault) -> Result<Vec<u8>, Fault>
+        ensures lines { IfOk result
+            (λ lines. ExplainsUnwritten self.now.recorded fault.now lines.items) }
+        ensures refused { IfErr result (λ f. f ≡ Fault.OutOfMemory) }
+    {
+        let Some(
+            MessageRecord {
+                known: Some(known),
+                ..
+            },
+        ) = &self.recorded
+        else {
+            return Ok(Vec::new(alloc));
+        };
+        explain_write(alloc, &known.schema, fault)
+    }
+
+    /// Returns the source.
+    pub fn into_inner(self) -> R
+        ensures { result ≡ self.source }
+    {
+        let Recorder {
+            source,
+            recorded: _,
+        } = self;
+        source
+    }
+}
+
+impl<R> Recorder<R> {
+    // How many bytes of `len` are read at once, so that at most one message is completed.
+    fn room(&self, len: usize) -> usize
+        ensures few { result ≤ len }
+        ensures some { 0 < len → 0 < result }
+    {
+        match &self.recorded {
+            Some(recorded) => match recorded.frames.wants() {
+                0 => len,
+                wants => wants.min(len),
+            },
+            None => len,
+        }
+    }
+
+    // Keeps the bytes that were read.
+    fn record(&mut self, piece: &[u8])
+        ensures kept { Follows self.old.recorded piece.now self.new.recorded }
+        ensures source { self.new.source ≡ self.old.source }
+    {
+        if let Some(recorded) = replace(&mut self.recorded, None) {
+            self.recorded = recorded.record(piece);
+        }
+    }
+}
+
+impl<R: Source> Source for Recorder<R> {
+    ghost remaining = { λ r. R.remaining r.source };
+
+    ghost failures = { λ r. R.failures r.source };
+
+    ghost bound = { λ r. R.bound r.source };
+
+    fn read(&mut self, into: &mut [u8]) -> Result<usize, Failed>
+        ensures count { IfOk result (λ k. k ≤ length into.new) }
+        ensures bytes { ReadConsumes (R.remaining self.old.source)
+            (R.remaining self.new.source) result into.new }
+        ensures fewer { IfOk result (λ k. (R.bound self.new.source + k) ≤ R.bound self.old.source) }
+        ensures failures { CountsFailures (R.failures self.old.source)
+            (R.failures self.new.source) result }
+        // The bytes of the message that is being read are kept.
+        ensures kept { IfOk result
+            (λ k. 0 < k → Follows self.old.recorded (take k into.new) self.new.recorded) }
+        ensures kept_at_end { IfOk result (λ k. k ≡ 0 → self.new.recorded ≡ self.old.recorded) }
+    {
+        let room = self.room(into.len());
+        let count = self.source.read(&mut into[..room])?;
+        if count > 0 {
+            self.record(&into[..count]);
+        }
+        Ok(count)
+    }
+}

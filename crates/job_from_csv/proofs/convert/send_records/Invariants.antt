@@ -1,0 +1,18 @@
+use Rattle.std.proofs.Common.{◌≡◌, ◌-◌, ◌^◌, ℕ, List, [], Option}
+use Rattle.csv.specs.Reading.{reader_source}
+use Rattle.job_from_csv.specs.Records.{IsSetUp}
+use Rattle.job_from_csv.specs.Steps.{BeginsConversion, Came}
+use Rattle.job_from_csv.proofs.convert.send_records.Given as goal
+
+-- the rows of the records so far were sent in full batches
+abbrev pub invariant-loop-found : goal.invariant-loop-found
+invariant-loop-found g l =
+    IsSetUp l.dialect l.rows.reader
+    × ((input old : Option (List ℕ)) (failures : ℕ) → BeginsConversion l.dialect g.R.Read.remaining input l.schema old failures l.fn.rows
+    l.fn.stream
+    → Came l.dialect g.R.Read.remaining input l.schema l.size old failures l.rows l.stream [])
+    × (g.R.ReportsFailure.failures (reader_source l.rows.reader) ≡ 0)
+
+-- each batch takes records, of which no more are counted than an integer of 64 bits holds
+abbrev pub decreases-loop-found : goal.decreases-loop-found
+decreases-loop-found g l = 2 ^ 64 - l.rows.count

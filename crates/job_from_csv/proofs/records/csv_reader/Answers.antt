@@ -1,0 +1,8 @@
+use Rattle.job_from_csv.proofs.Reading.{leaves_all}
+use Rattle.job_from_csv.proofs.NextRow.{stands_kept}
+use Rattle.job_from_csv.proofs.records.csv_reader.Goals as goal
+
+pub returns-clause-stands : goal.returns-clause-stands
+returns-clause-stands g c = λ known kept.
+    stands_kept c.args.dialect g.R.Read.remaining known (g.R.Read.remaining c.args.input) c.from_reader.result kept
+    (leaves_all c.args.dialect _ _ _ c.from_reader.ensures.state c.from_reader.ensures.source)

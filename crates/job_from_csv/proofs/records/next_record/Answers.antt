@@ -1,0 +1,7 @@
+use Rattle.job_from_csv.proofs.Reading.{finds_next}
+use Rattle.job_from_csv.proofs.records.next_record.Goals as goal
+
+pub returns-clause-finds : goal.returns-clause-finds
+returns-clause-finds g c = λ d set input records stands.
+    finds_next d g.R.Read.remaining input records c.args.reader.now c.read_byte_record-found.new.self c.in-Ok.found _ set.config
+    (c.in-Ok.ensures.reads set.trim set.ready) stands

@@ -1,0 +1,306 @@
+//! Sends the rows of CSV records in batches.
+ghost use Rattle.std.specs.Prelude.{◌≡◌, ◌≢◌, ◌<◌, ◌≤◌, ◌-◌, ◌^◌, ◌∷◌, ℕ, List, [], Option, None};
+ghost use Rattle.std.specs.Prelude.{Some, Err, IfErr, IfOk, OnOk};
+ghost use Rattle.ipc_model.specs.declared.fault.WriteFault.{WriteFault};
+ghost use Rattle.ipc_stream.specs.PendingBatches.{HoldsBatch, no_rows};
+ghost use Rattle.ipc_stream.specs.Writer.{Finishes, FinishFails, StartsWriter, StartFails};
+ghost use Rattle.job_from_csv.specs.declared.stop.FromCsvStop.TheVariants as stop;
+ghost use Rattle.job_from_csv.specs.Records.{IsSetUp};
+ghost use Rattle.job_from_csv.specs.Conversion.{AnswersConversion, Converts, IsLeftToRefuse};
+ghost use Rattle.job_from_csv.specs.Conversion.{StopsFor};
+ghost use Rattle.job_from_csv.specs.Steps.{BeginsConversion, Came, HasRead, PushesRows};
+ghost use Rattle.job_from_csv.specs.Steps.{SendsCsvBatch};
+ghost use Rattle.job_from_csv.specs.Steps.{SendsRecords};
+ghost use Rattle.job_from_csv.specs.Stops.{CountsInputFailure, CountsSourceFailure};
+ghost use Rattle.csv.specs.Reading.{reader_source};
+
+use crate::records::{csv_reader, read_header};
+use crate::rows::RowReader;
+use crate::source_reader::{ReportsFailure, SourceReader};
+use crate::stop::FromCsvStop;
+use ipc_model::{Items, Limits, Schema, WriteFault};
+use ipc_stream::{BatchWriter, Seed, Sink, Source, StreamWriter};
+use ipc_text_csv::{Dialect, check_flat};
+use std::alloc::Global;
+use std::io::Read;
+
+// Pushes the kept row and those of the next records, until the batch has this number of rows or no
+// record remains. Returns whether the batch is full.
+fn push_rows<R: Read + ReportsFailure, W: Sink>(
+    alloc: Global,
+    dialect: Dialect<'_>,
+    rows: &mut RowReader<R>,
+    schema: &Schema,
+    size: u64,
+    batch: &mut BatchWriter<'_, W>,
+) -> Result<bool, FromCsvStop>
+    requires some { 0 < size }
+    requires set_up { IsSetUp dialect rows.old.reader }
+    requires works { R.failures (reader_source rows.old.reader) ≡ 0 }
+    ensures device { CountsInputFailure (R.failures (reader_source rows.new.reader)) result }
+    ensures set_up { OnOk result (IsSetUp dialect.entry rows.new.reader) }
+    ensures counted { OnOk result (rows.old.count ≤ rows.new.count) }
+    ensures same_reference { batch.new.writer.ghost_name ≡ batch.old.writer.ghost_name }
+    ensures pushes { (input old : Option (List ℕ)) (failures : ℕ)
+        → Came dialect.entry R.remaining input schema.now size old failures rows.old
+        batch.old.writer.now
+        (rows.old.row ∷ [])
+        → HoldsBatch batch.old.writer.now.limits batch.old.writer.now.schema (no_rows [])
+        batch.old.batch
+        → PushesRows dialect.entry R.remaining input schema.now size old failures rows.new
+        batch.new.writer.now
+        batch.new.batch result }
+{
+    batch.push(rows.row.as_slice())?;
+    for _ in 1..size {
+        let found = match rows.next(alloc, dialect, schema) {
+            Ok(found) => found,
+            Err(why) => return Err(why.at_record(rows.take_record(alloc))),
+        };
+        if !found {
+            return Ok(false);
+        }
+        batch.push(rows.row.as_slice())?;
+    }
+    Ok(true)
+}
+
+// Sends a batch of the kept row and those of the next records, and says whether it was full.
+fn send_batch<R: Read + ReportsFailure, W: Sink>(
+    alloc: Global,
+    dialect: Dialect<'_>,
+    rows: &mut RowReader<R>,
+    stream: &mut StreamWriter<W>,
+    schema: &Schema,
+    size: u64,
+) -> Result<bool, FromCsvStop>
+    requires some { 0 < size }
+    requires set_up { IsSetUp dialect rows.old.reader }
+    requires works { R.failures (reader_source rows.old.reader) ≡ 0 }
+    ensures device { CountsInputFailure (R.failures (reader_source rows.new.reader)) result }
+    ensures set_up { OnOk result (IsSetUp dialect.entry rows.new.reader) }
+    ensures counted { OnOk result (rows.old.count ≤ rows.new.count) }
+    ensures sends { (input old : Option (List ℕ)) (failures : ℕ)
+        → Came dialect.entry R.remaining input schema.now size old failures rows.old stream.old
+        (rows.old.row ∷ [])
+        → SendsCsvBatch dialect.entry R.remaining input schema.now size old failures rows.new
+        stream.new result }
+{
+    let mut batch = stream.batch(Items::new(alloc))?;
+    let full = push_rows(alloc, dialect, rows, schema, size, &mut batch)?;
+    batch.send()?;
+    Ok(full)
+}
+
+// Sends the rows of all records after the header, in batches of this number of rows. The last batch
+// may have fewer.
+fn send_records<R: Read + ReportsFailure, W: Sink>(
+    alloc: Global,
+    dialect: Dialect<'_>,
+    rows: &mut RowReader<R>,
+    stream: &mut StreamWriter<W>,
+    schema: &Schema,
+    size: u64,
+) -> Result<(), FromCsvStop>
+    requires some { 0 < size }
+    requires set_up { IsSetUp dialect rows.old.reader }
+    requires works { R.failures (reader_source rows.old.reader) ≡ 0 }
+    ensures device { CountsInputFailure (R.failures (reader_source rows.new.reader)) result }
+    ensures sends { (input old : Option (List ℕ)) (failures : ℕ)
+        → BeginsConversion dialect.entry R.remaining input schema.now old failures rows.old
+        stream.old
+        → SendsRecords dialect.entry input schema.now size old failures stream.new result }
+{
+    loop {
+        let found = match rows.next(alloc, dialect, schema) {
+            Ok(found) => found,
+            Err(why) => return Err(why.at_record(rows.take_record(alloc))),
+        };
+        if !found {
+            return Ok(());
+        }
+        if !send_batch(alloc, dialect, rows, stream, schema, size)? {
+            return Ok(());
+        }
+    }
+}
+
+// Ends a stream, and gives its sink back.
+fn end_stream<W: Sink>(stream: StreamWriter<W>) -> (Result<(), FromCsvStop>, W)
+    ensures ended { OnOk result.0
+        (Finishes stream (W.written result.1) (W.held_back result.1) (W.failures result.1)) }
+    ensures refused { IfErr result.0 (λ why. (fault : WriteFault) × (why ≡ stop.Write fault)
+        × FinishFails stream (W.written result.1) (W.failures result.1) fault) }
+{
+    match stream.finish() {
+        Ok(sink) => (Ok(()), sink),
+        Err((fault, sink)) => (Err(FromCsvStop::Write(fault)), sink),
+    }
+}
+
+// Begins a stream, whose values of dictionaries are hashed with this seed.
+fn begin_stream<W: Sink>(
+    alloc: Global,
+    seed: Seed,
+    limits: Limits,
+    sink: W,
+    schema: &Schema,
+) -> Result<StreamWriter<W>, (WriteFault, W)>
+    ensures started { IfOk result
+        (λ s. StartsWriter limits schema.now (W.written sink) (W.failures sink) s) }
+    ensures seeded { IfOk result (λ s. s.seed ≡ seed) }
+    ensures refused { IfErr result (λ e. StartFails limits schema.now (W.written sink)
+        (W.written e.1) (W.failures sink) (W.failures e.1) e.0) }
+{
+    let mut stream = StreamWriter::start(alloc, limits, sink, schema)?;
+    stream.set_seed(seed);
+    Ok(stream)
+}
+
+// Sends the stream of the records after the header, and returns its sink.
+fn send_stream<R: Read + ReportsFailure, W: Sink>(
+    alloc: Global,
+    seed: Seed,
+    dialect: Dialect<'_>,
+    rows: &mut RowReader<R>,
+    sink: W,
+    schema: &Schema,
+    batch: u64,
+) -> (Result<(), FromCsvStop>, W)
+    requires some { 0 < batch }
+    requires set_up { IsSetUp dialect rows.old.reader }
+    requires works { R.failures (reader_source rows.old.reader) ≡ 0 }
+    ensures device { CountsInputFailure (R.failures (reader_source rows.new.reader)) result.0 }
+    ensures converts { (input : Option (List ℕ))
+        → HasRead dialect.entry R.remaining input schema.now [] [] rows.old
+        → AnswersConversion dialect.entry input schema.now batch (W.written sink)
+        (W.written result.1)
+        (W.failures sink)
+        (W.failures result.1) result.0 }
+    ensures handed_on { OnOk result.0 (W.held_back result.1 ≡ Some []) }
+{
+    match begin_stream(alloc, seed, Limits::standard(), sink, schema) {
+        Ok(stream) => {
+            let mut stream = stream;
+            match send_records(alloc, dialect, rows, &mut stream, schema, batch) {
+                Ok(()) => end_stream(stream),
+                Err(why) => (Err(why), stream.into_inner()),
+            }
+        }
+        Err((fault, sink)) => (Err(FromCsvStop::Write(fault)), sink),
+    }
+}
+
+/// Reads CSV records from `input` in a dialect and writes them to `sink` as a stream, in batches of
+/// `batch` rows. The last batch may have fewer. Returns `input` and `sink` with the result. `batch`
+/// must be from 1 to 2^31 - 1.
+///
+/// A byte order mark at the start is dropped, and blank lines are no records. The first record is
+/// the header, with the names of the columns in order. Each record after it becomes a row, as
+/// `ipc_text::row_from_csv` reads it. Without records the stream has no batches.
+///
+/// The stream is within `Limits::standard()`. The schema is sent when the header was checked. Each
+/// batch is sent as soon as its last record is read, after the dictionaries that it needs. At the
+/// end the end-of-stream mark is sent, and the sink is flushed. One record, one row, the buffers of
+/// one batch, and the values of the dictionaries are kept. Hashes use `Seed::Fixed`.
+///
+/// Errors, after which the bytes that were sent remain sent, with the full batches of earlier
+/// records:
+///
+/// - `Text` X1 and X2: before anything is read.
+/// - `Text` X5 of record 0: there is no record, and nothing was sent.
+/// - `Record` X5 and X4 of record 0, the header: before anything is sent.
+/// - `Record` X5 and X4 of a later record, counted from 1: it is no row of the schema.
+/// - `Text` `OutOfMemory`: memory for a record or its row ran out, or there are more than 2^64 - 1
+///   records after the header.
+/// - `Write` W1 and W6: the schema is refused, as in `StreamWriter::start`.
+/// - `Write` W6, at a record: with it the batch, or the values of a dictionary in it, are too long.
+/// - `Write` W7 or W8, at a record: with it the batch has more values of a dictionary than an index
+///   type of its fields counts (W7), or than `limits.slots` (W8).
+/// - `Write` W9: the sink failed.
+/// - `Write` W11: memory ran out.
+/// - `Input`: the source failed, perhaps before the call.
+///
+/// Faults at a record come before the next record is read.
+pub fn from_csv<R: Source, W: Sink>(
+    alloc: Global,
+    dialect: Dialect<'_>,
+    input: R,
+    sink: W,
+    schema: &Schema,
+    batch: u64,
+) -> (Result<(), FromCsvStop>, R, W)
+    requires some { 0 < batch }
+    requires within { batch ≤ 2 ^ 31 - 1 }
+    // What went out is the stream of a table whose batches are the rows of all records.
+    ensures converts { OnOk result.0 (Converts dialect.entry (R.remaining input) schema.now batch
+        (W.written sink)
+        (W.written result.2) (W.failures sink) (W.failures result.2)) }
+    // Nothing is held back.
+    ensures handed_on { OnOk result.0 (W.held_back result.2 ≡ Some []) }
+    // At a refusal, its cause, and exactly what went out before it.
+    ensures stopped { IfErr result.0 (λ why. StopsFor dialect.entry (R.remaining input) schema.now
+        batch
+        (W.written sink) (W.written result.2) (W.failures sink) (W.failures result.2) why) }
+    // The rows fit and the batches aren't too large, so W2 to W5 don't come, and W7 and W8 only of
+    // the values of a dictionary.
+    ensures left { IfErr result.0 (λ why. (fault : WriteFault) → why ≡ stop.Write fault
+        → IsLeftToRefuse schema.now fault) }
+    // W9 comes only where the sink failed.
+    ensures failed { result.0 ≡ Err (stop.Write WriteFault.Write) → W.failures result.2 ≡ 1 }
+    // Any other answer leaves a sink that works as one.
+    ensures works { result.0 ≢ Err (stop.Write WriteFault.Write) → W.failures sink ≡ 0
+        → W.failures result.2 ≡ 0 }
+    // `Input` comes exactly where the source failed.
+    ensures device { CountsSourceFailure (R.failures input) (R.failures result.1) result.0 }
+{
+    from_csv_with_seed(alloc, Seed::Fixed, dialect, input, sink, schema, batch)
+}
+
+/// Converts CSV to a stream as `from_csv` does, but hashes the values of dictionaries with this
+/// seed. Nobody who does not know a random seed can choose values whose hashes collide.
+pub fn from_csv_with_seed<R: Source, W: Sink>(
+    alloc: Global,
+    seed: Seed,
+    dialect: Dialect<'_>,
+    input: R,
+    sink: W,
+    schema: &Schema,
+    batch: u64,
+) -> (Result<(), FromCsvStop>, R, W)
+    requires some { 0 < batch }
+    requires within { batch ≤ 2 ^ 31 - 1 }
+    // What went out is the stream of a table whose batches are the rows of all records.
+    ensures converts { OnOk result.0 (Converts dialect.entry (R.remaining input) schema.now batch
+        (W.written sink)
+        (W.written result.2) (W.failures sink) (W.failures result.2)) }
+    // Nothing is held back.
+    ensures handed_on { OnOk result.0 (W.held_back result.2 ≡ Some []) }
+    // At a refusal, its cause, and exactly what went out before it.
+    ensures stopped { IfErr result.0 (λ why. StopsFor dialect.entry (R.remaining input) schema.now
+        batch
+        (W.written sink) (W.written result.2) (W.failures sink) (W.failures result.2) why) }
+    // The rows fit and the batches aren't too large, so W2 to W5 don't come, and W7 and W8 only of
+    // the values of a dictionary.
+    ensures left { IfErr result.0 (λ why. (fault : WriteFault) → why ≡ stop.Write fault
+        → IsLeftToRefuse schema.now fault) }
+    // W9 comes only where the sink failed.
+    ensures failed { result.0 ≡ Err (stop.Write WriteFault.Write) → W.failures result.2 ≡ 1 }
+    // Any other answer leaves a sink that works as one.
+    ensures works { result.0 ≢ Err (stop.Write WriteFault.Write) → W.failures sink ≡ 0
+        → W.failures result.2 ≡ 0 }
+    // `Input` comes exactly where the source failed.
+    ensures device { CountsSourceFailure (R.failures input) (R.failures result.1) result.0 }
+{
+    if let Err(fault) = check_flat(schema) {
+        return (Err(FromCsvStop::Text(fault)), input, sink);
+    }
+    let mut reader = csv_reader(alloc, dialect, SourceReader::new(input));
+    let fields = match read_header(alloc, &mut reader, schema) {
+        Ok(fields) => fields,
+        Err(why) => return (Err(why), reader.into_inner().into_inner(), sink),
+    };
+    let mut rows = RowReader::new(alloc, reader, fields);
+    let (result, sink) = send_stream(alloc, seed, dialect, &mut rows, sink, schema, batch);
+    (result, rows.into_inner().into_inner(), sink)
+}

@@ -1,0 +1,11 @@
+//! Converts CSV records to a stream (RFC 4180; Arrow Columnar Format, "IPC Streaming Format").
+#![tactic(auto)]
+
+mod convert;
+mod records;
+mod rows;
+mod source_reader;
+mod stop;
+
+pub use convert::{from_csv, from_csv_with_seed};
+pub use stop::FromCsvStop;

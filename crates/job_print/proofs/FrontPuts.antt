@@ -1,0 +1,79 @@
+-- The front of a text, before the rows of batches.
+use Rattle.ipc_model.specs.declared.table.BatchRows.{BatchRows}
+use Rattle.std.proofs.Common.{◌≡◌, ◌∙◌, refl, sym, ap, subst, ℕ, List, [], ◌++◌, Option, Some}
+use Rattle.std.proofs.Common.{Result, Ok, Err, append-nil, length-append, arith}
+use Rattle.std.proofs.KnownBytes.{Consumes-nil}
+use Rattle.ipc_stream_read.specs.Reader.{Reader, in_force_of}
+use Rattle.ipc_stream_read.specs.Stream.{done}
+use Rattle.job_print.specs.declared.rows.PrintFault.{PrintFault}
+use Rattle.job_print.specs.declared.rows.PrintFault.TheVariants.{Write, OutOfMemory}
+use Rattle.job_print.specs.declared.form.PrintOptions.{PrintOptions}
+use Rattle.job_print.specs.FirstRows.{within}
+use Rattle.job_print.specs.Forms.{batch_heading, line_of}
+use Rattle.job_print.specs.Output.{Output, output, PrintsAs, Puts, PutFails}
+use Rattle.std.specs.Prelude.{⊤}
+use Rattle.job_print.specs.Rows.{batch_lines, last_lines}
+use Rattle.job_print.specs.Streams.{PrintsPart}
+use Rattle.job_print.proofs.FirstRows.{wanted_none, wanted_within}
+use Rattle.job_print.proofs.FirstRows.{within_none}
+use Rattle.job_print.proofs.Puts.{puts_then, puts_not_then, puts_never, missing_all, missing_at}
+use Rattle.job_print.proofs.Lines.{put_at, not_at}
+use Rattle.std.proofs.Common.{length, inl}
+
+-- nothing was read, and of the front a beginning was printed
+pub part_front : (options : PrintOptions) (front : List ℕ) (r : Reader) (before : Output) (w : Option (List ℕ)) (n : ℕ) (e : PrintFault)
+    → before.kept ≡ [] → PutFails before w n front e → PrintsPart options front r r before w n e
+part_front options front r before w n e empty q =
+    let none = sym (within_none options.limit) in
+    let line = line_of options.form r.schema.fields in
+    let missing = missing_at before w n _ _ e (length front)
+    (sym (append-nil front) ∙ (sym (append-nil (front ++ []))
+    ∙ ap (λ (bs : List BatchRows). (front ++ batch_lines (batch_heading options.form) line bs) ++ []) none))
+    (missing_all before w n front e empty q) in
+    record {
+      x = [];
+      batches = [];
+      bytes = Consumes-nil r.remaining;
+      rest = [];
+      whole = [];
+      joined = refl;
+      state = Some (in_force_of r);
+      run = done;
+      tail = [];
+      inside = wanted_within options.limit [] (wanted_none options.limit);
+      ends = inl refl;
+      puts = missing.0;
+      few = omega (
+        arith,
+        missing.1,
+        ap (λ (bs : List BatchRows). length (last_lines front (batch_heading options.form) line bs)) none,
+        length-append (last_lines front (batch_heading options.form) line (within options.limit [])) [],
+      );
+      last = inl refl;
+      works = λ other z. z;
+    }
+
+-- nothing was read and printed, since memory ran out
+pub part_none : (options : PrintOptions) (front : List ℕ) (r : Reader) (o : Output) → o.kept ≡ []
+    → PrintsPart options front r r o o.written o.failures OutOfMemory
+part_none options front r o empty = part_front options front r o o.written o.failures OutOfMemory empty (puts_never o front)
+
+-- the front was put, and it was sent, or the sink failed
+pub front_sent : (before mid : Output) (w : Option (List ℕ)) (n : ℕ) (k front : List ℕ) → Puts before mid front
+    → Puts mid (output w n []) [] → k ≡ [] → Puts before (output w n k) front
+front_sent before mid w n k front p q empty =
+    subst (λ (z : List ℕ). Puts before (output w n z) front) (sym empty)
+    (put_at before (output w n []) _ _ (append-nil front) (puts_then before mid (output w n []) front [] p q))
+
+-- a text was put, and then what is kept was sent, or the sink failed
+pub then_sent : (a b : Output) (w : Option (List ℕ)) (n : ℕ) (t : List ℕ) (r : Result ⊤ PrintFault) → Puts a b t
+    → PrintsAs b w n [] [] r → PrintsAs a w n [] t r
+then_sent a b w n t (Ok _) p q = put_at a (output w n []) _ _ (append-nil t) (puts_then a b (output w n []) t [] p q)
+then_sent a b w n t (Err e) p q = not_at a w n _ _ e (append-nil t) (puts_not_then a b w n t [] e p q)
+
+-- the front was put, and the sink failed when it was sent
+pub front_unsent : (options : PrintOptions) (front : List ℕ) (r : Reader) (before mid : Output) (w : Option (List ℕ)) (n : ℕ)
+    → before.kept ≡ [] → Puts before mid front → PutFails mid w n [] Write → PrintsPart options front r r before w n Write
+front_unsent options front r before mid w n empty p q =
+    part_front options front r before w n Write empty
+    (not_at before w n _ _ Write (append-nil front) (puts_not_then before mid w n front [] Write p q))

@@ -1,0 +1,24 @@
+use Rattle.std.proofs.Common.{rules, ap, Some, FitsSigned, w64}
+use Rattle.std.proofs.lemmas.Int.{to_z-of_z}
+use Rattle.ipc_column.specs.declared.slot_view.Slot.TheVariants as slot
+use Rattle.job_print.proofs.SlotTexts.{slot_csv}
+use Rattle.job_print.proofs.csv_row.put_number_slot.Goals as goal
+
+pub returns-in-Int-clause-ok : goal.returns-in-Int-clause-ok
+returns-in-Int-clause-ok c =
+    let fits : FitsSigned w64 c.in-Int.number = search rules in
+    rw (slot_csv c.args.dialect.now c.args.kind.now c.args.tree.now c.args.slot (slot.Int c.in-Int.number) (rw c.in-Int.is at
+    c.requires.held)) (rw
+    (to_z-of_z w64 c.in-Int.number fits) at c.put_int.ensures.ok c.args.dialect.now)
+
+pub returns-in-Int-clause-refused : goal.returns-in-Int-clause-refused
+returns-in-Int-clause-refused c =
+    let fits : FitsSigned w64 c.in-Int.number = search rules in
+    rw (slot_csv c.args.dialect.now c.args.kind.now c.args.tree.now c.args.slot (slot.Int c.in-Int.number) (rw c.in-Int.is at
+    c.requires.held))
+    (rw (to_z-of_z w64 c.in-Int.number fits) at c.put_int.ensures.refused)
+
+pub returns-in_ok-put_null-in-Null-clause-ok : goal.returns-in_ok-put_null-in-Null-clause-ok
+returns-in_ok-put_null-in-Null-clause-ok c = rw (slot_csv c.args.dialect.now c.args.kind.now c.args.tree.now c.args.slot slot.Null (rw
+    c.in-Null.is at c.requires.held))
+    (ap Some c.in_ok-put_null-in-Null.ensures.text)

@@ -1,0 +1,152 @@
+use Rattle.std.proofs.Common.{◌≡◌, ◌∙◌, ap, subst, sym, inl, inr}
+use Rattle.std.proofs.lemmas.Result.{err_from_is_err_and}
+use Rattle.ipc_model.specs.declared.schema.Schema.{Schema}
+use Rattle.ipc_stream.proofs.Reporting.{progressed_all, progressed_break, progressed_end, progressed_less, progressed_more}
+use Rattle.ipc_stream.proofs.Reporting.{progressed_none}
+use Rattle.job_print.specs.Columns.{AreNumberColumns}
+use Rattle.job_print.specs.Output.{output}
+use Rattle.job_print.proofs.BatchesRead.{batches_none, batches_limited, batches_more, batches_cut, batches_unsent}
+use Rattle.job_print.proofs.BatchesRead.{batches_refused, batches_end, batches_unmarked, batches_break, found_shown}
+use Rattle.job_print.proofs.printing.print_batches.Goals as goal
+
+pub loop-form-init : goal.loop-form-init
+loop-form-init g c = record {
+  printed = rw c.none-tally.ensures (batches_none c.args.options c.args.stream.now _ c.requires.reading c.requires.empty);
+  reported = λ limits start o. rw c.none-tally.ensures (progressed_none start _ _ o);
+}
+
+pub print_batch-requires-clause-numbers : goal.print_batch-requires-clause-numbers
+print_batch-requires-clause-numbers g c =
+    let below = c.has_reached.ensures.below _ c.loop-form.invariant.printed.tallies.1 c.if-has_reached.false in
+    let next = rw c.in-Ok-Some.field-0-is at c.in-Ok-Some.ensures.next in
+    let is : c.fields-fields.result.now ≡ c.args.stream.now.schema.fields =
+    c.fields-fields.ensures ∙ ap (λ (s : Schema). s.fields) (next.same_schema ∙ c.loop-form.invariant.printed.same) in
+    λ columns. found_shown c.args.options _ _ _ _ _ _ c.loop-form.invariant.printed below (c.in-Ok-Some.batch, c.in-Ok-Some.pairs) next
+    (subst AreNumberColumns is columns)
+
+pub returns-in_err-refused-in-Ok-Some-clause-prints : goal.returns-in_err-refused-in-Ok-Some-clause-prints
+returns-in_err-refused-in-Ok-Some-clause-prints g c =
+    let p = err_from_is_err_and c.from_residual.result c.from_residual.ensures.1 in
+    let below = c.has_reached.ensures.below _ c.loop-form.invariant.printed.tallies.1 c.if-has_reached.false in
+    let next = rw c.in-Ok-Some.field-0-is at c.in-Ok-Some.ensures.next in
+    let is : c.fields-fields.result.now ≡ c.args.stream.now.schema.fields =
+    c.fields-fields.ensures ∙ ap (λ (s : Schema). s.fields) (next.same_schema ∙ c.loop-form.invariant.printed.same) in
+    let wants = rw c.rows.ensures at (c.count_wanted-count.ensures.wanted _ c.loop-form.invariant.printed.tallies.1) in
+    rw (p.1, p.2) (batches_cut c.args.options _ _ _ _ _ _ c.loop-form.invariant.printed below c.fields-fields.result.now
+    (c.in-Ok-Some.batch, c.in-Ok-Some.pairs) _ _ _
+    c.print_batch.new.lines _ wants is next c.in-Ok-Some.ensures.failures (rw c.deref.ensures at c.in_err-refused-in-Ok-Some.ensures))
+
+pub returns-in-Some-clause-prints : goal.returns-in-Some-clause-prints
+returns-in-Some-clause-prints g c =
+    let below = c.has_reached.ensures.below _ c.loop-form.invariant.printed.tallies.1 c.if-has_reached.false in
+    let next = rw c.in-Ok-Some.field-0-is at c.in-Ok-Some.ensures.next in
+    let is : c.fields-fields.result.now ≡ c.args.stream.now.schema.fields =
+    c.fields-fields.ensures ∙ ap (λ (s : Schema). s.fields) (next.same_schema ∙ c.loop-form.invariant.printed.same) in
+    let wants = rw c.rows.ensures at (c.count_wanted-count.ensures.wanted _ c.loop-form.invariant.printed.tallies.1) in
+    batches_refused c.args.options _ _ _ _ _ _ c.loop-form.invariant.printed below c.fields-fields.result.now
+    (c.in-Ok-Some.batch, c.in-Ok-Some.pairs) _
+    (g.W.Sink.written c.print_batch.new.sink) (g.W.Sink.failures c.print_batch.new.sink) c.print_batch.new.lines c.in-Some.fault
+    wants is next
+    c.in-Ok-Some.ensures.failures (rw (c.in-Some.is, c.deref.ensures) at c.in_ok-refused-in-Ok-Some.ensures)
+
+pub returns-in_err-flush-in-Ok-Some-clause-prints : goal.returns-in_err-flush-in-Ok-Some-clause-prints
+returns-in_err-flush-in-Ok-Some-clause-prints g c =
+    let p = err_from_is_err_and c.from_residual-in_err-flush-in-Ok-Some.result c.from_residual-in_err-flush-in-Ok-Some.ensures.1 in
+    let below = c.has_reached.ensures.below _ c.loop-form.invariant.printed.tallies.1 c.if-has_reached.false in
+    let next = rw c.in-Ok-Some.field-0-is at c.in-Ok-Some.ensures.next in
+    let is : c.fields-fields.result.now ≡ c.args.stream.now.schema.fields =
+    c.fields-fields.ensures ∙ ap (λ (s : Schema). s.fields) (next.same_schema ∙ c.loop-form.invariant.printed.same) in
+    let wants = rw c.rows.ensures at (c.count_wanted-count.ensures.wanted _ c.loop-form.invariant.printed.tallies.1) in
+    rw (p.1, p.2, c.in_err-flush-in-Ok-Some.ensures.works) (batches_unsent c.args.options _ _ _ _ _ _ c.loop-form.invariant.printed below
+    c.fields-fields.result.now (c.in-Ok-Some.batch, c.in-Ok-Some.pairs) _
+    (g.W.Sink.written c.print_batch.new.sink) (g.W.Sink.written c.flush.new.sink) (g.W.Sink.failures c.print_batch.new.sink)
+    (g.W.Sink.failures c.flush.new.sink) c.print_batch.new.lines wants is next c.in-Ok-Some.ensures.failures
+    (rw (c.in_default.is, c.deref.ensures) at c.in_ok-refused-in-Ok-Some.ensures)
+    (rw c.in_err-flush-in-Ok-Some.ensures.works at c.in_err-flush-in-Ok-Some.ensures.puts))
+
+pub loop-form-preserved : goal.loop-form-preserved
+loop-form-preserved g c =
+    let below = c.has_reached.ensures.below _ c.loop-form.invariant.printed.tallies.1 c.if-has_reached.false in
+    let next = rw c.in-Ok-Some.field-0-is at c.in-Ok-Some.ensures.next in
+    let is : c.fields-fields.result.now ≡ c.args.stream.now.schema.fields =
+    c.fields-fields.ensures ∙ ap (λ (s : Schema). s.fields) (next.same_schema ∙ c.loop-form.invariant.printed.same) in
+    let wants = rw c.rows.ensures at (c.count_wanted-count.ensures.wanted _ c.loop-form.invariant.printed.tallies.1) in
+    record {
+      printed = rw c.reuse.ensures (batches_more c.args.options _ _ _ _ _ _ c.loop-form.invariant.printed below c.fields-fields.result.now
+          (c.in-Ok-Some.batch, c.in-Ok-Some.pairs)
+          _ c.with_batch-tally.result
+          (g.W.Sink.written c.print_batch.new.sink) (g.W.Sink.failures c.print_batch.new.sink) c.print_batch.new.lines
+          (output (g.W.Sink.written c.flush.new.sink) (g.W.Sink.failures c.flush.new.sink) c.flush.new.self)
+          wants c.with_batch-tally.ensures.batches (rw c.rows-in-Ok-Some.ensures at c.with_batch-tally.ensures.rows) is next
+          c.in-Ok-Some.ensures.failures
+          (rw (c.in_default.is, c.deref.ensures) at c.in_ok-refused-in-Ok-Some.ensures)
+          (rw c.in_ok-flush-in-Ok-Some.ensures.empty c.in_ok-flush-in-Ok-Some.ensures.puts) c.in_ok-flush-in-Ok-Some.ensures.empty);
+      reported = λ limits start o.
+          rw c.reuse.ensures (progressed_more start _ _ _ _ _ (c.loop-form.invariant.reported limits start o) _
+          c.loop-form.invariant.printed.reading (c.in-Ok-Some.batch, c.in-Ok-Some.pairs) _ _ _ next c.with_batch-tally.ensures.batches
+          (rw c.rows-in-Ok-Some.ensures at c.with_batch-tally.ensures.rows) (rw c.taken.ensures at c.batch_done.ensures));
+    }
+
+pub returns-in-Ok-clause-prints : goal.returns-in-Ok-clause-prints
+returns-in-Ok-clause-prints g c =
+    let below = c.has_reached.ensures.below _ c.loop-form.invariant.printed.tallies.1 c.if-has_reached.false in
+    batches_end c.args.options _ _ _ _ _ _ c.loop-form.invariant.printed below c.end.result c.unwrap_or-end.result _
+    (rw c.in-Ok-None.field-0-is at c.in-Ok-None.ensures.next) c.in-Ok-None.ensures.failures c.end.ensures c.unwrap_or-end.ensures
+    (sym c.check_end.ensures ∙ c.in-Ok.is)
+
+pub returns-in-Err-check_end-clause-prints : goal.returns-in-Err-check_end-clause-prints
+returns-in-Err-check_end-clause-prints g c =
+    let below = c.has_reached.ensures.below _ c.loop-form.invariant.printed.tallies.1 c.if-has_reached.false in
+    batches_unmarked c.args.options _ _ _ _ _ _ c.loop-form.invariant.printed below c.end.result c.unwrap_or-end.result
+    c.in-Err-check_end.missing
+    (rw c.in-Ok-None.field-0-is at c.in-Ok-None.ensures.next) c.in-Ok-None.ensures.failures c.end.ensures c.unwrap_or-end.ensures
+    (sym c.check_end.ensures ∙ c.in-Err-check_end.is)
+
+pub returns-in-Err-clause-prints : goal.returns-in-Err-clause-prints
+returns-in-Err-clause-prints g c =
+    let below = c.has_reached.ensures.below _ c.loop-form.invariant.printed.tallies.1 c.if-has_reached.false in
+    batches_break c.args.options _ _ _ _ _ _ c.loop-form.invariant.printed below c.in-Err.fault c.in-Err.ensures.next
+    c.in-Err.ensures.failures
+
+pub returns-then-has_reached-clause-prints : goal.returns-then-has_reached-clause-prints
+returns-then-has_reached-clause-prints g c =
+    batches_limited c.args.options _ _ _ _ _ c.loop-form.invariant.printed (c.has_reached.ensures.reached c.if-has_reached.true)
+
+pub returns-in_err-refused-in-Ok-Some-clause-reports : goal.returns-in_err-refused-in-Ok-Some-clause-reports
+returns-in_err-refused-in-Ok-Some-clause-reports g c = λ limits start o.
+    let p = err_from_is_err_and c.from_residual.result c.from_residual.ensures.1 in
+    let next = rw c.in-Ok-Some.field-0-is at c.in-Ok-Some.ensures.next in
+    rw p.1 (progressed_less start _ _ _ _ _ (c.loop-form.invariant.reported limits start o) _ c.loop-form.invariant.printed.reading
+    (c.in-Ok-Some.batch, c.in-Ok-Some.pairs) next)
+
+pub returns-in-Some-clause-reports : goal.returns-in-Some-clause-reports
+returns-in-Some-clause-reports g c = λ limits start o.
+    let next = rw c.in-Ok-Some.field-0-is at c.in-Ok-Some.ensures.next in
+    progressed_less start _ _ _ _ _ (c.loop-form.invariant.reported limits start o) _ c.loop-form.invariant.printed.reading
+    (c.in-Ok-Some.batch, c.in-Ok-Some.pairs) next
+
+pub returns-in_err-flush-in-Ok-Some-clause-reports : goal.returns-in_err-flush-in-Ok-Some-clause-reports
+returns-in_err-flush-in-Ok-Some-clause-reports g c = λ limits start o.
+    let p = err_from_is_err_and c.from_residual-in_err-flush-in-Ok-Some.result c.from_residual-in_err-flush-in-Ok-Some.ensures.1 in
+    let next = rw c.in-Ok-Some.field-0-is at c.in-Ok-Some.ensures.next in
+    rw p.1 (progressed_less start _ _ _ _ _ (c.loop-form.invariant.reported limits start o) _ c.loop-form.invariant.printed.reading
+    (c.in-Ok-Some.batch, c.in-Ok-Some.pairs) next)
+
+pub returns-in-Ok-clause-reports : goal.returns-in-Ok-clause-reports
+returns-in-Ok-clause-reports g c = λ limits start o.
+    progressed_end start _ _ _ _ _ (c.loop-form.invariant.reported limits start o) _ c.loop-form.invariant.printed.reading
+    (rw c.in-Ok-None.field-0-is at c.in-Ok-None.ensures.next)
+
+pub returns-in-Err-check_end-clause-reports : goal.returns-in-Err-check_end-clause-reports
+returns-in-Err-check_end-clause-reports g c = λ limits start o.
+    inr (progressed_end start _ _ _ _ _ (c.loop-form.invariant.reported limits start o) _ c.loop-form.invariant.printed.reading
+    (rw c.in-Ok-None.field-0-is at c.in-Ok-None.ensures.next))
+
+pub returns-in-Err-clause-reports : goal.returns-in-Err-clause-reports
+returns-in-Err-clause-reports g c = λ limits start o.
+    inl (progressed_break start _ _ _ _ _ (c.loop-form.invariant.reported limits start o) _ c.loop-form.invariant.printed.reading
+    c.in-Err.fault c.in-Err.ensures.next)
+
+pub returns-then-has_reached-clause-reports : goal.returns-then-has_reached-clause-reports
+returns-then-has_reached-clause-reports g c = λ limits start o.
+    progressed_all start _ _ _ _ _ (c.loop-form.invariant.reported limits start o)

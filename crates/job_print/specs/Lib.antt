@@ -1,0 +1,17 @@
+pub mod Columns
+pub mod LentRows
+pub mod Digits
+pub mod Escaped
+pub mod FirstRows
+pub mod Forms
+pub mod SlotReaders
+pub mod Entries
+pub mod Output
+pub mod RowTexts
+pub mod Reporting
+pub mod Rows
+pub mod Streams
+pub mod TreeFalls
+pub mod Trees
+pub mod Unquoted
+pub mod LentSlots

@@ -1,0 +1,37 @@
+-- Which batches are reported when a stream is printed.
+use Rattle.std.specs.Prelude.{ℕ, List, Option, Result, Ok, Err, ⊤}
+use Rattle.ipc_model.specs.declared.limits.Limits.{Limits}
+use Rattle.ipc_stream.specs.Progress.{Report, ReportsAll, ReportsBefore, ReportsSome}
+use Rattle.job_print.specs.declared.rows.PrintFault.{PrintFault}
+use Rattle.job_print.specs.declared.stop.Outcome.{Outcome}
+use Rattle.job_print.specs.declared.stop.Outcome.TheVariants as o
+use Rattle.job_print.specs.declared.stop.PrintStop.{PrintStop}
+use Rattle.job_print.specs.declared.stop.PrintStop.TheVariants as stop
+
+-- what a result states about the reports: at Ok, and where reading broke off, each batch that was
+-- read was reported, in order. Where a row has no text or writing failed, the last one that was
+-- read may have no report
+abbrev pub ReportsPrintedBatches : Limits → Option (List ℕ) → Option (List ℕ) → Option (List Report)
+    → Option (List Report) → Result ⊤ PrintStop → Type 0
+ReportsPrintedBatches limits old new told_old told_new (Ok done) =
+    ReportsAll limits old new told_old told_new
+ReportsPrintedBatches limits old new told_old told_new (Err (stop.Read fault message)) =
+    ReportsBefore limits old new told_old told_new fault
+ReportsPrintedBatches limits old new told_old told_new (Err (stop.Write fault)) =
+    ReportsSome limits old new told_old told_new
+ReportsPrintedBatches limits old new told_old told_new (Err (stop.Text fault)) =
+    ReportsSome limits old new told_old told_new
+
+-- what the outcome of printing rows states about the reports, as `ReportsPrintedBatches`
+abbrev pub ReportsOutcome : Limits → Option (List ℕ) → Option (List ℕ) → Option (List Report)
+    → Option (List Report) → Result Outcome PrintFault → Type 0
+ReportsOutcome limits old new told_old told_new (Ok (o.Refused fault)) =
+    ReportsSome limits old new told_old told_new
+ReportsOutcome limits old new told_old told_new (Ok (o.Broken fault)) =
+    ReportsBefore limits old new told_old told_new fault
+ReportsOutcome limits old new told_old told_new (Ok (o.Whole end tally)) =
+    ReportsAll limits old new told_old told_new
+ReportsOutcome limits old new told_old told_new (Ok o.Limited) =
+    ReportsAll limits old new told_old told_new
+ReportsOutcome limits old new told_old told_new (Err fault) =
+    ReportsSome limits old new told_old told_new

@@ -1,0 +1,256 @@
+//! The rows of a batch as text, in each form.
+ghost use Rattle.std.specs.Prelude.{◌≡◌, ◌≤◌, [], length, take, Bool, IfOk, IfSome, IsSome, IsTrue};
+ghost use Rattle.std.specs.Prelude.{None};
+ghost use Rattle.ipc_text_csv.specs.RowCsv.{flat_fault};
+ghost use Rattle.ipc_text_json.specs.declared.row.RowShape.TheVariants.{Array};
+ghost use Rattle.job_print.specs.Columns.{AreNumberColumns};
+ghost use Rattle.job_print.specs.LentRows.{AreColumnsOfRows};
+ghost use Rattle.job_print.specs.Forms.{form_fault, batch_heading, pairs_line};
+ghost use Rattle.job_print.specs.Streams.{PutsRows};
+ghost use Rattle.job_print.specs.Output.{PrintsAs, output};
+ghost use Rattle.job_print.specs.Rows.{AreNumberRows};
+
+use crate::column_reader::ColumnReader;
+use crate::form::Form;
+use crate::line::{INITIAL_LINE_LEN, fitted_line_of};
+use crate::rows::{LineBuffer, PrintFault, numbers_of};
+use crate::types::are_numbers;
+use ipc_column::Batch;
+use ipc_model::{Field, Text};
+use ipc_stream::Sink;
+use ipc_text_csv::Dialect;
+use ipc_text_json::{RowShape, pairs_json};
+use ipc_text_temporal::TextFault;
+use std::alloc::{AllocError, Global};
+
+// The columns of a batch, each found once for all rows.
+fn column_readers(alloc: Global, batch: &Batch) -> Result<Vec<ColumnReader<'_>>, AllocError>
+    ensures count { IfOk result (λ columns. length columns.items ≡ batch.now.columns) }
+    ensures same { IfOk result (λ columns. AreColumnsOfRows batch.now.rows columns.items) }
+{
+    let mut columns = Vec::with_capacity(alloc, batch.columns())?;
+    for number in 0..batch.columns() {
+        columns.push(ColumnReader::new(alloc, batch.column(number))?)?;
+    }
+    Ok(columns)
+}
+
+// Adds the first `count` rows of a batch, line by line, as `print_batch`.
+fn print_lines<W: Sink>(
+    alloc: Global,
+    form: Form<'_>,
+    fields: &[Field],
+    batch: &Batch,
+    count: usize,
+    lines: &mut LineBuffer,
+    sink: &mut W,
+) -> Result<Option<TextFault>, PrintFault>
+    requires columns { batch.now.columns ≡ length fields.now }
+    requires count { count ≤ length batch.now.rows }
+    requires fits { form_fault form fields.now ≡ None }
+    ensures { PutsRows form.entry fields.now [] (take count batch.now.rows)
+        (output (W.written sink.old) (W.failures sink.old) lines.old) (W.written sink.new)
+        (W.failures sink.new) lines.new result }
+{
+    let columns = column_readers(alloc, batch)?;
+    let mut text = vec![in alloc; 0u8; INITIAL_LINE_LEN]?;
+    for row in 0..count {
+        if lines.put_line(form, fields, &columns, row) {
+            continue;
+        }
+        let end = match fitted_line_of(form, &mut text, fields, &columns, row) {
+            Ok(end) => end,
+            Err(TextFault::OutOfMemory) => return Err(PrintFault::OutOfMemory),
+            Err(fault) => return Ok(Some(fault)),
+        };
+        lines.put(sink, &text[..end])?;
+    }
+    Ok(None)
+}
+
+// Whether nothing is printed of a row.
+fn prints_no_rows(form: Form<'_>) -> bool
+    ensures { IsTrue result → form.entry ≡ Form.Counts }
+{
+    matches!(form, Form::Counts)
+}
+
+// Whether rows of these columns are printed in bulk.
+fn is_numeric(form: Form<'_>, fields: &[Field]) -> bool
+    ensures rows { IsTrue result → (pairs : Bool) × (form.entry ≡ Form.Rows Array pairs) }
+    ensures shown { IsTrue result → AreNumberColumns fields.now }
+{
+    matches!(
+        form,
+        Form::Rows {
+            shape: RowShape::Array,
+            ..
+        }
+    ) && are_numbers(fields)
+}
+
+// The line of a batch's pairs: a JSON object with the one member `metadata`.
+fn line_of_pairs(alloc: Global, pairs: &[(Text, Text)]) -> Result<Vec<u8>, TextFault>
+    ensures { IfOk result (λ line. line.items ≡ pairs_line pairs.now) }
+{
+    let mut line = Vec::new(alloc);
+    line.extend_from_slice(b"{\"metadata\":")?;
+    line.extend_from_slice(pairs_json(alloc, pairs)?.as_bytes())?;
+    line.extend_from_slice(b"}\n")?;
+    Ok(line)
+}
+
+// The dialect of CSV in which rows of these columns are printed as records of numbers, if they are.
+fn record_dialect<'a>(form: Form<'a>, fields: &[Field]) -> Option<Dialect<'a>>
+    ensures form { IfSome result (λ d. form.entry ≡ Form.Records d) }
+    ensures shown { IsSome result → AreNumberColumns fields.now }
+{
+    let Form::Records(dialect) = form else {
+        return None;
+    };
+    if are_numbers(fields) {
+        Some(dialect)
+    } else {
+        None
+    }
+}
+
+// Adds the rows of a batch of numbers as records of CSV: at once where each column lends its
+// numbers.
+fn print_records<W: Sink>(
+    alloc: Global,
+    dialect: Dialect<'_>,
+    fields: &[Field],
+    batch: &Batch,
+    lines: &mut LineBuffer,
+    sink: &mut W,
+) -> Result<Option<TextFault>, PrintFault>
+    requires columns { batch.now.columns ≡ length fields.now }
+    requires fits { flat_fault fields.now ≡ None }
+    requires shown { AreNumberColumns fields.now }
+    ensures { PutsRows (Form.Records dialect.entry) fields.now [] batch.now.rows
+        (output (W.written sink.old) (W.failures sink.old) lines.old) (W.written sink.new)
+        (W.failures sink.new) lines.new result }
+{
+    let _columns = batch.columns();
+    match numbers_of(alloc, batch)? {
+        Some(columns) => {
+            lines.put_records(sink, dialect, &columns, batch)?;
+            Ok(None)
+        }
+        None => print_lines(
+            alloc,
+            Form::Records(dialect),
+            fields,
+            batch,
+            batch.rows(),
+            lines,
+            sink,
+        ),
+    }
+}
+
+// Adds the line before a batch's rows, if the form has one.
+fn print_head<W: Sink>(
+    alloc: Global,
+    form: Form<'_>,
+    pairs: &[(Text, Text)],
+    lines: &mut LineBuffer,
+    sink: &mut W,
+) -> Result<(), PrintFault>
+    ensures { PrintsAs (output (W.written sink.old) (W.failures sink.old) lines.old)
+        (W.written sink.new) (W.failures sink.new) lines.new (batch_heading form.entry pairs.now)
+        result }
+{
+    match form {
+        Form::Rows { pairs: true, .. } => match line_of_pairs(alloc, pairs) {
+            Ok(line) => lines.put(sink, line.as_slice()),
+            Err(_) => Err(PrintFault::OutOfMemory),
+        },
+        Form::Counts | Form::Rows { pairs: false, .. } | Form::Records(_) => Ok(()),
+    }
+}
+
+// Adds all rows of a batch, as `print_batch`.
+fn print_all<W: Sink>(
+    alloc: Global,
+    form: Form<'_>,
+    fields: &[Field],
+    batch: &Batch,
+    lines: &mut LineBuffer,
+    sink: &mut W,
+) -> Result<Option<TextFault>, PrintFault>
+    requires columns { batch.now.columns ≡ length fields.now }
+    requires fits { form_fault form fields.now ≡ None }
+    requires numbers { AreNumberColumns fields.now → AreNumberRows batch.now.rows }
+    ensures { PutsRows form.entry fields.now [] batch.now.rows
+        (output (W.written sink.old) (W.failures sink.old) lines.old) (W.written sink.new)
+        (W.failures sink.new) lines.new result }
+{
+    if is_numeric(form, fields) {
+        let _columns = batch.columns();
+        lines.put_numbers(alloc, sink, batch)?;
+        return Ok(None);
+    }
+    if let Some(dialect) = record_dialect(form, fields) {
+        return print_records(alloc, dialect, fields, batch, lines, sink);
+    }
+    print_lines(alloc, form, fields, batch, batch.rows(), lines, sink)
+}
+
+// Adds the first `count` rows of a batch, as `print_batch`.
+fn print_batch_rows<W: Sink>(
+    alloc: Global,
+    form: Form<'_>,
+    fields: &[Field],
+    batch: &Batch,
+    count: usize,
+    lines: &mut LineBuffer,
+    sink: &mut W,
+) -> Result<Option<TextFault>, PrintFault>
+    requires columns { batch.now.columns ≡ length fields.now }
+    requires count { count ≤ length batch.now.rows }
+    requires fits { form_fault form fields.now ≡ None }
+    requires numbers { AreNumberColumns fields.now → AreNumberRows batch.now.rows }
+    ensures { PutsRows form.entry fields.now [] (take count batch.now.rows)
+        (output (W.written sink.old) (W.failures sink.old) lines.old) (W.written sink.new)
+        (W.failures sink.new) lines.new result }
+{
+    if prints_no_rows(form) {
+        return Ok(None);
+    }
+    if count < batch.rows() {
+        return print_lines(alloc, form, fields, batch, count, lines, sink);
+    }
+    print_all(alloc, form, fields, batch, lines, sink)
+}
+
+/// Adds a batch in this form: its head, which has its pairs if the form prints them, and its first
+/// `count` rows. Returns why a row isn't added, if one isn't: X3 in CSV. Then the rows before it
+/// were added.
+///
+/// The caller gives at most the number of the batch's rows, and the fields of the batch's columns,
+/// which the form has a place for. `Write` is returned if the sink failed, and `OutOfMemory` if a
+/// line found no room. Then a beginning of the batch's text went out, and what was kept is lost.
+pub fn print_batch<W: Sink>(
+    alloc: Global,
+    form: Form<'_>,
+    fields: &[Field],
+    pairs: &[(Text, Text)],
+    batch: &Batch,
+    count: usize,
+    lines: &mut LineBuffer,
+    sink: &mut W,
+) -> Result<Option<TextFault>, PrintFault>
+    requires columns { batch.now.columns ≡ length fields.now }
+    requires count { count ≤ length batch.now.rows }
+    requires fits { form_fault form fields.now ≡ None }
+    requires numbers { AreNumberColumns fields.now → AreNumberRows batch.now.rows }
+    ensures { PutsRows form.entry fields.now (batch_heading form.entry pairs.now) (take count
+        batch.now.rows)
+        (output (W.written sink.old) (W.failures sink.old) lines.old) (W.written sink.new)
+        (W.failures sink.new) lines.new result }
+{
+    print_head(alloc, form, pairs, lines, sink)?;
+    print_batch_rows(alloc, form, fields, batch, count, lines, sink)
+}

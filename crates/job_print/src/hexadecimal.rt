@@ -1,0 +1,87 @@
+//! Bytes as hexadecimal digits at a place, sixteen bytes at a time.
+//!
+//! A digit is reckoned and not looked up, so that the digits of sixteen bytes are found at once.
+ghost use Rattle.std.specs.Prelude.{◌≡◌, ◌≤◌, ◌<◌, ◌+◌, ◌*◌, ◌++◌, ◌∷◌, [], length, take, IfOk};
+ghost use Rattle.std.specs.Char.{digit_char};
+ghost use Rattle.hex.specs.Hex.{encode_lower};
+
+use crate::buffer_space::reserve;
+use crate::rows::put_word;
+use std::alloc::AllocError;
+
+/// The digit of a number below 16, in lower case.
+#[inline(always)]
+pub(crate) fn hex_digit(number: u8) -> u8
+    requires { number < 16 }
+    ensures { result ≡ digit_char number }
+{
+    if number < 10 {
+        b'0' + number
+    } else {
+        b'a' + (number - 10)
+    }
+}
+
+// The two digits of a byte.
+#[inline(always)]
+fn digits_of(byte: u8) -> [u8; 2]
+    ensures { result ≡ encode_lower (byte ∷ []) }
+{
+    [hex_digit(byte / 16), hex_digit(byte % 16)]
+}
+
+// Writes two digits for each byte, and returns where they end.
+#[inline(always)]
+fn put_digits(text: &mut [u8], at: usize, bytes: &[u8]) -> usize
+    requires { at + 2 * length bytes.now ≤ length text.old }
+    ensures end { result ≡ at + 2 * length bytes.now }
+    ensures text { take result text.new ≡ take at text.old ++ encode_lower bytes.now }
+{
+    let mut end = at;
+    for byte in bytes {
+        end = put_word(text, end, &digits_of(*byte));
+    }
+    end
+}
+
+// The digits of sixteen bytes.
+#[inline(always)]
+fn sixteen_digits(bytes: &[u8; 16]) -> [u8; 32]
+    ensures { result ≡ encode_lower bytes.now }
+{
+    let mut digits = [0; 32];
+    put_digits(&mut digits, 0, bytes);
+    digits
+}
+
+// Writes two digits for each byte, sixteen bytes at a time, and returns where they end.
+#[inline(always)]
+fn put_many_digits(text: &mut [u8], at: usize, bytes: &[u8]) -> usize
+    requires { at + 2 * length bytes.now ≤ length text.old }
+    ensures end { result ≡ at + 2 * length bytes.now }
+    ensures text { take result text.new ≡ take at text.old ++ encode_lower bytes.now }
+{
+    let mut end = at;
+    let mut rest = bytes;
+    while let Some((first, more)) = rest.split_first_chunk::<16>() {
+        end = put_word(text, end, &sixteen_digits(first));
+        rest = more;
+    }
+    put_digits(text, end, rest)
+}
+
+/// Writes two lower-case digits for each byte from `at` on, and returns where they end. It refuses
+/// only where the buffer ends before.
+#[inline(always)]
+pub fn put_hexadecimal(text: &mut [u8], at: usize, bytes: &[u8]) -> Result<usize, AllocError>
+    requires { at ≤ length text.old }
+    ensures inside { IfOk result (λ end. end ≤ length text.new) }
+    ensures text { IfOk result (λ end. take end text.new
+        ≡ take at text.old ++ encode_lower bytes.now) }
+{
+    let Some(count) = bytes.len().checked_mul(2) else {
+        return Err(AllocError);
+    };
+    reserve(text, at, count)?;
+    Ok(put_many_digits(text, at, bytes))
+}

@@ -1,0 +1,35 @@
+//! The rows of a stream as text: its counts, lines of JSON, or records of CSV.
+#![tactic(auto)]
+
+mod batch_text;
+mod bool_words;
+mod buffer_space;
+mod bytes;
+mod column_reader;
+mod copies;
+mod csv_row;
+mod digits;
+mod entry;
+mod fields;
+mod form;
+mod hexadecimal;
+mod json_row;
+mod limit;
+mod line;
+mod plain;
+mod printing;
+mod rows;
+mod schema;
+mod short_rows;
+mod slot_reader;
+mod stop;
+mod strings;
+mod tree;
+mod types;
+mod unquoted;
+
+pub use digits::{put_i64, put_u64};
+pub use form::{Form, PrintOptions};
+pub use printing::print;
+pub use schema::print_schema;
+pub use stop::PrintStop;

@@ -1,0 +1,363 @@
+//! A stream is read, and its rows are printed as they come.
+ghost use Rattle.std.specs.Prelude.{◌≡◌, ◌++◌, ◌∷◌, ℕ, List, [], length, Some, IfErr, IfOk, OnOk};
+ghost use Rattle.std.specs.Prelude.{decimal, None, Ok, Option, false};
+ghost use Rattle.ipc_stream_read.specs.Stream.{Denotes};
+ghost use Rattle.ipc_stream_read.specs.declared.end.End.TheVariants.{Closed, Mark};
+ghost use Rattle.ipc_stream_read.specs.declared.stream_phase.StreamPhase.TheVariants.{Reading};
+ghost use Rattle.ipc_stream_read.specs.Reader.{Opens};
+ghost use Rattle.ipc_model.specs.declared.limits.Limits.{Limits};
+ghost use Rattle.ipc_model.specs.declared.table.Table.{Table};
+ghost use Rattle.ipc_text_csv.specs.RowCsv.{unless_fault};
+ghost use Rattle.ipc_text_json.specs.SchemaJson.{schema_text};
+ghost use Rattle.job_print.specs.Forms.{counts_text, form_fault, front_text};
+ghost use Rattle.job_print.specs.Output.{output, PrintsAs};
+ghost use Rattle.job_print.specs.Reporting.{ReportsPrintedBatches, ReportsOutcome};
+ghost use Rattle.job_print.specs.Streams.{AnswersFirst, AnswersPrintedTable, IsReadToEnd, Prints};
+ghost use Rattle.job_print.specs.Streams.{PrintsAll};
+ghost use Rattle.job_print.specs.Streams.{PrintsBatches, as_required};
+ghost use Rattle.job_print.specs.Streams.{PrintsSome, PrintsStream, ReachesLimit};
+ghost use Rattle.job_print.specs.Streams.{CountsPrintFailures};
+ghost use Rattle.job_print.specs.Streams.{exit_status, outcome_tail, write_fault};
+
+use crate::batch_text::print_batch;
+use crate::form::{Form, PrintOptions};
+use crate::limit::{count_wanted, has_reached};
+use crate::rows::{LineBuffer, PrintFault};
+use crate::stop::{Outcome, PrintCounts, PrintStop};
+use ipc_model::{Fault, Limits, Schema, WriteFault};
+use ipc_stream::{End, Progress, Sink, Source, StreamReader};
+use ipc_text_csv::{check_flat, csv_header};
+use ipc_text_json::schema_json;
+use ipc_text_temporal::TextFault;
+use itoa::Buffer;
+use std::alloc::{AllocError, Global};
+
+// The end of a stream that was read, or F4 if it is not the mark that is required.
+fn check_end(end: End, require_mark: bool) -> Result<End, Fault>
+    ensures { result ≡ as_required require_mark (Ok end) }
+{
+    match end {
+        End::Mark => Ok(End::Mark),
+        End::Closed => {
+            if require_mark {
+                return Err(Fault::Truncated);
+            }
+            Ok(End::Closed)
+        }
+    }
+}
+
+// Prints the rows of a stream up to the limit, and tells how that ended. The text of each batch is
+// sent before the next one is read, and the batch is reported then.
+fn print_batches<R: Source, W: Sink, P: Progress>(
+    alloc: Global,
+    options: PrintOptions<'_>,
+    stream: &mut StreamReader<R>,
+    lines: &mut LineBuffer,
+    sink: &mut W,
+    progress: &mut P,
+) -> Result<Outcome, PrintFault>
+    requires reading { stream.old.phase ≡ Reading }
+    requires fits { form_fault options.form stream.old.schema.fields ≡ None }
+    requires empty { lines.old ≡ [] }
+    ensures schema { stream.new.schema ≡ stream.old.schema }
+    ensures limits { stream.new.limits ≡ stream.old.limits }
+    ensures prints { PrintsBatches options.entry [] stream.old stream.new
+        (output (W.written sink.old) (W.failures sink.old) lines.old)
+        (output (W.written sink.new) (W.failures sink.new) lines.new) result }
+    ensures reports { (limits : Limits) (start : Option (List ℕ)) → Opens limits start stream.old
+        → ReportsOutcome limits start stream.new.remaining (P.told progress.old)
+        (P.told progress.new) result }
+{
+    let form = options.form;
+    let mut tally = PrintCounts::none();
+    loop {
+        if has_reached(options.limit, tally.rows) {
+            return Ok(Outcome::Limited);
+        }
+        match stream.next() {
+            Ok(Some((batch, pairs))) => {
+                let fields = stream.fields();
+                let count = count_wanted(options.limit, tally.rows, batch.rows());
+                let refused = print_batch(alloc, form, fields, &pairs, &batch, count, lines, sink)?;
+                if let Some(fault) = refused {
+                    return Ok(Outcome::Refused(fault));
+                }
+                lines.flush(sink)?;
+                tally = tally.with_batch(batch.rows());
+                progress.batch_done(stream.taken(), tally.batches, tally.rows);
+                stream.reuse(batch);
+            }
+            // The reader has an end now, so none is made up.
+            Ok(None) => {
+                let end = stream.end().unwrap_or(End::Closed);
+                match check_end(end, options.require_mark) {
+                    Ok(_) => return Ok(Outcome::Whole(end, tally)),
+                    Err(missing) => return Ok(Outcome::Broken(missing)),
+                }
+            }
+            Err(fault) => return Ok(Outcome::Broken(fault)),
+        }
+    }
+}
+
+// The schema's JSON text and a line feed.
+fn schema_line(alloc: Global, schema: &Schema) -> Result<Vec<u8>, TextFault>
+    ensures { IfOk result (λ line. line.items ≡ schema_text schema.now ++ 10 ∷ []) }
+{
+    let mut line = schema_json(alloc, schema)?.into_bytes();
+    line.push(b'\n')?;
+    Ok(line)
+}
+
+// Appends a number in decimal and a word.
+fn push_count(out: &mut Vec<u8>, number: u64, word: &[u8]) -> Result<(), AllocError>
+    ensures { OnOk result (out.new.items ≡ out.old.items ++ decimal number ++ word.now) }
+{
+    let mut digits = Buffer::new();
+    out.extend_from_slice(digits.format(number).as_bytes())?;
+    out.extend_from_slice(word)
+}
+
+// How a stream ended, how many bytes were taken of it, and how many batches and rows it has.
+fn counts_line(
+    alloc: Global,
+    end: End,
+    bytes: u64,
+    tally: PrintCounts,
+) -> Result<Vec<u8>, AllocError>
+    ensures { IfOk result (λ line. line.items ≡ counts_text end bytes tally.batches tally.rows) }
+{
+    let mut line = Vec::new(alloc);
+    match end {
+        End::Mark => line.extend_from_slice(b"mark ")?,
+        End::Closed => line.extend_from_slice(b"closed ")?,
+    }
+    push_count(&mut line, bytes, b" bytes ")?;
+    push_count(&mut line, tally.batches, b" batches ")?;
+    push_count(&mut line, tally.rows, b" rows\n")?;
+    Ok(line)
+}
+
+// Prints what stands behind the rows, once they ended.
+fn print_tail<W: Sink>(
+    alloc: Global,
+    form: Form<'_>,
+    outcome: Outcome,
+    bytes: u64,
+    lines: &mut LineBuffer,
+    sink: &mut W,
+) -> Result<(), PrintFault>
+    ensures puts { PrintsAs (output (W.written sink.old) (W.failures sink.old) lines.old)
+        (W.written sink.new) (W.failures sink.new) lines.new (outcome_tail form.entry outcome bytes)
+        result }
+    ensures whole { IfErr result (λ fault. IsReadToEnd outcome) }
+{
+    let Outcome::Whole(end, tally) = outcome else {
+        return Ok(());
+    };
+    match form {
+        Form::Counts => {
+            let line = counts_line(alloc, end, bytes, tally)?;
+            lines.put(sink, line.as_slice())
+        }
+        Form::Rows { .. } | Form::Records(_) => Ok(()),
+    }
+}
+
+/// Prints what stands in front of the rows.
+pub(crate) fn print_front<W: Sink>(
+    alloc: Global,
+    form: Form<'_>,
+    schema: &Schema,
+    lines: &mut LineBuffer,
+    sink: &mut W,
+) -> Result<(), PrintFault>
+    requires fits { form_fault form schema.now.fields ≡ None }
+    ensures puts { PrintsAs (output (W.written sink.old) (W.failures sink.old) lines.old)
+        (W.written sink.new) (W.failures sink.new) lines.new (front_text form.entry schema.now)
+        result }
+{
+    match form {
+        Form::Counts => match schema_line(alloc, schema) {
+            Ok(line) => lines.put(sink, line.as_slice()),
+            Err(_) => Err(PrintFault::OutOfMemory),
+        },
+        Form::Rows { .. } => Ok(()),
+        Form::Records(dialect) => match csv_header(alloc, dialect, schema) {
+            Ok(header) => lines.put(sink, header.as_slice()),
+            Err(_) => Err(PrintFault::OutOfMemory),
+        },
+    }
+}
+
+// Prints a stream behind its schema. The text in front of the rows is sent before the first batch
+// is read, and what comes before a fault before that is returned.
+fn print_stream<R: Source, W: Sink, P: Progress>(
+    alloc: Global,
+    options: PrintOptions<'_>,
+    stream: &mut StreamReader<R>,
+    sink: &mut W,
+    progress: &mut P,
+) -> Result<Outcome, PrintFault>
+    requires reading { stream.old.phase ≡ Reading }
+    requires fits { form_fault options.form stream.old.schema.fields ≡ None }
+    ensures works { IfOk result (λ outcome. W.failures sink.new ≡ 0) }
+    ensures handed_on { IfOk result (λ outcome. W.held_back sink.new ≡ Some []) }
+    ensures prints { PrintsAll options.entry (front_text options.entry.form stream.old.schema)
+        stream.old
+        stream.new (output (W.written sink.old) (W.failures sink.old) [])
+        (output (W.written sink.new) (W.failures sink.new) []) result }
+    ensures reports { (limits : Limits) (start : Option (List ℕ)) → Opens limits start stream.old
+        → ReportsOutcome limits start stream.new.remaining (P.told progress.old)
+        (P.told progress.new) result }
+{
+    let mut lines = LineBuffer::new(alloc)?;
+    print_front(alloc, options.form, stream.schema(), &mut lines, sink)?;
+    lines.flush(sink)?;
+    let outcome = print_batches(alloc, options, stream, &mut lines, sink, progress)?;
+    print_tail(
+        alloc,
+        options.form,
+        outcome,
+        stream.taken(),
+        &mut lines,
+        sink,
+    )?;
+    lines.flush(sink)?;
+    Ok(outcome)
+}
+
+// Whether the form has a place for the columns.
+fn check_form(form: Form<'_>, schema: &Schema) -> Result<(), TextFault>
+    ensures { result ≡ unless_fault (form_fault form.entry schema.now.fields) (Ok tt) }
+{
+    match form {
+        Form::Counts | Form::Rows { .. } => Ok(()),
+        Form::Records(_) => check_flat(schema),
+    }
+}
+
+/// Why rows weren't printed, as a refusal of writing.
+pub(crate) fn write_fault_of(fault: PrintFault) -> WriteFault
+    ensures { result ≡ write_fault fault }
+{
+    match fault {
+        PrintFault::Write => WriteFault::Write,
+        PrintFault::OutOfMemory => WriteFault::OutOfMemory,
+    }
+}
+
+// Prints a stream whose schema was read.
+#[tactic(auto, using(crate::proofs::Reporting::none_reported))]
+fn print_open<R: Source, W: Sink, P: Progress>(
+    alloc: Global,
+    options: PrintOptions<'_>,
+    stream: &mut StreamReader<R>,
+    sink: &mut W,
+    progress: &mut P,
+) -> Result<(), PrintStop>
+    requires { stream.old.phase ≡ Reading }
+    ensures handed_on { OnOk result (W.held_back sink.new ≡ Some []) }
+    ensures prints { PrintsStream options.entry stream.old stream.new
+        (output (W.written sink.old) (W.failures sink.old) [])
+        (output (W.written sink.new) (W.failures sink.new) []) result }
+    ensures devices { stream.old.failures ≡ 0 → CountsPrintFailures stream.old.failures
+        stream.new.failures (W.failures sink.old) (W.failures sink.new) result }
+    ensures reports { (limits : Limits) (start : Option (List ℕ)) → Opens limits start stream.old
+        → ReportsPrintedBatches limits start stream.new.remaining (P.told progress.old)
+        (P.told progress.new) result }
+{
+    if let Err(fault) = check_form(options.form, stream.schema()) {
+        return Err(PrintStop::Text(fault));
+    }
+    match print_stream(alloc, options, stream, sink, progress) {
+        Ok(Outcome::Whole(..)) => Ok(()),
+        Ok(Outcome::Limited) => Ok(()),
+        Ok(Outcome::Broken(fault)) => Err(PrintStop::Read(fault, stream.messages())),
+        Ok(Outcome::Refused(fault)) => Err(PrintStop::Text(fault)),
+        Err(fault) => Err(PrintStop::Write(write_fault_of(fault))),
+    }
+}
+
+/// Prints the stream of `source` to `sink` by these options, batch by batch under these limits.
+/// Returns the source. What was printed before a refusal remains valid. No byte after an
+/// end-of-stream mark is read. At Ok the sink was flushed.
+///
+/// The text of the schema and of each batch is written, and the sink is flushed, before the next
+/// batch is read. A batch takes one write for each 64 KiB of its text, and at least one. After each
+/// batch that was printed, `progress` is called once; `()` ignores it.
+///
+/// With a limit of rows, printing ends with Ok at the last of them. The batch that has it is read
+/// whole, and no message after it; at limit 0 only the schema is read. No end-of-stream mark is
+/// required then, and `Form::Counts` prints no counts. A stream with fewer rows is printed as
+/// without a limit.
+///
+/// # Errors
+///
+/// - `Read`: the stream is refused, the source failed, or memory ran out in reading. It has the
+///   number of the message; the schema's is 0. A required end-of-stream mark that is missing is F4
+///   at the message after the last one.
+/// - `Text`: the columns or a row have no text in this form, or memory ran out in making one.
+/// - `Write`: the sink failed, also if the source failed before it, or memory ran out in writing.
+pub fn print<R: Source, W: Sink, P: Progress>(
+    alloc: Global,
+    limits: Limits,
+    options: PrintOptions<'_>,
+    source: R,
+    sink: &mut W,
+    progress: &mut P,
+) -> (Result<(), PrintStop>, R)
+    // At Ok the sink holds nothing back.
+    ensures handed_on { OnOk result.0 (W.held_back sink.new ≡ Some []) }
+    // At Ok the bytes that were taken denote a table with its end, which is the mark if that is
+    // required, and exactly its text was printed. Or they are the messages up to the batch in which
+    // the rows reach the limit, and exactly the text up to that row was printed. At a fault its
+    // cause is true, and exactly what came before was printed. The number of the message is the
+    // count of the messages before it.
+    ensures prints { Prints options.entry limits (R.remaining source) (R.remaining result.1)
+        (W.written sink.old) (W.written sink.new) result.0 }
+    // Whatever the answer, a beginning of the text of what was read was printed, up to the limit.
+    // No batch was read before the text of the one before it was printed, and none after the limit.
+    ensures part { PrintsSome options.entry limits (R.remaining source) (R.remaining result.1)
+        (W.written sink.old) (W.written sink.new) }
+    // With devices that had not failed before, W9 is answered exactly where the sink failed in this
+    // call, and F36 exactly where the source did and the sink did not. If a device had failed
+    // before, the answer is no success, and its count stays 1.
+    ensures devices { CountsPrintFailures (R.failures source) (R.failures result.1)
+        (W.failures sink.old) (W.failures sink.new) result.0 }
+    // A table with its mark is printed, up to the limit, whatever follows it, unless its columns or
+    // such a row have no text, the source or the sink fails, or memory runs out.
+    ensures marked { (x rest : List ℕ) (t : Table)
+        → R.remaining source ≡ Some (x ++ rest) → Denotes limits x t Mark
+        → R.failures result.1 ≡ 0
+        → AnswersPrintedTable options.entry t Mark (length x) (W.written sink.old)
+        (W.written sink.new)
+        result.0 }
+    // So is one without a mark where nothing follows, if no mark is required.
+    ensures closed { (x : List ℕ) (t : Table) → options.entry.require_mark ≡ false
+        → R.remaining source ≡ Some x → Denotes limits x t Closed → R.failures result.1 ≡ 0
+        → AnswersPrintedTable options.entry t Closed (length x) (W.written sink.old)
+        (W.written sink.new)
+        result.0 }
+    // The rows of a table that reach the limit in its last batch are printed up to it, whatever
+    // follows their messages: no byte after these is read.
+    ensures limited { (x rest : List ℕ) (t : Table) → R.remaining source ≡ Some (x ++ rest)
+        → ReachesLimit options.entry limits x t → R.failures result.1 ≡ 0
+        → AnswersFirst options.entry t x (R.remaining source) (R.remaining result.1)
+        (W.written sink.old) (W.written sink.new) result.0 }
+    // Each batch that was read was reported once, in order, with the bytes taken up to it, and the
+    // batches and rows so far. At `Text` and `Write` the last one may have no report. That a report
+    // comes after the text of its batch is not stated.
+    ensures reports { ReportsPrintedBatches limits (R.remaining source) (R.remaining result.1)
+        (P.told progress.old) (P.told progress.new) result.0 }
+{
+    match StreamReader::open(alloc, limits, source) {
+        Ok(stream) => {
+            let mut stream = stream;
+            let result = print_open(alloc, options, &mut stream, sink, progress);
+            (result, stream.into_inner())
+        }
+        Err((fault, source)) => (Err(PrintStop::Read(fault, 0)), source),
+    }
+}

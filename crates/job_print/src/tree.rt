@@ -1,0 +1,159 @@
+//! The slots of a column and of all columns below it, each found in the body once for all rows.
+ghost use Rattle.std.specs.Prelude.{◌≡◌, ◌<◌, ◌≤◌, true, length, slice_get, Some, IfOk, IfSome};
+ghost use Rattle.ipc_column.specs.Nested.{child_columns, slot_values};
+ghost use Rattle.ipc_column.specs.Slots.{HasChildSlots, nested_in, value_in_slot, text_prefix};
+ghost use Rattle.ipc_column.specs.Values.{row};
+ghost use Rattle.job_print.specs.Entries.{IsEntryOf};
+ghost use Rattle.job_print.specs.SlotReaders.{IsReaderOf};
+
+use crate::entry::{Entry, entry_of, texts_of};
+use crate::slot_reader::{SlotReader, slot_reader_of};
+use ipc_column::{Slot, SlotView};
+use ipc_model::Layout;
+use std::alloc::{AllocError, Global};
+use std::marker::Model;
+
+/// A column and all columns below it, lent by their batch: contracts see its buffers and those of
+/// its children, as they do of a `SlotView`.
+#[derive(Drop)]
+pub struct ColumnTree<'a> {
+    slots: SlotView<'a>,
+    kind: SlotReader,
+    // The values of the dictionary, where they are texts.
+    texts: Option<SlotView<'a>>,
+    children: Vec<ColumnTree<'a>>,
+}
+
+impl<'a> Model for ColumnTree<'a> {
+    ghost use Rattle.std.specs.Prelude.{◌≡◌};
+    ghost use Rattle.std.specs.Coded.{codes};
+    ghost use Rattle.ipc_model.specs.contracts.value.Value as value;
+    ghost use Rattle.ipc_column.specs.contracts.ranges.ColumnRanges as ranges;
+    ghost use Rattle.ipc_column.specs.Nested.{Nested};
+    ghost use Rattle.ipc_column.specs.Slots.{nested_in};
+    ghost use Rattle.job_print.specs.Trees.{count_below};
+
+    ghost Value = { Nested };
+
+    ghost coded = { Prim.hlevel (codes, ranges.the_row.coded, value.the_row.coded) };
+
+    ghost view = { λ t. t.slots };
+
+    ghost use Rattle.std.specs.Prelude.{IfSome};
+    ghost use Rattle.job_print.specs.Entries.{AreTexts};
+    ghost use Rattle.job_print.specs.SlotReaders.{IsReaderOf};
+
+    ghost invariant = { λ t. (t.children.items ≡ nested_in t.slots)
+        × (IsReaderOf t.kind t.slots.column.layout
+        × IfSome t.texts (λ texts. AreTexts t.slots texts)) };
+
+    ghost size = { count_below };
+
+    ghost use Rattle.job_print.specs.TreeFalls.{fewer_below};
+
+    ghost size_decreases = { λ t found. fewer_below t.slots t.children.items found.0 };
+}
+
+impl<'a> ColumnTree<'a> {
+    /// How many slots there are.
+    #[inline(always)]
+    pub fn len(&self) -> usize
+        ensures { result ≡ length (slot_values self.now) }
+    {
+        self.slots.len()
+    }
+
+    /// What a slot holds. The caller gives a slot below `len`.
+    #[inline(always)]
+    pub fn at(&self, slot: usize) -> Slot<'a>
+        requires { slot < length (slot_values self.now) }
+        ensures value { slice_get (slot_values self.now) slot
+            ≡ Some (value_in_slot (row (child_columns self.now)) slot result) }
+        // The children have the slots that are returned.
+        ensures inside { HasChildSlots (child_columns self.now) slot result }
+    {
+        self.slots.at(slot)
+    }
+
+    /// The layout of the slots.
+    #[inline(always)]
+    pub fn kind(&self) -> SlotReader
+        ensures { IsReaderOf result self.now.column.layout }
+    {
+        self.kind
+    }
+
+    /// What a slot holds, as `at` returns it. The caller gives the column's layout, and a slot
+    /// below `len`.
+    #[inline(always)]
+    pub fn at_layout(&self, layout: Layout, slot: usize) -> Slot<'a>
+        requires layout { self.now.column.layout ≡ layout }
+        requires slot { slot < length (slot_values self.now) }
+        ensures value { slice_get (slot_values self.now) slot
+            ≡ Some (value_in_slot (row (child_columns self.now)) slot result) }
+        // The children have the slots that are returned.
+        ensures inside { HasChildSlots (child_columns self.now) slot result }
+    {
+        self.slots.at_layout(layout, slot)
+    }
+
+    /// The bytes of the column's data from the text in a slot on, and how many of them the text
+    /// has: none where the slot is null. The caller gives a slot below `len` of a column of texts.
+    #[inline(always)]
+    pub fn text_at(&self, slot: usize) -> Option<(&'a [u8], usize)>
+        requires layout { self.now.column.layout ≡ Layout.VariableBytes true }
+        requires slot { slot < length (slot_values self.now) }
+        ensures value { slice_get (slot_values self.now) slot ≡ Some (text_prefix result) }
+        ensures inside { IfSome result (λ text. text.1 ≤ length text.0.now) }
+    {
+        self.slots.text_at(slot)
+    }
+
+    /// What a slot shows by its index, if the column has a dictionary of texts. The caller gives a
+    /// slot below `len`.
+    #[inline(always)]
+    pub fn entry_at(&self, slot: usize) -> Entry<'a>
+        requires { slot < length (slot_values self.now) }
+        ensures { IsEntryOf self.now slot result }
+    {
+        match &self.texts {
+            Some(texts) => entry_of(&self.slots, texts, slot),
+            None => Entry::Others,
+        }
+    }
+
+    /// How many children there are.
+    #[inline(always)]
+    pub fn children(&self) -> usize
+        ensures { result ≡ length self.now.children }
+    {
+        self.children.as_slice().len()
+    }
+
+    /// Child `i`. The caller gives an `i` below `children`.
+    #[inline(always)]
+    pub fn child(&self, i: usize) -> &ColumnTree<'a>
+        requires { i < length self.now.children }
+        ensures { slice_get (nested_in self.now) i ≡ Some result.now }
+    {
+        &self.children[i]
+    }
+}
+
+/// Finds all columns below these slots. It refuses only where memory ran out.
+pub fn tree_of<'a>(alloc: Global, slots: SlotView<'a>) -> Result<ColumnTree<'a>, AllocError>
+    ensures { IfOk result (λ tree. tree ≡ slots.entry) }
+{
+    let mut children = Vec::with_capacity(alloc, slots.children())?;
+    for number in 0..slots.children() {
+        children.push(tree_of(alloc, slots.child(number))?)?;
+    }
+    let kind = slot_reader_of(slots.layout());
+    let texts = texts_of(&slots);
+    Ok(ColumnTree {
+        slots,
+        kind,
+        texts,
+        children,
+    })
+}

@@ -1,0 +1,196 @@
+-- A whole stream, from its schema on.
+use Rattle.std.proofs.Common.{◌≡◌, ◌∙◌, refl, sym, ap, subst, ℕ, List, [], ◌∷◌, ◌++◌, map, Option, Some, None, Result, Ok, Err}
+use Rattle.std.proofs.Common.{arith}
+use Rattle.std.specs.Prelude.{⊤, Bool, IsTrue, MatchResult}
+use Rattle.std.specs.List.{AllByRecursion}
+use Rattle.std.specs.Io.KnownBytes.{Consumes}
+use Rattle.std.proofs.KnownBytes.{Appends-trans, Consumes-trans}
+use Rattle.ipc_model.specs.declared.fault.Fault.{Fault}
+use Rattle.ipc_model.specs.declared.fault.WriteFault.{WriteFault}
+use Rattle.ipc_model.specs.declared.fault.WriteFault.TheVariants as w
+use Rattle.ipc_model.specs.declared.limits.Limits.{Limits}
+use Rattle.ipc_model.specs.declared.table.BatchRows.{BatchRows}
+use Rattle.ipc_model.specs.declared.table.Table.{Table}
+use Rattle.ipc_stream_read.specs.declared.end.End.{End}
+use Rattle.ipc_stream_read.specs.declared.end.End.TheVariants.{Mark}
+use Rattle.ipc_stream_read.specs.Reader.{Reader, in_force_of, Opens, OpenFails}
+use Rattle.ipc_stream_read.specs.Reasons.{Reads}
+use Rattle.ipc_stream_read.specs.Stream.{InForce, schema, batch, Run, events_of, DenotesClosed, EndsStream, OpensStream}
+use Rattle.ipc_stream_read.specs.Counts.{count_up, messages_in}
+use Rattle.ipc_stream.specs.Dictionaries.{SendsBatch, SendsBatches, SendsTable, kept_after, kept_at_start}
+use Rattle.ipc_stream.specs.OpenStreams.{OpenStreamState}
+use Rattle.ipc_stream.specs.Writer.{Writer, StartsWriter, StartFails}
+use Rattle.ipc_stream.specs.Writing.{AcceptsBatch, AcceptsSchema, AcceptsTable, CutShort, NotSentWhole}
+use Rattle.ipc_stream.specs.Writing.{RefusesBatch, Sent}
+use Rattle.ipc_stream_read.proofs.Answered.{taken_denotes}
+use Rattle.ipc_stream_read.proofs.Runs.{run_then, reads_after}
+use Rattle.job_rewrite.specs.declared.stop.RewriteStop.{RewriteStop}
+use Rattle.job_rewrite.specs.declared.stop.RewriteStop.TheVariants as stop
+use Rattle.job_rewrite.specs.RewriteLimits.{at_least_standard}
+use Rattle.ipc_stream.proofs.Chains.{table_sends, table_tells}
+use Rattle.job_rewrite.specs.Rewriting.{CopiesTable, BreaksReading, unopened, broken, BreaksWriting, unstarted}
+use Rattle.job_rewrite.specs.Rewriting.{refused, unended, Rewrites, CopiesRest, CopiesBatches}
+
+-- behind the schema's message no dictionary is in force
+in_force_here : {limits : Limits} → (start : Option (List ℕ)) (s : Reader) → Opens limits start s
+    → in_force_of s ≡ record { schema = s.schema; dictionaries = [] }
+in_force_here start s o = ap (λ d. record { schema = s.schema; dictionaries = d }) o.no_dictionary
+
+opened : {limits : Limits} → (start : Option (List ℕ)) (s : Reader) (o : Opens limits start s) → OpensStream limits s.schema o.x
+opened {limits} start s o =
+    subst (λ (i : InForce). Run limits None o.x (schema s.schema ∷ []) (Some i)) (in_force_here start s o) o.run
+
+-- where a new stream isn't begun, it is since the schema that was read is refused
+pub schema_refused : {limits : Limits} → (start : Option (List ℕ)) (s : Reader) (w0 w1 : Option (List ℕ)) (f0 f1 : ℕ) (fault : WriteFault)
+    → Opens limits start s → StartFails (at_least_standard s.limits) s.schema w0 w1 f0 f1 fault
+    → BreaksWriting limits start s.remaining w0 w1 f0 f1 fault
+schema_refused {limits} start s w0 w1 f0 f1 fault o h =
+    let fails = subst (λ l. StartFails (at_least_standard l) s.schema w0 w1 f0 f1 fault) o.same_limits h in
+    unstarted o.x s.schema o.bytes (opened start s o) fails.cause fails.unsent
+
+module _ {limits : Limits} (start : Option (List ℕ)) (s t : Reader) (before : Writer) (w0 : Option (List ℕ)) (f0 : ℕ)
+    (o : Opens limits start s) (begun : StartsWriter (at_least_standard s.limits) s.schema w0 f0 before) where
+  -- the new stream's limits
+  raised_here : before.limits ≡ at_least_standard limits
+  raised_here = begun.same_limits ∙ ap at_least_standard o.same_limits
+
+  -- the schema and these batches
+  abbrev table_with : List BatchRows → Table
+  table_with batches = record { schema = s.schema; batches = batches }
+
+  -- what is true of the new stream's limits, and of nothing sent but its schema, is true of the raised ones
+  raised_too : (P : OpenStreamState → Type 0) → P (record {
+    limits = before.limits;
+    schema = s.schema;
+    kept = before.kept;
+    seed =
+        before.seed;
+  })
+      → P (record { limits = at_least_standard limits; schema = s.schema; kept = kept_at_start s.schema; seed = before.seed })
+  raised_too P h = subst P (λ i. record { limits = raised_here i; schema = s.schema; kept = begun.nothing_kept i; seed = before.seed }) h
+
+  -- the messages of the schema and of these batches were sent
+  all_sent : (batches : List BatchRows) (w1 : Option (List ℕ)) (f1 : ℕ)
+      → Sent (SendsBatches before.limits s.schema before.kept batches) before.written w1 before.failures f1
+      → Sent (SendsTable (at_least_standard limits) (table_with batches)) w0 w1 f0 f1
+  all_sent batches w1 f1 sent = record {
+    x = begun.sent.x ++ sent.x;
+    whole = table_sends (at_least_standard limits) s.schema batches begun.sent.x sent.x
+        (subst (λ l. OpensStream (at_least_standard l) s.schema begun.sent.x) o.same_limits begun.sent.whole)
+        (raised_too (λ w. SendsBatches w.limits w.schema w.kept batches sent.x) sent.whole);
+    bytes = Appends-trans w0 before.written w1 begun.sent.x sent.x begun.sent.bytes sent.bytes;
+    worked = begun.sent.worked;
+    works = sent.works;
+  }
+
+  -- the schema and these batches are accepted
+  all_accepted : (batches : List BatchRows) → AllByRecursion (AcceptsBatch before.limits s.schema) batches
+      → AcceptsTable (at_least_standard limits) (table_with batches)
+  all_accepted batches accepts = record {
+    schema = subst (λ l. AcceptsSchema (at_least_standard l) s.schema) o.same_limits begun.accepts;
+    batches = subst (λ l. AllByRecursion (AcceptsBatch l s.schema) batches) raised_here accepts;
+  }
+
+  module _ (after : Writer) (answer : Result End Fault) (r : CopiesRest s t before after answer) where
+    taken : Consumes start t.remaining (o.x ++ r.x)
+    taken = Consumes-trans start s.remaining t.remaining o.x r.x o.bytes r.bytes
+
+    reads : Reads limits None (o.x ++ r.x) t.remaining (events_of (table_with r.batches)) answer
+    reads = reads_after None (Some (in_force_of s)) o.x r.x t.remaining (schema s.schema ∷ []) (map batch r.batches) answer o.run
+        (subst (λ l. Reads l (Some (in_force_of s)) r.x t.remaining (map batch r.batches) answer) o.same_limits r.reads)
+
+    -- so much was read behind the schema, by so many messages
+    abbrev ReadsBehind : Limits → InForce → Type 0
+    ReadsBehind l i = (q : Reads l (Some i) r.x t.remaining (map batch r.batches) answer) × (messages_in q.run ≡ messages_in r.reads.run)
+
+    reads_behind : ReadsBehind limits (record { schema = s.schema; dictionaries = [] })
+    reads_behind = subst (ReadsBehind limits) (in_force_here start s o)
+        (subst (λ l. ReadsBehind l (in_force_of s)) o.same_limits (r.reads, refl))
+
+    numbered : t.messages ≡ count_up 1 (messages_in reads_behind.0.run)
+    numbered =
+        let counted = r.counted 1 (omega (arith, o.one_message)) in
+        omega (arith, counted, reads_behind.1)
+
+  table_copied : (required : Bool) (after : Writer) (end : End) (w1 : Option (List ℕ)) (f1 : ℕ)
+      → CopiesRest s t before after (Ok end) → (IsTrue required → end ≡ Mark) → Sent EndsStream after.written w1 after.failures f1
+      → CopiesTable required limits start t.remaining w0 w1 f0 f1
+  table_copied required after end w1 f1 r marked mark =
+      let h = taken_denotes start t.remaining (Ok (table_with r.batches, end))
+      (record { x = o.x ++ r.x; bytes = taken after (Ok end) r; gives = reads after (Ok end) r }) in
+      let sent = all_sent r.batches after.written after.failures r.sent in
+      let told = table_tells (at_least_standard limits) (table_with r.batches) sent.x sent.whole in
+      record {
+        x = h.0;
+        table = table_with r.batches;
+        end = end;
+        bytes = h.1;
+        denotes = h.2;
+        closed = h.3;
+        marked = marked;
+        accepts = all_accepted r.batches r.accepts;
+        sent = record {
+          x = sent.x ++ mark.x;
+          whole = (sent.x, ap (λ y. sent.x ++ y) mark.whole, (Some told.0, told.1.1));
+          bytes = Appends-trans w0 after.written w1 sent.x mark.x sent.bytes mark.bytes;
+          worked = sent.worked;
+          works = mark.works;
+        };
+      }
+
+  mark_refused : (after : Writer) (end : End) (w1 : Option (List ℕ)) (f1 : ℕ) → CopiesRest s t before after (Ok end)
+      → CutShort EndsStream after.written w1 f1 → BreaksWriting limits start t.remaining w0 w1 f0 f1 w.Write
+  mark_refused after end w1 f1 r cut =
+      let h = taken_denotes start t.remaining (Ok (table_with r.batches, end))
+      (record { x = o.x ++ r.x; bytes = taken after (Ok end) r; gives = reads after (Ok end) r }) in
+      unended h.0 (table_with r.batches) end after.written after.failures h.1 h.2 h.3 (all_accepted r.batches r.accepts)
+      (all_sent r.batches after.written after.failures r.sent) refl cut
+
+  -- where all batches were sent, the stream is written as far as the last call says
+  pub stream_ended : (required : Bool) (after : Writer) (end : End) (w1 : Option (List ℕ)) (f1 : ℕ) (r : Result ⊤ RewriteStop)
+      → CopiesRest s t before after (Ok end) → (IsTrue required → end ≡ Mark)
+      → MatchResult r (λ _. Sent EndsStream after.written w1 after.failures f1)
+      (λ why. (why ≡ stop.Write w.Write) × CutShort EndsStream after.written w1 f1)
+      → Rewrites required limits start t.remaining w0 w1 f0 f1 r
+  stream_ended required after end w1 f1 (Ok done) r marked mark = table_copied required after end w1 f1 r marked mark
+  stream_ended required after end w1 f1 (Err why) r marked (is, cut) =
+      subst (λ (e : RewriteStop). Rewrites required limits start t.remaining w0 w1 f0 f1 (Err e)) (sym is)
+      (mark_refused after end w1 f1 r cut)
+
+  -- the schema and these batches were read
+  all_read : (batches : List BatchRows) (x : List ℕ) → Run s.limits (Some (in_force_of s)) x (map batch batches) (Some (in_force_of t))
+      → DenotesClosed limits (o.x ++ x) (table_with batches)
+  all_read batches x run = (
+    Some (in_force_of t),
+    run_then None (Some (in_force_of s)) (Some (in_force_of t)) o.x x (schema s.schema ∷ []) (map batch batches) o.run
+        (subst (λ l. Run l (Some (in_force_of s)) x (map batch batches) (Some (in_force_of t))) o.same_limits run),
+  )
+
+  broken_here : (required : Bool) (after : Writer) (why : RewriteStop) → CopiesBatches required s t before after (Err why)
+      → Rewrites required limits start t.remaining w0 after.written f0 after.failures (Err why)
+  broken_here required after (stop.Read fault message) (answer, r, ends, number) =
+      broken o.x r.x (table_with r.batches) answer (taken after answer r) (opened start s o) (reads_behind after answer r).0 ends
+      (number ∙ numbered after answer r) (all_accepted r.batches r.accepts) (all_sent r.batches after.written after.failures r.sent)
+  broken_here required after (stop.Write fault) r =
+      refused (o.x ++ r.x) (table_with r.batches) r.last r.between r.failures
+      (Consumes-trans start s.remaining t.remaining o.x r.x o.bytes r.bytes)
+      (all_read (r.batches ++ r.last ∷ []) r.x r.run)
+      (all_accepted r.batches r.accepts) (all_sent r.batches r.between r.failures r.sent)
+      (subst (λ l. RefusesBatch l s.schema r.last fault) raised_here r.refuses)
+      (raised_too (λ w. NotSentWhole (SendsBatch w.limits w.schema (kept_after w.schema.fields w.kept r.batches) r.last) r.between
+      after.written r.failures after.failures fault) r.unsent)
+
+  -- where the batches were not all read and sent, neither was the stream
+  pub batches_broken : (required : Bool) (after : Writer) (w1 : Option (List ℕ)) (f1 : ℕ) (why : RewriteStop) → w1 ≡ after.written
+      → f1 ≡ after.failures → CopiesBatches required s t before after (Err why)
+      → Rewrites required limits start t.remaining w0 w1 f0 f1 (Err why)
+  batches_broken required after w1 f1 why same_bytes same_count copies =
+      subst (λ b. Rewrites required limits start t.remaining w0 b f0 f1 (Err why)) (sym same_bytes)
+      (subst (λ n. Rewrites required limits start t.remaining w0 after.written f0 n (Err why)) (sym same_count)
+      (broken_here required after why copies))
+
+-- where no schema is read, nothing is, and nothing was asked of the sink
+pub none_read : {limits : Limits} → (required : Bool) (old new w0 : Option (List ℕ)) (f0 : ℕ) (fault : Fault)
+    → OpenFails limits old new fault
+    → BreaksReading required limits old new w0 w0 f0 f0 fault 0
+none_read required old new w0 f0 fault fails = unopened fails.x fails.bytes fails.reads refl refl refl

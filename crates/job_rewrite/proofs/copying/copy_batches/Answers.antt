@@ -1,0 +1,66 @@
+use Rattle.std.proofs.Common.{◌∙◌, sym, inl, inr, arith, rules}
+use Rattle.std.proofs.lemmas.Result.{err_from_is_err_and}
+use Rattle.ipc_stream.proofs.Reporting.{progressed_break, progressed_end, progressed_less, progressed_more, progressed_none}
+use Rattle.job_rewrite.proofs.Batches.{copied_none, copied_more, copied_refused, copied_end, copied_unmarked, copied_break}
+use Rattle.job_rewrite.proofs.copying.copy_batches.Goals as goal
+
+pub returns-in_err-copy_batch-in-Ok-Some-clause-copies : goal.returns-in_err-copy_batch-in-Ok-Some-clause-copies
+returns-in_err-copy_batch-in-Ok-Some-clause-copies g c =
+    let p = err_from_is_err_and c.from_residual.result c.from_residual.ensures.1 in
+    let next = rw c.in-Ok-Some.field-0-is at c.in-Ok-Some.ensures.next in
+    rw (p.1, p.2) (copied_refused _ _ _ _ _ c.loop-batch.invariant.copied (c.in-Ok-Some.batch, c.in-Ok-Some.pairs) c.copy_batch.new.writer
+    c.in_err-copy_batch-in-Ok-Some.field-0.0 next c.in_err-copy_batch-in-Ok-Some.ensures.sends
+    c.in_err-copy_batch-in-Ok-Some.ensures.judged)
+
+pub returns-in-Ok-clause-copies : goal.returns-in-Ok-clause-copies
+returns-in-Ok-clause-copies g c =
+    copied_end _ _ _ _ _ c.loop-batch.invariant.copied c.args.require_mark c.end.result c.unwrap_or.result _
+    (rw c.in-Ok-None.field-0-is at c.in-Ok-None.ensures.next) c.end.ensures c.unwrap_or.ensures (sym c.check_end.ensures ∙ c.in-Ok.is)
+
+pub returns-in-Err-check_end-clause-copies : goal.returns-in-Err-check_end-clause-copies
+returns-in-Err-check_end-clause-copies g c =
+    rw c.messages.ensures (copied_unmarked _ _ _ _ _ c.loop-batch.invariant.copied c.args.require_mark c.end.result c.unwrap_or.result
+    c.in-Err-check_end.missing (rw c.in-Ok-None.field-0-is at c.in-Ok-None.ensures.next) c.end.ensures c.unwrap_or.ensures
+    (sym c.check_end.ensures ∙ c.in-Err-check_end.is))
+
+pub returns-in-Err-clause-copies : goal.returns-in-Err-clause-copies
+returns-in-Err-clause-copies g c =
+    rw c.messages-in-Err.ensures (copied_break _ _ _ _ _ c.loop-batch.invariant.copied c.args.require_mark c.in-Err.fault
+    c.in-Err.ensures.next)
+
+pub loop-batch-init : goal.loop-batch-init
+loop-batch-init g c = record {
+  copied = copied_none _ _ c.requires.reading c.requires.source c.requires.works c.requires.sink c.requires.schema;
+  reported = λ limits start o. progressed_none start _ _ o;
+}
+
+pub loop-batch-preserved : goal.loop-batch-preserved
+loop-batch-preserved g c = record {
+  copied = search (rules, copied_more);
+  reported = λ limits start o.
+      let next = rw c.in-Ok-Some.field-0-is at c.in-Ok-Some.ensures.next in
+      progressed_more start _ _ _ _ _ (c.loop-batch.invariant.reported limits start o) _ c.loop-batch.invariant.copied.reading
+      (c.in-Ok-Some.batch, c.in-Ok-Some.pairs) _ _ _ next (omega arith) (omega arith) (rw c.taken.ensures at c.batch_done.ensures);
+}
+
+pub returns-in_err-copy_batch-in-Ok-Some-clause-reports : goal.returns-in_err-copy_batch-in-Ok-Some-clause-reports
+returns-in_err-copy_batch-in-Ok-Some-clause-reports g c = λ limits start o.
+    let p = err_from_is_err_and c.from_residual.result c.from_residual.ensures.1 in
+    let next = rw c.in-Ok-Some.field-0-is at c.in-Ok-Some.ensures.next in
+    rw (p.1, p.2) (progressed_less start _ _ _ _ _ (c.loop-batch.invariant.reported limits start o) _ c.loop-batch.invariant.copied.reading
+    (c.in-Ok-Some.batch, c.in-Ok-Some.pairs) next)
+
+pub returns-in-Ok-clause-reports : goal.returns-in-Ok-clause-reports
+returns-in-Ok-clause-reports g c = λ limits start o.
+    progressed_end start _ _ _ _ _ (c.loop-batch.invariant.reported limits start o) _ c.loop-batch.invariant.copied.reading
+    (rw c.in-Ok-None.field-0-is at c.in-Ok-None.ensures.next)
+
+pub returns-in-Err-check_end-clause-reports : goal.returns-in-Err-check_end-clause-reports
+returns-in-Err-check_end-clause-reports g c = λ limits start o.
+    inr (progressed_end start _ _ _ _ _ (c.loop-batch.invariant.reported limits start o) _ c.loop-batch.invariant.copied.reading
+    (rw c.in-Ok-None.field-0-is at c.in-Ok-None.ensures.next))
+
+pub returns-in-Err-clause-reports : goal.returns-in-Err-clause-reports
+returns-in-Err-clause-reports g c = λ limits start o.
+    inl (progressed_break start _ _ _ _ _ (c.loop-batch.invariant.reported limits start o) _ c.loop-batch.invariant.copied.reading
+    c.in-Err.fault c.in-Err.ensures.next)

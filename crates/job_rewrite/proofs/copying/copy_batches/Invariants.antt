@@ -1,0 +1,18 @@
+use Rattle.std.proofs.Common.{ℕ, List, Option}
+use Rattle.ipc_model.specs.declared.limits.Limits.{Limits}
+use Rattle.ipc_stream_read.specs.Reader.{Opens}
+use Rattle.ipc_stream.proofs.Reporting.{Progressed}
+use Rattle.job_rewrite.proofs.Batches.{Copied}
+use Rattle.job_rewrite.proofs.copying.copy_batches.Given as goal
+
+-- the batches so far were read, sent and reported
+abbrev pub invariant-loop-batch : goal.invariant-loop-batch
+invariant-loop-batch g l = record {
+  copied : Copied l.fn.stream l.stream l.fn.writer l.writer;
+  reported : (limits : Limits) (start : Option (List ℕ)) → Opens limits start l.fn.stream
+      → Progressed limits start l.batches l.rows l.stream (g.P.Progress.told l.fn.progress) (g.P.Progress.told l.progress);
+}
+
+-- each batch leaves fewer bytes to come
+abbrev pub decreases-loop-batch : goal.decreases-loop-batch
+decreases-loop-batch g l = l.stream.bound

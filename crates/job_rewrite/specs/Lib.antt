@@ -1,0 +1,3 @@
+pub mod RewriteLimits
+pub mod Reporting
+pub mod Rewriting

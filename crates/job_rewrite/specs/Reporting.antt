@@ -1,0 +1,17 @@
+-- Which batches are reported when a stream is rewritten.
+use Rattle.std.specs.Prelude.{ℕ, List, Option, Result, Ok, Err, ⊤}
+use Rattle.ipc_model.specs.declared.limits.Limits.{Limits}
+use Rattle.ipc_stream.specs.Progress.{Report, ReportsAll, ReportsBefore, ReportsSome}
+use Rattle.job_rewrite.specs.declared.stop.RewriteStop.{RewriteStop}
+use Rattle.job_rewrite.specs.declared.stop.RewriteStop.TheVariants as stop
+
+-- what a result states about the reports: at Ok, and where reading broke off, each batch that was
+-- read was reported, in order. Where writing failed, the last one that was read may have no report
+abbrev pub ReportsSentBatches : Limits → Option (List ℕ) → Option (List ℕ) → Option (List Report)
+    → Option (List Report) → Result ⊤ RewriteStop → Type 0
+ReportsSentBatches limits old new told_old told_new (Ok done) =
+    ReportsAll limits old new told_old told_new
+ReportsSentBatches limits old new told_old told_new (Err (stop.Read fault message)) =
+    ReportsBefore limits old new told_old told_new fault
+ReportsSentBatches limits old new told_old told_new (Err (stop.Write fault)) =
+    ReportsSome limits old new told_old told_new

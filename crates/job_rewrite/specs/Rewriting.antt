@@ -1,0 +1,195 @@
+-- What is taken from a source and sent to a sink when a stream is rewritten.
+use Rattle.std.specs.Prelude.{◌≡◌, ◌≢◌, ◌+◌, ℕ, List, [], ◌∷◌, ◌++◌, map, Option, Some}
+use Rattle.std.specs.Prelude.{None, Result, Ok, Err, ⊤, Bool, IsTrue, false, true}
+use Rattle.std.specs.Io.KnownBytes.{Consumes, IsAtEnd}
+use Rattle.std.specs.List.{AllByRecursion}
+use Rattle.ipc_model.specs.declared.fault.Fault.{Fault}
+use Rattle.ipc_model.specs.declared.fault.Fault.TheVariants.{OutOfMemory, Truncated}
+use Rattle.ipc_model.specs.declared.fault.WriteFault.{WriteFault}
+use Rattle.ipc_model.specs.declared.fault.WriteFault.TheVariants as w
+use Rattle.ipc_model.specs.declared.limits.Limits.{Limits}
+use Rattle.ipc_model.specs.declared.schema.Schema.{Schema}
+use Rattle.ipc_model.specs.declared.table.BatchRows.{BatchRows}
+use Rattle.ipc_model.specs.declared.table.Table.{Table}
+use Rattle.ipc_stream_read.specs.declared.end.End.{End}
+use Rattle.ipc_stream_read.specs.declared.end.End.TheVariants.{Closed, Mark}
+use Rattle.ipc_stream_read.specs.Failures.{CountsFault}
+use Rattle.ipc_stream_read.specs.Reader.{Reader, in_force_of}
+use Rattle.ipc_stream_read.specs.Reasons.{Reads}
+use Rattle.ipc_stream_read.specs.Stream.{batch, initial_state, Run, Denotes, DenotesClosed}
+use Rattle.ipc_stream_read.specs.Counts.{count_up, messages_in}
+use Rattle.ipc_stream.specs.Dictionaries.{SendsBatch, SendsBatches, SendsTable, kept_after}
+use Rattle.ipc_stream.specs.Dictionaries.{kept_at_start}
+use Rattle.ipc_stream.specs.Writer.{Writer}
+use Rattle.ipc_stream.specs.Writing.{AcceptsBatch, AcceptsTable, BreaksOff, CutShort}
+use Rattle.ipc_stream_read.specs.Stream.{EndsStream, IsTableOf, OpensStream}
+use Rattle.ipc_stream.specs.Writing.{NotSentWhole}
+use Rattle.ipc_stream.specs.Writing.{RefusesBatch, RefusesSchema, Sent}
+use Rattle.job_rewrite.specs.declared.stop.RewriteStop.{RewriteStop}
+use Rattle.job_rewrite.specs.declared.stop.RewriteStop.TheVariants as stop
+use Rattle.job_rewrite.specs.RewriteLimits.{at_least_standard}
+
+-- a table with one more batch
+abbrev pub with_batch : Table → BatchRows → Table
+with_batch t last = record { schema = t.schema; batches = t.batches ++ last ∷ [] }
+
+-- how reading ends for a caller: at the source's end, with F4 if the end mark is required
+abbrev pub as_required : Bool → Result End Fault → Result End Fault
+as_required mark (Err fault) = Err fault
+as_required mark (Ok Mark) = Ok Mark
+as_required true (Ok Closed) = Err Truncated
+as_required false (Ok Closed) = Ok Closed
+
+-- the bytes that were taken denote a table and its end, which is the end mark if that is required,
+-- and this table was sent with the end mark
+pub record CopiesTable (mark : Bool) (limits : Limits)
+    (old new written_old written_new : Option (List ℕ))
+    (failures_old failures_new : ℕ) : Type 0 where
+  pub x : List ℕ
+  pub table : Table
+  pub end : End
+  pub bytes : Consumes old new x
+  pub denotes : Denotes limits x table end
+  pub closed : end ≡ Closed → IsAtEnd new
+  pub marked : IsTrue mark → end ≡ Mark
+  pub accepts : AcceptsTable (at_least_standard limits) table
+  pub sent : Sent (IsTableOf (at_least_standard limits) table) written_old written_new failures_old
+      failures_new
+
+-- why a stream is not read to its end, and the messages that were sent before
+pub data BreaksReading (mark : Bool) (limits : Limits)
+    (old new written_old written_new : Option (List ℕ))
+    (failures_old failures_new : ℕ) (fault : Fault) (message : ℕ) : Type 0 where
+  -- no schema was read, and the sink was not called
+  unopened : (x : List ℕ) → Consumes old new x → Reads limits None x new [] (Err fault)
+      → message ≡ 0 → written_new ≡ written_old → failures_new ≡ failures_old
+      → BreaksReading mark limits old new written_old written_new failures_old failures_new fault
+      message
+  -- reading broke off after a schema and batches, whose messages were sent, or it ended there
+  -- without the mark that is required; `message` counts the messages that were read, the schema's
+  -- included
+  broken : (x y : List ℕ) (table : Table) (answer : Result End Fault) → Consumes old new (x ++ y)
+      → OpensStream limits table.schema x
+      → (reads : Reads limits (Some (initial_state table.schema)) y new (map batch table.batches)
+      answer) → as_required mark answer ≡ Err fault → message ≡ count_up 1 (messages_in reads.run)
+      → AcceptsTable (at_least_standard limits) table
+      → Sent (SendsTable (at_least_standard limits) table) written_old written_new failures_old
+      failures_new
+      → BreaksReading mark limits old new written_old written_new failures_old failures_new fault
+      message
+
+-- why what was read is not written, and the messages that were sent before. At W9 a beginning of
+-- the refused message was sent, and at any other fault nothing of it
+pub data BreaksWriting (limits : Limits) (old new written_old written_new : Option (List ℕ))
+    (failures_old failures_new : ℕ) (fault : WriteFault) : Type 0 where
+  -- the schema that was read is refused
+  unstarted : (x : List ℕ) (s : Schema) → Consumes old new x → OpensStream limits s x
+      → RefusesSchema (at_least_standard limits) s fault
+      → NotSentWhole (OpensStream (at_least_standard limits) s) written_old written_new failures_old
+      failures_new fault
+      → BreaksWriting limits old new written_old written_new failures_old failures_new fault
+  -- the last batch that was read is refused; all messages before it were sent
+  refused : (x : List ℕ) (table : Table) (last : BatchRows) (between : Option (List ℕ))
+      (failures : ℕ) → Consumes old new x → DenotesClosed limits x (with_batch table last)
+      → AcceptsTable (at_least_standard limits) table
+      → Sent (SendsTable (at_least_standard limits) table) written_old between failures_old failures
+      → RefusesBatch (at_least_standard limits) table.schema last fault
+      → NotSentWhole (SendsBatch (at_least_standard limits) table.schema
+      (kept_after table.schema.fields (kept_at_start table.schema) table.batches) last) between
+      written_new failures failures_new fault
+      → BreaksWriting limits old new written_old written_new failures_old failures_new fault
+  -- the stream was read to its end, and all its messages were sent; the sink failed at the end mark
+  unended : (x : List ℕ) (table : Table) (end : End) (between : Option (List ℕ)) (failures : ℕ)
+      → Consumes old new x → Denotes limits x table end → (end ≡ Closed → IsAtEnd new)
+      → AcceptsTable (at_least_standard limits) table
+      → Sent (SendsTable (at_least_standard limits) table) written_old between failures_old failures
+      → fault ≡ w.Write → CutShort EndsStream between written_new failures_new
+      → BreaksWriting limits old new written_old written_new failures_old failures_new fault
+
+-- what a result states about a stream that is read under these limits and written under the raised
+-- ones
+abbrev pub Rewrites : Bool → Limits → Option (List ℕ) → Option (List ℕ) → Option (List ℕ)
+    → Option (List ℕ) → ℕ → ℕ → Result ⊤ RewriteStop → Type 0
+Rewrites mark limits old new written_old written_new failures_old failures_new (Ok done) =
+    CopiesTable mark limits old new written_old written_new failures_old failures_new
+Rewrites mark limits old new written_old written_new failures_old failures_new
+    (Err (stop.Read fault message)) =
+    BreaksReading mark limits old new written_old written_new failures_old failures_new fault
+    message
+Rewrites mark limits old new written_old written_new failures_old failures_new
+    (Err (stop.Write fault)) =
+    BreaksWriting limits old new written_old written_new failures_old failures_new fault
+
+-- the result if the source contains this table: it was sent with the end mark, or writing it broke
+-- off, or memory ran out in reading it
+abbrev pub AnswersRewrittenTable : Limits → Table → Option (List ℕ) → Option (List ℕ) → ℕ → ℕ
+    → Result ⊤ RewriteStop → Type 0
+AnswersRewrittenTable limits t written_old written_new failures_old failures_new (Ok done) =
+    Sent (IsTableOf limits t) written_old written_new failures_old failures_new
+AnswersRewrittenTable limits t written_old written_new failures_old failures_new
+    (Err (stop.Read fault message)) = fault ≡ OutOfMemory
+AnswersRewrittenTable limits t written_old written_new failures_old failures_new
+    (Err (stop.Write fault)) =
+    BreaksOff limits t written_old written_new failures_old failures_new fault
+
+-- how a fault changes the sink's count of failures: after W9 it is 1; any other fault leaves it as
+-- it was
+pub record CountsSinkFault (old new : ℕ) (fault : WriteFault) : Type 0 where
+  pub failed : fault ≡ w.Write → new ≡ 1
+  pub stayed : fault ≢ w.Write → new ≡ old
+
+-- how a result changes the counts of failures of the source and the sink. Success needs 0 before
+-- and after. If reading is refused, the sink did not fail in the call; if writing is refused, the
+-- source never failed
+abbrev pub CountsRewriteFailures : ℕ → ℕ → ℕ → ℕ → Result ⊤ RewriteStop → Type 0
+CountsRewriteFailures source_old source_new sink_old sink_new (Ok done) =
+    (source_old ≡ 0) × (source_new ≡ 0) × (sink_old ≡ 0) × (sink_new ≡ 0)
+CountsRewriteFailures source_old source_new sink_old sink_new (Err (stop.Read fault message)) =
+    CountsFault source_old source_new fault × (sink_new ≡ sink_old)
+CountsRewriteFailures source_old source_new sink_old sink_new (Err (stop.Write fault)) =
+    (source_old ≡ 0) × (source_new ≡ 0) × CountsSinkFault sink_old sink_new fault
+
+-- ---- the batches after the schema
+
+-- the batches that were read after the schema and how reading ended; all of them were sent
+pub record CopiesRest (old new : Reader) (before after : Writer)
+    (answer : Result End Fault) : Type 0 where
+  pub x : List ℕ
+  pub batches : List BatchRows
+  pub bytes : Consumes old.remaining new.remaining x
+  pub reads :
+      Reads old.limits (Some (in_force_of old)) x new.remaining (map batch batches) answer
+  pub counted : (k : ℕ) → old.messages ≡ count_up 0 k → new.messages ≡ count_up 0 (k
+      + messages_in reads.run)
+  pub accepts : AllByRecursion (AcceptsBatch before.limits old.schema) batches
+  pub sent : Sent (SendsBatches before.limits old.schema before.kept batches) before.written
+      after.written before.failures after.failures
+
+-- the batches that were read after the schema: all but the last were sent, and the last was refused
+pub record RefusesLast (old new : Reader) (before after : Writer)
+    (fault : WriteFault) : Type 0 where
+  pub x : List ℕ
+  pub batches : List BatchRows
+  pub last : BatchRows
+  pub bytes : Consumes old.remaining new.remaining x
+  pub run : Run old.limits (Some (in_force_of old)) x (map batch (batches ++ last ∷ []))
+      (Some (in_force_of new))
+  pub accepts : AllByRecursion (AcceptsBatch before.limits old.schema) batches
+  pub between : Option (List ℕ)
+  pub failures : ℕ
+  pub sent : Sent (SendsBatches before.limits old.schema before.kept batches) before.written
+      between before.failures failures
+  pub refuses : RefusesBatch before.limits old.schema last fault
+  pub unsent : NotSentWhole (SendsBatch before.limits old.schema
+      (kept_after old.schema.fields before.kept batches) last) between after.written failures
+      after.failures fault
+
+-- what a result states about the batches after the schema
+abbrev pub CopiesBatches : Bool → Reader → Reader → Writer → Writer → Result ⊤ RewriteStop → Type 0
+CopiesBatches mark old new before after (Ok done) =
+    (end : End) × CopiesRest old new before after (Ok end) × (IsTrue mark → end ≡ Mark)
+CopiesBatches mark old new before after (Err (stop.Read fault message)) =
+    (answer : Result End Fault) × CopiesRest old new before after answer
+    × (as_required mark answer ≡ Err fault) × (message ≡ new.messages)
+CopiesBatches mark old new before after (Err (stop.Write fault)) =
+    RefusesLast old new before after fault

@@ -1,0 +1,294 @@
+//! Reads a stream batch by batch, and writes each batch as soon as it is read.
+ghost use Rattle.std.specs.Prelude.{◌≡◌, ◌++◌, ◌∷◌, ℕ, List, [], IfErr, IfOk, MatchResult};
+ghost use Rattle.std.specs.Prelude.{Ok, OnOk, Option, Some, false, true};
+ghost use Rattle.ipc_model.specs.declared.limits.Limits.{Limits};
+ghost use Rattle.ipc_model.specs.declared.table.Table.{Table};
+ghost use Rattle.ipc_stream_read.specs.declared.end.End.TheVariants.{Closed, Mark};
+ghost use Rattle.ipc_stream_read.specs.declared.stream_phase.StreamPhase.TheVariants.{Reading};
+ghost use Rattle.ipc_stream_read.specs.Found.{batch_rows};
+ghost use Rattle.ipc_stream_read.specs.Reader.{Opens};
+ghost use Rattle.ipc_stream_read.specs.Stream.{Denotes, EndsStream};
+ghost use Rattle.ipc_stream.specs.Dictionaries.{SendsBatch, kept_after};
+ghost use Rattle.ipc_stream.specs.Writer.{StartsWriter, StartFails};
+ghost use Rattle.ipc_stream.specs.Writing.{AcceptsBatch, CutShort};
+ghost use Rattle.ipc_stream.specs.Writing.{RefusesBatch, Sends, Sent};
+ghost use Rattle.job_rewrite.specs.declared.stop.RewriteStop.TheVariants.{Write};
+ghost use Rattle.job_rewrite.specs.RewriteLimits.{at_least_standard};
+ghost use Rattle.job_rewrite.specs.Reporting.{ReportsSentBatches};
+ghost use Rattle.job_rewrite.specs.Rewriting.{AnswersRewrittenTable, CopiesBatches, Rewrites};
+ghost use Rattle.job_rewrite.specs.Rewriting.{as_required};
+ghost use Rattle.job_rewrite.specs.Rewriting.{CountsRewriteFailures};
+
+use crate::limits::at_least_standard;
+use crate::stop::RewriteStop;
+use ipc_model::{Fault, Items, Limits, Schema, Text, WriteFault};
+use ipc_stream::{Batch, End, Progress, Seed, Sink, Source, StreamReader, StreamWriter};
+use std::alloc::Global;
+
+// Writes the rows of a batch, with these pairs.
+fn copy_batch<W: Sink>(
+    batch: &Batch,
+    pairs: Items<(Text, Text)>,
+    writer: &mut StreamWriter<W>,
+) -> Result<(), WriteFault>
+    requires works { writer.old.failed ≡ false }
+    ensures sends { Sends
+        (SendsBatch writer.old.limits writer.old.schema writer.old.kept
+        (batch_rows (batch.now, pairs)))
+        writer.old.written writer.new.written writer.old.failures writer.new.failures result }
+    ensures judged { MatchResult result
+        (λ _. AcceptsBatch writer.old.limits writer.old.schema (batch_rows (batch.now, pairs)))
+        (λ fault. RefusesBatch writer.old.limits writer.old.schema (batch_rows (batch.now, pairs))
+        fault) }
+    ensures limits { OnOk result (writer.new.limits ≡ writer.old.limits) }
+    ensures schema { OnOk result (writer.new.schema ≡ writer.old.schema) }
+    ensures kept { OnOk result (writer.new.kept ≡ kept_after writer.old.schema.fields
+        writer.old.kept (batch_rows (batch.now, pairs) ∷ [])) }
+    ensures works { OnOk result (writer.new.failed ≡ false) }
+{
+    writer.write_columns(batch, pairs)
+}
+
+// The end of a stream that was read, or F4 if it is not the mark that is required.
+fn check_end(end: End, require_mark: bool) -> Result<End, Fault>
+    ensures { result ≡ as_required require_mark (Ok end) }
+{
+    match end {
+        End::Mark => Ok(End::Mark),
+        End::Closed => {
+            if require_mark {
+                return Err(Fault::Truncated);
+            }
+            Ok(End::Closed)
+        }
+    }
+}
+
+// Writes each batch that is read, and reports it then, to the end of the stream, which is F4 if it
+// is not the mark that is required.
+#[tactic(auto, using(crate::proofs::Batches::copied_none, crate::proofs::Batches::copied_more))]
+fn copy_batches<R: Source, W: Sink, P: Progress>(
+    require_mark: bool,
+    stream: &mut StreamReader<R>,
+    writer: &mut StreamWriter<W>,
+    progress: &mut P,
+) -> Result<(), RewriteStop>
+    requires reading { stream.old.phase ≡ Reading }
+    requires source { stream.old.failures ≡ 0 }
+    requires works { writer.old.failed ≡ false }
+    requires sink { writer.old.failures ≡ 0 }
+    requires schema { writer.old.schema ≡ stream.old.schema }
+    ensures copies { CopiesBatches require_mark stream.old stream.new writer.old writer.new
+        result }
+    ensures works { OnOk result (writer.new.failed ≡ false) }
+    ensures devices { CountsRewriteFailures stream.old.failures stream.new.failures
+        writer.old.failures
+        writer.new.failures result }
+    ensures reports { (limits : Limits) (start : Option (List ℕ)) → Opens limits start stream.old
+        → ReportsSentBatches limits start stream.new.remaining (P.told progress.old)
+        (P.told progress.new) result }
+{
+    let mut batches: u64 = 0;
+    let mut rows: u64 = 0;
+    loop {
+        match stream.next() {
+            Ok(Some((batch, pairs))) => {
+                copy_batch(&batch, pairs, writer)?;
+                batches = batches.saturating_add(1);
+                rows = rows.saturating_add(batch.rows() as u64);
+                progress.batch_done(stream.taken(), batches, rows);
+            }
+            // The reader has an end now, so none is made up.
+            Ok(None) => match check_end(stream.end().unwrap_or(End::Closed), require_mark) {
+                Ok(_) => return Ok(()),
+                Err(missing) => return Err(RewriteStop::Read(missing, stream.messages())),
+            },
+            Err(fault) => return Err(RewriteStop::Read(fault, stream.messages())),
+        }
+    }
+}
+
+// Begins the new stream, whose values of dictionaries are hashed with this seed.
+fn begin_stream<W: Sink>(
+    alloc: Global,
+    seed: Seed,
+    limits: &Limits,
+    sink: W,
+    schema: &Schema,
+) -> Result<StreamWriter<W>, (WriteFault, W)>
+    ensures started { IfOk result
+        (λ s. StartsWriter (at_least_standard limits.now) schema.now (W.written sink)
+        (W.failures sink) s) }
+    ensures seeded { IfOk result (λ s. s.seed ≡ seed) }
+    ensures refused { IfErr result (λ e. StartFails (at_least_standard limits.now) schema.now
+        (W.written sink) (W.written e.1) (W.failures sink) (W.failures e.1) e.0) }
+{
+    let mut writer = StreamWriter::start(alloc, at_least_standard(limits), sink, schema)?;
+    writer.set_seed(seed);
+    Ok(writer)
+}
+
+// Ends the new stream with its mark.
+fn end_stream<W: Sink>(writer: StreamWriter<W>) -> (Result<(), RewriteStop>, W)
+    requires { writer.failed ≡ false }
+    ensures ends { MatchResult result.0
+        (λ _. Sent EndsStream writer.written (W.written result.1) writer.failures
+        (W.failures result.1))
+        (λ stop. (stop ≡ Write WriteFault.Write)
+        × CutShort EndsStream writer.written (W.written result.1) (W.failures result.1)) }
+    ensures handed_on { OnOk result.0 (W.held_back result.1 ≡ Some []) }
+{
+    match writer.finish() {
+        Ok(sink) => (Ok(()), sink),
+        Err((fault, sink)) => (Err(RewriteStop::Write(fault)), sink),
+    }
+}
+
+// Writes a stream whose schema was read, and gives the sink back.
+fn copy_stream<R: Source, W: Sink, P: Progress>(
+    alloc: Global,
+    seed: Seed,
+    require_mark: bool,
+    stream: &mut StreamReader<R>,
+    sink: W,
+    progress: &mut P,
+) -> (Result<(), RewriteStop>, W)
+    requires reading { stream.old.phase ≡ Reading }
+    requires source { stream.old.failures ≡ 0 }
+    ensures rewrites { (limits : Limits) (start : Option (List ℕ)) → Opens limits start stream.old
+        → Rewrites require_mark limits start stream.new.remaining (W.written sink)
+        (W.written result.1) (W.failures sink) (W.failures result.1) result.0 }
+    ensures handed_on { OnOk result.0 (W.held_back result.1 ≡ Some []) }
+    ensures devices { CountsRewriteFailures stream.old.failures stream.new.failures
+        (W.failures sink)
+        (W.failures result.1) result.0 }
+    ensures reports { (limits : Limits) (start : Option (List ℕ)) → Opens limits start stream.old
+        → ReportsSentBatches limits start stream.new.remaining (P.told progress.old)
+        (P.told progress.new) result.0 }
+{
+    let mut writer = match begin_stream(alloc, seed, &stream.limits(), sink, stream.schema()) {
+        Ok(writer) => writer,
+        Err((fault, sink)) => return (Err(RewriteStop::Write(fault)), sink),
+    };
+    match copy_batches(require_mark, stream, &mut writer, progress) {
+        Ok(()) => end_stream(writer),
+        Err(stop) => (Err(stop), writer.into_inner()),
+    }
+}
+
+/// Reads a stream from `source` and writes it to `sink` in canonical layout, with its schema, its
+/// batches and the end-of-stream mark (Arrow Columnar Format, "IPC Streaming Format"). Returns
+/// `source` and `sink` with the result.
+///
+/// The schema's message is sent as soon as it is read. Each batch is sent with its pairs and rows,
+/// after the dictionaries that it needs, before the next one is read. One batch is kept at a time,
+/// and of each dictionary the values that were sent. Hashes use `Seed::Fixed`. What is read is
+/// within `limits`, and what is written is within `at_least_standard(limits)`. After each batch
+/// that was written, `progress` is called once; `()` ignores it.
+///
+/// Errors, after which the bytes that were written remain written:
+///
+/// - `RewriteStop::Read`: the stream is refused, as in `StreamReader`, with F1 to F37 except F35,
+///   and with the number of the message. The schema's message has number 0.
+/// - `RewriteStop::Write`: what was read is refused, as in `StreamWriter`, with W1 to W9 or W11. A
+///   null in a field that is not nullable is read, and refused with W5. W11 also comes if memory
+///   for the values of a batch ran out.
+pub fn rewrite<R: Source, W: Sink, P: Progress>(
+    alloc: Global,
+    limits: Limits,
+    source: R,
+    sink: W,
+    progress: &mut P,
+) -> (Result<(), RewriteStop>, R, W)
+    // At Ok what was taken denotes a table, and what was sent is that table with the mark. At a
+    // fault, why reading or writing broke off there, and the messages that were sent before.
+    ensures rewrites { Rewrites false limits (R.remaining source) (R.remaining result.1)
+        (W.written sink) (W.written result.2) (W.failures sink) (W.failures result.2) result.0 }
+    // At Ok the sink holds nothing back.
+    ensures handed_on { OnOk result.0 (W.held_back result.2 ≡ Some []) }
+    // With devices that had not failed before, F36 and W9 are answered exactly where the source or
+    // the sink failed in this call.
+    ensures devices { CountsRewriteFailures (R.failures source) (R.failures result.1)
+        (W.failures sink)
+        (W.failures result.2) result.0 }
+    // A table with its mark is written whatever follows it, or refused as it is by a writer, unless
+    // memory runs out or the source fails.
+    ensures marked { (x rest : List ℕ) (t : Table)
+        → R.remaining source ≡ Some (x ++ rest) → Denotes limits x t Mark
+        → R.failures result.1 ≡ 0
+        → AnswersRewrittenTable (at_least_standard limits) t (W.written sink) (W.written result.2)
+        (W.failures sink) (W.failures result.2) result.0 }
+    // So is one without a mark where nothing follows.
+    ensures closed { (x : List ℕ) (t : Table)
+        → R.remaining source ≡ Some x → Denotes limits x t Closed → R.failures result.1 ≡ 0
+        → AnswersRewrittenTable (at_least_standard limits) t (W.written sink) (W.written result.2)
+        (W.failures sink) (W.failures result.2) result.0 }
+    // Each batch that was read was reported once, in order, with the bytes taken up to it, and the
+    // batches and rows so far. At `Write` the last one may have no report. That a report comes
+    // after the messages of its batch is not stated.
+    ensures reports { ReportsSentBatches limits (R.remaining source) (R.remaining result.1)
+        (P.told progress.old) (P.told progress.new) result.0 }
+{
+    rewrite_with_seed(alloc, Seed::Fixed, false, limits, source, sink, progress)
+}
+
+/// Rewrites a stream as `rewrite` does, but hashes the values of dictionaries with this seed.
+/// Nobody who does not know a random seed can choose values whose hashes collide.
+///
+/// With `require_mark`, a stream that ends without the end-of-stream mark is refused with F4 and
+/// the number of the message after its last one. Its batches were sent then, and no mark.
+pub fn rewrite_with_seed<R: Source, W: Sink, P: Progress>(
+    alloc: Global,
+    seed: Seed,
+    require_mark: bool,
+    limits: Limits,
+    source: R,
+    sink: W,
+    progress: &mut P,
+) -> (Result<(), RewriteStop>, R, W)
+    // At Ok what was taken denotes a table, with its mark if that is required, and what was sent is
+    // that table with the mark. At a fault, why reading or writing broke off there, and the
+    // messages that were sent before.
+    ensures rewrites { Rewrites require_mark limits (R.remaining source) (R.remaining result.1)
+        (W.written sink) (W.written result.2) (W.failures sink) (W.failures result.2) result.0 }
+    // At Ok the sink holds nothing back.
+    ensures handed_on { OnOk result.0 (W.held_back result.2 ≡ Some []) }
+    // With devices that had not failed before, F36 and W9 are answered exactly where the source or
+    // the sink failed in this call.
+    ensures devices { CountsRewriteFailures (R.failures source) (R.failures result.1)
+        (W.failures sink)
+        (W.failures result.2) result.0 }
+    // A table with its mark is written whatever follows it, or refused as it is by a writer, unless
+    // memory runs out or the source fails.
+    ensures marked { (x rest : List ℕ) (t : Table)
+        → R.remaining source ≡ Some (x ++ rest) → Denotes limits x t Mark
+        → R.failures result.1 ≡ 0
+        → AnswersRewrittenTable (at_least_standard limits) t (W.written sink) (W.written result.2)
+        (W.failures sink) (W.failures result.2) result.0 }
+    // So is one without a mark where nothing follows, if no mark is required.
+    ensures closed { (x : List ℕ) (t : Table) → require_mark ≡ false
+        → R.remaining source ≡ Some x → Denotes limits x t Closed → R.failures result.1 ≡ 0
+        → AnswersRewrittenTable (at_least_standard limits) t (W.written sink) (W.written result.2)
+        (W.failures sink) (W.failures result.2) result.0 }
+    // Each batch that was read was reported once, in order, with the bytes taken up to it, and the
+    // batches and rows so far. At `Write` the last one may have no report. That a report comes
+    // after the messages of its batch is not stated.
+    ensures reports { ReportsSentBatches limits (R.remaining source) (R.remaining result.1)
+        (P.told progress.old) (P.told progress.new) result.0 }
+{
+    match StreamReader::open(alloc, limits, source) {
+        Ok(stream) => {
+            let mut stream = stream;
+            let (result, sink) = copy_stream(
+                alloc,
+                seed,
+                require_mark,
+                &mut stream,
+                sink,
+                progress,
+            );
+            (result, stream.into_inner(), sink)
+        }
+        Err((fault, source)) => (Err(RewriteStop::Read(fault, 0)), source, sink),
+    }
+}

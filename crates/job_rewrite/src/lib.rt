@@ -1,0 +1,11 @@
+//! Reads a stream batch by batch and writes it again in canonical layout, with its schema and
+//! batches (Arrow Columnar Format, "IPC Streaming Format").
+#![tactic(auto)]
+
+mod copying;
+mod limits;
+mod stop;
+
+pub use copying::{rewrite, rewrite_with_seed};
+pub use limits::at_least_standard;
+pub use stop::RewriteStop;
