@@ -190,7 +190,7 @@ module _ (limits : Limits) (s : Schema) (k : ℕ) (e : Entry) (rest : List Entry
       record {
         number = omega (arith, t.number, so.fields, head.size);
         broken = (e, (head.here, (broken_both limits s (take k (entries s.fields)) b e so x).0 t.fails));
-        told_first = λ y broken. t.least y (here_breaks y broken);
+        reported_first = λ y broken. t.least y (here_breaks y broken);
         none_before = clean;
       }
 
@@ -295,8 +295,8 @@ one_first : {limits : Limits} → (s : Schema) (j k : ℕ) (x y : SchemaFault) �
 one_first {limits} s j k x y a b =
     elim (cases_order j k) as (λ _. x ≡ y) [
       | inl same ↦
-          (let over = a.told_first y (subst (λ (i : ℕ). BreaksAt limits s i y) (sym same) b.broken) in
-          let under = b.told_first x (subst (λ (i : ℕ). BreaksAt limits s i x) same a.broken) in
+          (let over = a.reported_first y (subst (λ (i : ℕ). BreaksAt limits s i y) (sym same) b.broken) in
+          let under = b.reported_first x (subst (λ (i : ℕ). BreaksAt limits s i x) same a.broken) in
           rank_one x y (omega (arith, a.number, b.number, same)) (omega (arith, over, under)))
       | inr r ↦ elim r as (λ _. x ≡ y) [ inl m ↦ absurd (b.none_before j m x a.broken) | inr m ↦ absurd (a.none_before k m y b.broken) ]
     ]

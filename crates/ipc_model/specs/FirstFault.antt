@@ -62,7 +62,7 @@ entry_number f.OutOfMemory = 0
 pub record IsFirstAt (limits : Limits) (s : Schema) (k : ℕ) (fault : SchemaFault) : Type 0 where
   pub number : entry_number fault ≡ k + 1
   pub broken : BreaksAt limits s k fault
-  pub IsReportedFirst : (other : SchemaFault) → BreaksAt limits s k other → rank fault ≤ rank other
+  pub reported_first : (other : SchemaFault) → BreaksAt limits s k other → rank fault ≤ rank other
   pub none_before : (j : ℕ) → j < k → (other : SchemaFault) → ¬ BreaksAt limits s j other
 
 -- the first fault of a schema: of its own pairs, which are counted before its entries and have the
