@@ -71,7 +71,8 @@ PARTS = [
      "m bytes of metadata follow; 0 is the end mark", "F2, F3; F10: end mark before the schema"),
     (104, "8", "metadata", "FlatBuffer, padded to 8: m bytes", "ipc_flat: tables|ipc_meta: head",
      "a schema, dictionary batch or record batch;|b bytes of body follow", "F5 to F9, F12 to F24"),
-    (134, "8 + m", "body", "buffers, padded to 8: b bytes", "ipc_column: buffers|ipc_stream_read: state",
+    (134, "8 + m", "body", "buffers, padded to 8: b bytes",
+     "ipc_column: buffers|ipc_stream_read: state",
      "the schema is in force, a dictionary is set,|or a batch is read", "F10, F11, F25 to F34"),
 ]
 

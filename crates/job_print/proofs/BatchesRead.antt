@@ -1,10 +1,10 @@
 -- Batches that are read and printed.
 use Rattle.ipc_model.specs.declared.table.BatchRows.{BatchRows}
 use Rattle.std.proofs.Common.{◌≡◌, ◌∙◌, refl, sym, ap, subst, ℕ, List, [], ◌∷◌, ◌++◌, map, take, Option, Some}
-use Rattle.std.proofs.Common.{None, Result, Ok, Err, append-nil}
+use Rattle.std.proofs.Common.{None, Result, Ok, Err, append-nil, ◌+◌, ◌<◌, length, inl, arith}
 use Rattle.std.specs.Io.KnownBytes.{Consumes}
 use Rattle.std.proofs.KnownBytes.{Consumes-nil, Consumes-trans}
-use Rattle.std.proofs.lemmas.List.{map-append}
+use Rattle.std.proofs.lemmas.List.{length-append, length-take, map-append}
 use Rattle.ipc_model.specs.declared.fault.Fault.{Fault}
 use Rattle.ipc_model.specs.declared.value.Value.{Value}
 use Rattle.ipc_stream_read.specs.Found.{ReadRows, batch_rows}
@@ -23,7 +23,7 @@ use Rattle.job_print.specs.declared.form.PrintOptions.{PrintOptions}
 use Rattle.job_print.specs.declared.stop.Outcome.TheVariants.{Whole, Limited, Broken, Refused as Lacking}
 use Rattle.job_print.specs.Columns.{AreNumberColumns}
 use Rattle.job_print.specs.FirstRows.{batch_prefix, within, AreWanted, HasReached, WantsMoreRows, wanted_rows}
-use Rattle.job_print.specs.Forms.{batch_heading, line_of, HaveLines, HaveAllLines, row_count}
+use Rattle.job_print.specs.Forms.{batch_heading as heading, line_of, HaveLines, HaveAllLines, row_count}
 use Rattle.job_print.specs.Output.{Output, output, Puts, PutFails}
 use Rattle.job_print.specs.Rows.{AreNumberRows, lines, batch_lines, last_lines}
 use Rattle.ipc_stream_read.specs.Decoding.{ReportsLastEvent}
@@ -34,13 +34,10 @@ use Rattle.job_print.proofs.FirstRows.{refuses_all, row_count_last, take_fewer}
 use Rattle.job_print.proofs.Puts.{puts_then, puts_not_then, puts_none, missing_all, missing_at, missing_then}
 use Rattle.job_print.proofs.Shown.{all_more}
 use Rattle.job_print.proofs.Lines.{put_at, not_at}
-use Rattle.job_print.proofs.Messages.{Came, Counted, ReadsCounted, came, counted_then, ends_counted, reads_then}
-use Rattle.job_print.proofs.Messages.{broke, ended, gave}
+use Rattle.job_print.proofs.Messages.{Came, Counted, ReadsCounted, came, counted_then, broke, ended, ends_counted, gave, reads_then}
 use Rattle.job_print.proofs.Texts.{batch_lines_more, last_lines_more}
 use Rattle.job_print.proofs.BatchesShown.{batch_shown}
-use Rattle.std.proofs.Common.{◌+◌, ◌<◌, length, inl, arith}
 use Rattle.std.specs.Prelude.{Bool, IsTrue, false, true, unwrap_or}
-use Rattle.std.proofs.lemmas.List.{length-append, length-take}
 use Rattle.ipc_stream_read.specs.declared.end.End.TheVariants.{Closed, Mark}
 use Rattle.ipc_model.specs.declared.fault.Fault.TheVariants.{Read, Truncated}
 use Rattle.ipc_stream_read.specs.Counts.{count_up, messages_in}
@@ -63,7 +60,7 @@ pub record Batches (options : PrintOptions) (tally : PrintCounts) (old now : Rea
   pub wanted : AreWanted options.limit batches
   pub have : HaveAllLines options.form old.schema.fields (within options.limit batches)
   pub puts : Puts before after
-      (batch_lines (batch_heading options.form) (line_of options.form old.schema.fields) (within options.limit batches))
+      (batch_lines (heading options.form) (line_of options.form old.schema.fields) (within options.limit batches))
   pub sent : after.kept ≡ []
 
 -- an end that is taken where the mark is required is the mark
@@ -100,8 +97,7 @@ batches_none options r o reading empty = record {
   wanted = wanted_none options.limit;
   have = subst (HaveAllLines options.form r.schema.fields) (sym (within_none options.limit)) tt;
   puts = put_at o o _ _
-      (ap (batch_lines (batch_heading options.form) (line_of options.form r.schema.fields)) (sym (within_none options.limit)))
-      (puts_none o);
+      (ap (batch_lines (heading options.form) (line_of options.form r.schema.fields)) (sym (within_none options.limit))) (puts_none o);
   sent = empty;
 }
 
@@ -148,8 +144,8 @@ module _ (options : PrintOptions) (tally : PrintCounts) (old now new : Reader) (
   all_before : within options.limit b.batches ≡ b.batches
   all_before = within_all options.limit b.batches below
 
-  puts_before : Puts before after (batch_lines (batch_heading options.form) line b.batches)
-  puts_before = put_at before after _ _ (ap (batch_lines (batch_heading options.form) line) all_before) b.puts
+  puts_before : Puts before after (batch_lines (heading options.form) line b.batches)
+  puts_before = put_at before after _ _ (ap (batch_lines (heading options.form) line) all_before) b.puts
 
   have_before : HaveAllLines options.form old.schema.fields b.batches
   have_before = subst (HaveAllLines options.form old.schema.fields) all_before b.have
@@ -163,11 +159,11 @@ module _ (options : PrintOptions) (tally : PrintCounts) (old now new : Reader) (
   all_now found count is = within_more options.limit b.batches (batch_rows found) count below is
 
   text_now : (found : ReadRows) (count : ℕ) → IsCount found count
-      → batch_lines (batch_heading options.form) line b.batches ++ (batch_heading options.form found.1
+      → batch_lines (heading options.form) line b.batches ++ (heading options.form found.1
       ++ lines line (take count found.0.rows))
-      ≡ batch_lines (batch_heading options.form) line (within options.limit (b.batches ++ batch_rows found ∷ []))
-  text_now found count is = batch_lines_more line (batch_heading options.form) b.batches (batch_prefix count (batch_rows found))
-      ∙ ap (batch_lines (batch_heading options.form) line) (sym (all_now found count is))
+      ≡ batch_lines (heading options.form) line (within options.limit (b.batches ++ batch_rows found ∷ []))
+  text_now found count is = batch_lines_more line (heading options.form) b.batches (batch_prefix count (batch_rows found))
+      ∙ ap (batch_lines (heading options.form) line) (sym (all_now found count is))
 
   -- the batch that came, under the limits that the reader was opened with
   found_run : (found : ReadRows) → (t : NextCall now new (Ok (Some found)))
@@ -206,12 +202,10 @@ module _ (options : PrintOptions) (tally : PrintCounts) (old now new : Reader) (
   -- what was put of a batch, by the fields that are in force
   same_puts : (fields : List Field) (found : ReadRows) (count : ℕ) (w : Option (List ℕ)) (n : ℕ) (k : List ℕ)
       (r : Result (Option TextFault) PrintFault)
-      → fields ≡ old.schema.fields → PutsRows options.form fields (batch_heading options.form found.1) (take count found.0.rows) after w n k
-      r
-      → PutsRows options.form old.schema.fields (batch_heading options.form found.1) (take count found.0.rows) after w n k r
+      → fields ≡ old.schema.fields → PutsRows options.form fields (heading options.form found.1) (take count found.0.rows) after w n k r
+      → PutsRows options.form old.schema.fields (heading options.form found.1) (take count found.0.rows) after w n k r
   same_puts fields found count w n k r is p =
-      subst (λ (fs : List Field). PutsRows options.form fs (batch_heading options.form found.1) (take count found.0.rows) after w n k r) is
-      p
+      subst (λ (fs : List Field). PutsRows options.form fs (heading options.form found.1) (take count found.0.rows) after w n k r) is p
 
   counted_more : (found : ReadRows) (t : NextCall now new (Ok (Some found))) (k : ℕ) → old.taken ≡ count_up 0 k
       → new.taken ≡ count_up 0 (k + length (b.x ++ t.x))
@@ -229,12 +223,12 @@ module _ (options : PrintOptions) (tally : PrintCounts) (old now new : Reader) (
       (last : Output) → IsCount found count → next.batches ≡ count_up tally.batches 1
       → next.rows ≡ count_up tally.rows (length found.0.rows)
       → fields ≡ old.schema.fields → NextCall now new (Ok (Some found)) → new.failures ≡ now.failures
-      → PutsRows options.form fields (batch_heading options.form found.1) (take count found.0.rows) after w n k (Ok None)
+      → PutsRows options.form fields (heading options.form found.1) (take count found.0.rows) after w n k (Ok None)
       → Puts (output w n k) last [] → last.kept ≡ []
       → Batches options next old new before last
   batches_more fields found count next w n k last wants one all is t works p flushed empty =
       let q = same_puts fields found count w n k (Ok None) is p in
-      let rows = batch_heading options.form found.1 ++ lines line (take count found.0.rows) in
+      let rows = heading options.form found.1 ++ lines line (take count found.0.rows) in
       record {
         x = b.x ++ t.x;
         batches = b.batches ++ batch_rows found ∷ [];
@@ -253,7 +247,7 @@ module _ (options : PrintOptions) (tally : PrintCounts) (old now new : Reader) (
             (all_more (λ q. HaveLines options.form old.schema.fields q.rows) b.batches (batch_prefix count (batch_rows found)) have_before
             q.0);
         puts = put_at before last _ _ (text_now found count wants)
-            (puts_then before after last (batch_lines (batch_heading options.form) line b.batches) rows puts_before
+            (puts_then before after last (batch_lines (heading options.form) line b.batches) rows puts_before
             (put_at after last _ _ (append-nil rows) (puts_then after (output w n k) last rows [] q.1 flushed)));
         sent = empty;
       }
@@ -261,7 +255,7 @@ module _ (options : PrintOptions) (tally : PrintCounts) (old now new : Reader) (
   -- a row of the batch that came isn't printed, and those before it were
   pub batches_refused : (fields : List Field) (found : ReadRows) (count : ℕ) (w : Option (List ℕ)) (n : ℕ) (k : List ℕ) (fault : TextFault)
       → IsCount found count → fields ≡ old.schema.fields → NextCall now new (Ok (Some found)) → new.failures ≡ now.failures
-      → PutsRows options.form fields (batch_heading options.form found.1) (take count found.0.rows) after w n k (Ok (Some fault))
+      → PutsRows options.form fields (heading options.form found.1) (take count found.0.rows) after w n k (Ok (Some fault))
       → PrintsBatches options [] old new before (output w n k) (Ok (Lacking fault))
   batches_refused fields found count w n k fault wants is t works p =
       let q = same_puts fields found count w n k (Ok (Some fault)) is p in
@@ -269,7 +263,7 @@ module _ (options : PrintOptions) (tally : PrintCounts) (old now new : Reader) (
       let less : q.0 < count = omega (arith, q.1.inside, size) in
       let fewer = take_fewer q.0 count found.0.rows (omega (arith, q.1.inside)) in
       let put =
-      subst (λ (rows : List (List Value)). Puts after (output w n k) (batch_heading options.form found.1 ++ lines line rows)) fewer q.2 in (
+      subst (λ (rows : List (List Value)). Puts after (output w n k) (heading options.form found.1 ++ lines line rows)) fewer q.2 in (
         record {
           x = b.x ++ t.x;
           batches = b.batches;
@@ -281,12 +275,12 @@ module _ (options : PrintOptions) (tally : PrintCounts) (old now new : Reader) (
           below = below_refused options.limit (row_count b.batches) count (length found.0.rows) q.0 below wants less;
           have = have_before;
           refuses = refuses_all options.form old.schema.fields found.0.rows count q.0 fault q.1;
-          puts = puts_then before after (output w n k) (batch_lines (batch_heading options.form) line b.batches) _ puts_before put;
+          puts = puts_then before after (output w n k) (batch_lines (heading options.form) line b.batches) _ puts_before put;
           few = omega (
             arith,
             put.few,
             ap length b.sent,
-            length-append after.kept (batch_heading options.form found.1 ++ lines line (take q.0 found.0.rows)),
+            length-append after.kept (heading options.form found.1 ++ lines line (take q.0 found.0.rows)),
           );
         },
         λ z. works ∙ (b.counts ∙ z),
@@ -295,13 +289,13 @@ module _ (options : PrintOptions) (tally : PrintCounts) (old now new : Reader) (
   -- the rows of the batch that came weren't all printed
   pub batches_cut : (fields : List Field) (found : ReadRows) (count : ℕ) (w : Option (List ℕ)) (n : ℕ) (k : List ℕ) (e : PrintFault)
       → IsCount found count → fields ≡ old.schema.fields → NextCall now new (Ok (Some found)) → new.failures ≡ now.failures
-      → PutsRows options.form fields (batch_heading options.form found.1) (take count found.0.rows) after w n k (Err e)
+      → PutsRows options.form fields (heading options.form found.1) (take count found.0.rows) after w n k (Err e)
       → PrintsPart options [] old new before w n e
   batches_cut fields found count w n k e wants is t works p =
       let q = same_puts fields found count w n k (Err e) is p in
-      let rows = batch_heading options.form found.1 ++ lines line (take count found.0.rows) in
+      let rows = heading options.form found.1 ++ lines line (take count found.0.rows) in
       let missing = missing_at before w n _ _ e (length rows) (text_now found count wants ∙ sym (append-nil _))
-      (missing_then before after w n (batch_lines (batch_heading options.form) line b.batches) rows e (length rows) puts_before
+      (missing_then before after w n (batch_lines (heading options.form) line b.batches) rows e (length rows) puts_before
       (missing_all after w n rows e b.sent q)) in
       record {
         x = b.x ++ t.x;
@@ -319,9 +313,9 @@ module _ (options : PrintOptions) (tally : PrintCounts) (old now new : Reader) (
         few = omega (
           arith,
           missing.1,
-          ap (λ (bs : List BatchRows). length (last_lines [] (batch_heading options.form) line bs)) (all_now found count wants),
-          ap length (last_lines_more line (batch_heading options.form) [] b.batches (batch_prefix count (batch_rows found))),
-          length-append (last_lines [] (batch_heading options.form) line (within options.limit (b.batches ++ batch_rows found ∷ []))) [],
+          ap (λ (bs : List BatchRows). length (last_lines [] (heading options.form) line bs)) (all_now found count wants),
+          ap length (last_lines_more line (heading options.form) [] b.batches (batch_prefix count (batch_rows found))),
+          length-append (last_lines [] (heading options.form) line (within options.limit (b.batches ++ batch_rows found ∷ []))) [],
         );
         last = inl refl;
         works = λ other z. works ∙ (b.counts ∙ z);
@@ -330,11 +324,11 @@ module _ (options : PrintOptions) (tally : PrintCounts) (old now new : Reader) (
   -- they were, and what is kept was not sent
   pub batches_unsent : (fields : List Field) (found : ReadRows) (count : ℕ) (w v : Option (List ℕ)) (n m : ℕ) (k : List ℕ)
       → IsCount found count → fields ≡ old.schema.fields → NextCall now new (Ok (Some found)) → new.failures ≡ now.failures
-      → PutsRows options.form fields (batch_heading options.form found.1) (take count found.0.rows) after w n k (Ok None)
+      → PutsRows options.form fields (heading options.form found.1) (take count found.0.rows) after w n k (Ok None)
       → PutFails (output w n k) v m [] Write
       → PrintsPart options [] old new before v m Write
   batches_unsent fields found count w v n m k wants is t works p q =
-      let rows = batch_heading options.form found.1 ++ lines (line_of options.form fields) (take count found.0.rows) in
+      let rows = heading options.form found.1 ++ lines (line_of options.form fields) (take count found.0.rows) in
       batches_cut fields found count v m [] Write wants is t works
       (not_at after v m _ _ Write (append-nil rows) (puts_not_then after (output w n k) v m rows [] Write p.1 q))
 
