@@ -1,30 +1,38 @@
 #!/usr/bin/env python3
-"""Makes docs/DEFINITIONS.md from the comments above the public definitions in crates/*/specs/.
+"""Makes docs/DEFINITIONS.md and docs/definitions/ from the comments above the definitions.
 
-    tools/definitions.py            writes the page
-    tools/definitions.py --check    fails where the page is another one, or where a public
-                                    definition has no comment
+    tools/definitions.py            writes the pages
+    tools/definitions.py --check    fails if the pages differ, or if a definition has no comment
 
-A definition's comment is the lines that begin with `--` right above it. What it names of a standard
-is the definition's section; a comment that names none has the section that the first comment of its
-file names, and else the definition is this project's own.
+A page has the definitions that the contracts of its calls cite, directly or through others, and
+that no earlier page has. A definition's comment is the lines that begin with `--` right above it.
+What it names of a standard is the definition's section. A comment that names none has the section
+that the first comment of its file names, and else the definition is this project's own.
 """
 import pathlib
 import re
 import sys
 import textwrap
 
-TOP = pathlib.Path(__file__).resolve().parent.parent
+from cited import TOP, Definitions, crates
+
 PAGE = TOP / "docs" / "DEFINITIONS.md"
+FOLDER = TOP / "docs" / "definitions"
 HEAD = """# The definitions
 
-Made by `tools/definitions.py` from the comments above the public definitions. The gate compares.
+Made by `tools/definitions.py` from the comments above the definitions. The gate compares.
 
 Contracts cite these definitions: who believes a contract believes them. They relate whole values to
-whole lists of bytes, without reading order, buffers or passes. Where a function that follows the
-code exists beside a relation, its comment says so, and a proved law joins the two.
+whole lists of bytes, without reading order, buffers or passes. If a function that follows the code
+exists beside a relation, its comment says so, and a proved law joins the two.
 
-The crates go from the bytes up to whole streams. A heading such as `Bytes` is the module
+Each page has the definitions that the contracts of its calls cite, directly or through others, and
+that no page above it has. So the first page is all that has to be read to know what an accepted
+stream denotes. A definition that only proofs use is on no page.
+
+{table}
+
+On a page, a heading such as `ipc_scalar` is the crate, and `Bytes` is the module
 `specs/Bytes.antt` of the crate above it. In parentheses is the place in the public standard that a
 definition states: the Arrow Columnar Format 1.x, its metadata schemas Schema.fbs and Message.fbs at
 version V5, the FlatBuffers binary format, or an RFC. A definition without one is this project's
@@ -36,14 +44,22 @@ definitions.
 """
 WIDTH = 100
 
-# A definition begins at the margin, or inside a `module _` with a word before or after `pub`,
-# which a record's member hasn't.
-HOW = "(?:abbrev|unfoldable|opaque)"
-DEFINITION = re.compile(
-    rf"^(?:(?:{HOW} )*pub (?:data |record )?|  (?:{HOW} )+pub |  pub (?:data|record) )"
-    r"([^\s:({]+)(?: [({].*)? ?:"
-)
-NOT_DEFINITIONS = {"mod", "use", "module"}
+# The pages in the order of reading: name, title, and the files whose contracts they serve.
+PAGES = [
+    ("STREAM", "What a stream denotes", "`read_table`", ["ipc_stream_read/src/table.rt"]),
+    ("READERS", "Readers, batches and columns", "`Decoder`, `StreamReader`, `Batch`, `SlotView`",
+     ["ipc_stream_read/src/*.rt", "ipc_column/src/batch.rt", "ipc_column/src/*view.rt"]),
+    ("WRITERS", "Writers", "`StreamWriter`, `BatchWriter`, `write_table`",
+     ["ipc_stream/src/*.rt"]),
+    ("TEXTS", "Texts of schemas and rows", "`schema_json`, `row_json`, `csv_record`, `read_date`",
+     ["ipc_text_*/src/*.rt"]),
+    ("JOBS", "The jobs of the command", "`print`, `rewrite`, `from_csv`, `read_words`, `run`",
+     ["job_*/src/*.rt"]),
+    ("C", "The library for C", "`arrow_reader_feed` and the other exports",
+     ["ipc_stream_session/src/*.rt", "arrowstream_c/src/*.rt"]),
+    ("LAYERS", "The layers below", "the calls by which the crates use one another",
+     ["*/src/*.rt"]),
+]
 SOURCE = r"Schema\.fbs|Message\.fbs|Arrow Columnar Format|{}FlatBuffers binary format|RFC \d+"
 STANDARD = re.compile(SOURCE.format(""))
 SECTION = re.compile(
@@ -52,14 +68,6 @@ SECTION = re.compile(
     r'|, "[^"]+"(?:(?:, | and )"[^"]+")*|, [A-Z]\w+\b(?!\.fbs))*)'
 )
 QUOTED = re.compile(r'(?<!, )(?<!and )"[A-Z][^"]+"(?:(?:, | and )"[A-Z][^"]+")*')
-
-
-def crates():
-    """The crates of the repository that have definitions, in the order of crates.txt."""
-    lines = (TOP / "crates.txt").read_text(encoding="utf-8").splitlines()
-    lines = [line for line in lines if line.strip() and not line.startswith("#")]
-    names = [line.split(":")[0].split()[0] for line in lines]
-    return [name for name in names if (TOP / "crates" / name / "specs").is_dir()]
 
 
 def comment_above(lines, at):
@@ -108,63 +116,69 @@ def item(definition, section, sentence):
         break_long_words=False, break_on_hyphens=False)
 
 
-def definitions_of(path):
-    """Name, section, sentence of each public definition of a file; the sentence is None where there
-    is no comment."""
-    lines = path.read_text(encoding="utf-8").splitlines()
+def lines_of(path):
+    """The lines of a file."""
+    return path.read_text(encoding="utf-8").splitlines()
+
+
+def explained(key, definitions):
+    """The section and the comment of a definition; the comment is None if there is none."""
+    path, at = definitions.places[key]
+    lines = lines_of(path)
     beginning = file_comment(lines)
-    standard = None
-    for at, line in enumerate(lines):
-        if line.lstrip().startswith("--"):
-            named = STANDARD.findall(line)
-            standard = named[-1] if named else standard
-            continue
-        match = DEFINITION.match(line)
-        if not match or match.group(1) in NOT_DEFINITIONS:
-            continue
-        text = " ".join(comment_above(lines, at))
-        if text == beginning and lines[at - 1] == lines[len(beginning.splitlines()) - 1]:
-            text = ""
-        yield match.group(1), section_of(text, standard, beginning), text or None
+    text = " ".join(comment_above(lines, at))
+    if text == beginning and lines[at - 1] == lines[len(beginning.splitlines()) - 1]:
+        text = ""
+    named = [STANDARD.findall(line) for line in lines[:at] if line.lstrip().startswith("--")]
+    standard = next((found[-1] for found in reversed(named) if found), None)
+    return section_of(text, standard, beginning), text or None
 
 
-def modules_of(crate):
-    """The name and path of each module of a crate with definitions."""
-    specs = TOP / "crates" / crate / "specs"
-    for path in sorted(specs.rglob("*.antt")):
-        if "formers" not in path.parts:
-            yield path.relative_to(specs).with_suffix("").as_posix(), path
-
-
-def page():
-    """The page, and the definitions without a comment."""
-    parts, missing = [HEAD.rstrip()], []
-    for crate in crates():
-        modules = [(name, list(definitions_of(path))) for name, path in modules_of(crate)]
-        if any(found for _, found in modules):
+def page(title, keys, definitions):
+    """A page of these definitions, crate by crate and module by module."""
+    parts, place = [f"# {title}"], (None, None)
+    for key in keys:
+        crate, module, name = key
+        if crate != place[0]:
             parts.append(f"## `{crate}`")
-        for name, found in modules:
-            if found:
-                parts.append(f"### `{name}`")
-                parts.append("\n".join(item(*definition) for definition in found))
-            missing += [
-                f"crates/{crate}/specs/{name}.antt: {definition}"
-                for definition, _, sentence in found if sentence is None
-            ]
-    return "\n\n".join(parts) + "\n", missing
+        if (crate, module) != place:
+            parts.append(f"### `{module}`")
+            parts.append("")
+        place = crate, module
+        parts[-1] = "\n".join(filter(None, [parts[-1], item(name, *explained(key, definitions))]))
+    return "\n\n".join(parts) + "\n"
+
+
+def pages(definitions):
+    """The texts of all pages, by their paths."""
+    order = {key: number for number, key in enumerate(definitions.texts)}
+    rows = ["| page | for | definitions |", "|---|---|---|"]
+    listed, made = set(), {}
+    for name, title, calls, patterns in PAGES:
+        files = [path for pattern in patterns for path in sorted((TOP / "crates").glob(pattern))]
+        new = (definitions.of_contracts(files) & definitions.public) - listed
+        listed |= new
+        made[FOLDER / f"{name}.md"] = page(title, sorted(new, key=order.get), definitions)
+        rows.append(f"| [{title}](definitions/{name}.md) | {calls} | {len(new)} |")
+    made[PAGE] = HEAD.format(table="\n".join(rows))
+    return made
 
 
 def main(words):
-    text, missing = page()
-    for definition in missing:
-        print(f"no comment above {definition}")
-    if words == ["--check"]:
-        same = PAGE.read_text(encoding="utf-8") == text
-        if not same:
-            print("docs/DEFINITIONS.md is not what tools/definitions.py makes")
-        return 0 if same and not missing else 1
-    PAGE.write_text(text, encoding="utf-8")
-    return 0
+    definitions = Definitions(crates())
+    missing = [key for key in definitions.public if explained(key, definitions)[1] is None]
+    for crate, module, name in sorted(missing):
+        print(f"no comment above crates/{crate}/specs/{module}.antt: {name}")
+    made = pages(definitions)
+    if words != ["--check"]:
+        FOLDER.mkdir(exist_ok=True)
+        for path, text in made.items():
+            path.write_text(text, encoding="utf-8")
+        return 0
+    old = [path for path, text in made.items() if not path.exists() or path.read_text() != text]
+    for path in old + [path for path in FOLDER.glob("*") if path not in made]:
+        print(f"{path.relative_to(TOP)} is not what tools/definitions.py makes")
+    return 1 if old or missing or set(FOLDER.glob("*")) - set(made) else 0
 
 
 if __name__ == "__main__":
