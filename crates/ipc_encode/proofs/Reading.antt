@@ -347,7 +347,7 @@ rows_back {limits} ds known fields rows fine fits within stored found =
       lengths = record {
         batch = record { from = omega (arith, ints); to = omega (arith, ints, few) };
         nodes = All-from_recursion (IsFieldNode limits) (row_nodes fields rows) (are_nodes ds known limits s given good);
-        row_columns = subst (λ (cs : Columns). EachTop (λ c. pos c.slots ≡ pos (length rows)) cs) (sym e)
+        columns = subst (λ (cs : Columns). EachTop (λ c. pos c.slots ≡ pos (length rows)) cs) (sym e)
             (slots_written ds known (λ n. pos n ≡ pos (length rows)) s given (λ j. ap (λ (n : ℕ). pos n) (cells_length j rows)));
         children = subst (λ (cs : Columns). Each (λ c children. HasLongChildren c.layout c.slots children) cs) (sym e)
             (each_written ds known most (λ c children. HasLongChildren c.layout c.slots children)

@@ -6,6 +6,6 @@ use Rattle.ipc_column.proofs.slot_facts.+mark.Given as goal
 abbrev pub invariant-store_all_facts-loop-i : goal.invariant-store_all_facts-loop-i
 invariant-store_all_facts-loop-i l = record {
   unvisited : goal.unvisited-store_all_facts-loop-i l;
-  part_columns : part_columns l.body l.parts ≡ part_columns l.body l.fn.parts;
+  columns : part_columns l.body l.parts ≡ part_columns l.body l.fn.parts;
   marked : AreMarked l.body (take l.i l.parts);
 }
