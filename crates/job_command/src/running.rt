@@ -22,9 +22,9 @@ use ipc_stream::{Failed, Progress, Seed, Sink, Source};
 use ipc_text_csv::Dialect;
 use ipc_text_json::RowShape;
 use job_explain::{Recorder, explain_write};
-use job_from_csv::from_csv_with_seed;
+use job_from_csv::from_csv;
 use job_print::{Form, PrintOptions, print, print_schema};
-use job_rewrite::rewrite_with_seed;
+use job_rewrite::rewrite;
 use std::alloc::Global;
 
 // Prints the schema of a stream.
@@ -89,15 +89,7 @@ fn rewrite_job<S: Source, W: Sink, N: Progress>(
     ensures handed_on { OnOk result.0 (W.held_back result.2 ≡ Some []) }
     ensures works { exit_status result.0 ≢ 3 → W.failures sink ≡ 0 → W.failures result.2 ≡ 0 }
 {
-    let (result, source, sink) = rewrite_with_seed(
-        alloc,
-        seed,
-        require_mark,
-        limits,
-        input,
-        sink,
-        progress,
-    );
+    let (result, source, sink) = rewrite(alloc, seed, require_mark, limits, input, sink, progress);
     let result = match result {
         Ok(()) => Ok(()),
         Err(why) => Err(why.into()),
@@ -139,9 +131,7 @@ fn csv_job<P: Source, S: Source, W: Sink>(
         Ok(schema) => schema,
         Err(why) => return (Err(why), input, sink, file),
     };
-    let (result, input, sink) = from_csv_with_seed(
-        alloc, seed, dialect, input, sink, &schema, batch,
-    );
+    let (result, input, sink) = from_csv(alloc, seed, dialect, input, sink, &schema, batch);
     (csv_result(result, schema), input, sink, file)
 }
 

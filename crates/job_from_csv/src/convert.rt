@@ -202,7 +202,10 @@ fn send_stream<R: Read + ReportsFailure, W: Sink>(
 /// The stream is within `Limits::standard()`. The schema is sent when the header was checked. Each
 /// batch is sent as soon as its last record is read, after the dictionaries that it needs. At the
 /// end the end-of-stream mark is sent, and the sink is flushed. One record, one row, the buffers of
-/// one batch, and the values of the dictionaries are kept. Hashes use `Seed::Fixed`.
+/// one batch, and the values of the dictionaries are kept.
+///
+/// The values of dictionaries are hashed with `seed`. Nobody who does not know a random seed can
+/// choose values whose hashes collide.
 ///
 /// Errors, after which the bytes that were sent remain sent, with the full batches of earlier
 /// records:
@@ -223,43 +226,6 @@ fn send_stream<R: Read + ReportsFailure, W: Sink>(
 ///
 /// Faults at a record come before the next record is read.
 pub fn from_csv<R: Source, W: Sink>(
-    alloc: Global,
-    dialect: Dialect<'_>,
-    input: R,
-    sink: W,
-    schema: &Schema,
-    batch: u64,
-) -> (Result<(), FromCsvStop>, R, W)
-    requires some { 0 < batch }
-    requires within { batch ≤ 2 ^ 31 - 1 }
-    // What went out is the stream of a table whose batches are the rows of all records.
-    ensures converts { OnOk result.0 (Converts dialect.entry (R.remaining input) schema.now batch
-        (W.written sink)
-        (W.written result.2) (W.failures sink) (W.failures result.2)) }
-    // Nothing is held back.
-    ensures handed_on { OnOk result.0 (W.held_back result.2 ≡ Some []) }
-    // At a refusal, its cause, and exactly what went out before it.
-    ensures stopped { IfErr result.0 (λ why. StopsFor dialect.entry (R.remaining input) schema.now
-        batch
-        (W.written sink) (W.written result.2) (W.failures sink) (W.failures result.2) why) }
-    // The rows fit and the batches aren't too large, so W2 to W5 don't come, and W7 and W8 only of
-    // the values of a dictionary.
-    ensures left { IfErr result.0 (λ why. (fault : WriteFault) → why ≡ stop.Write fault
-        → IsLeftToRefuse schema.now fault) }
-    // W9 comes only where the sink failed.
-    ensures failed { result.0 ≡ Err (stop.Write WriteFault.Write) → W.failures result.2 ≡ 1 }
-    // Any other answer leaves a sink that works as one.
-    ensures works { result.0 ≢ Err (stop.Write WriteFault.Write) → W.failures sink ≡ 0
-        → W.failures result.2 ≡ 0 }
-    // `Input` comes exactly where the source failed.
-    ensures device { CountsSourceFailure (R.failures input) (R.failures result.1) result.0 }
-{
-    from_csv_with_seed(alloc, Seed::Fixed, dialect, input, sink, schema, batch)
-}
-
-/// Converts CSV to a stream as `from_csv` does, but hashes the values of dictionaries with this
-/// seed. Nobody who does not know a random seed can choose values whose hashes collide.
-pub fn from_csv_with_seed<R: Source, W: Sink>(
     alloc: Global,
     seed: Seed,
     dialect: Dialect<'_>,

@@ -7,5 +7,5 @@ mod rows;
 mod source_reader;
 mod stop;
 
-pub use convert::{from_csv, from_csv_with_seed};
+pub use convert::from_csv;
 pub use stop::FromCsvStop;

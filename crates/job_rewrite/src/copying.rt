@@ -182,9 +182,15 @@ fn copy_stream<R: Source, W: Sink, P: Progress>(
 ///
 /// The schema's message is sent as soon as it is read. Each batch is sent with its pairs and rows,
 /// after the dictionaries that it needs, before the next one is read. One batch is kept at a time,
-/// and of each dictionary the values that were sent. Hashes use `Seed::Fixed`. What is read is
-/// within `limits`, and what is written is within `at_least_standard(limits)`. After each batch
-/// that was written, `progress` is called once; `()` ignores it.
+/// and of each dictionary the values that were sent. What is read is within `limits`, and what is
+/// written is within `at_least_standard(limits)`. After each batch that was written, `progress` is
+/// called once; `()` ignores it.
+///
+/// The values of dictionaries are hashed with `seed`. Nobody who does not know a random seed can
+/// choose values whose hashes collide.
+///
+/// With `require_mark`, a stream that ends without the end-of-stream mark is refused with F4 and
+/// the number of the message after its last one. Its batches were sent then, and no mark.
 ///
 /// Errors, after which the bytes that were written remain written:
 ///
@@ -194,50 +200,6 @@ fn copy_stream<R: Source, W: Sink, P: Progress>(
 ///   null in a field that is not nullable is read, and refused with W5. W11 also comes if memory
 ///   for the values of a batch ran out.
 pub fn rewrite<R: Source, W: Sink, P: Progress>(
-    alloc: Global,
-    limits: Limits,
-    source: R,
-    sink: W,
-    progress: &mut P,
-) -> (Result<(), RewriteStop>, R, W)
-    // At Ok what was taken denotes a table, and what was sent is that table with the mark. At a
-    // fault, why reading or writing broke off there, and the messages that were sent before.
-    ensures rewrites { Rewrites false limits (R.remaining source) (R.remaining result.1)
-        (W.written sink) (W.written result.2) (W.failures sink) (W.failures result.2) result.0 }
-    // At Ok the sink holds nothing back.
-    ensures handed_on { OnOk result.0 (W.held_back result.2 ≡ Some []) }
-    // With devices that had not failed before, F36 and W9 are answered exactly where the source or
-    // the sink failed in this call.
-    ensures devices { CountsRewriteFailures (R.failures source) (R.failures result.1)
-        (W.failures sink)
-        (W.failures result.2) result.0 }
-    // A table with its mark is written whatever follows it, or refused as it is by a writer, unless
-    // memory runs out or the source fails.
-    ensures marked { (x rest : List ℕ) (t : Table)
-        → R.remaining source ≡ Some (x ++ rest) → Denotes limits x t Mark
-        → R.failures result.1 ≡ 0
-        → AnswersRewrittenTable (at_least_standard limits) t (W.written sink) (W.written result.2)
-        (W.failures sink) (W.failures result.2) result.0 }
-    // So is one without a mark where nothing follows.
-    ensures closed { (x : List ℕ) (t : Table)
-        → R.remaining source ≡ Some x → Denotes limits x t Closed → R.failures result.1 ≡ 0
-        → AnswersRewrittenTable (at_least_standard limits) t (W.written sink) (W.written result.2)
-        (W.failures sink) (W.failures result.2) result.0 }
-    // Each batch that was read was reported once, in order, with the bytes taken up to it, and the
-    // batches and rows so far. At `Write` the last one may have no report. That a report comes
-    // after the messages of its batch is not stated.
-    ensures reports { ReportsSentBatches limits (R.remaining source) (R.remaining result.1)
-        (P.told progress.old) (P.told progress.new) result.0 }
-{
-    rewrite_with_seed(alloc, Seed::Fixed, false, limits, source, sink, progress)
-}
-
-/// Rewrites a stream as `rewrite` does, but hashes the values of dictionaries with this seed.
-/// Nobody who does not know a random seed can choose values whose hashes collide.
-///
-/// With `require_mark`, a stream that ends without the end-of-stream mark is refused with F4 and
-/// the number of the message after its last one. Its batches were sent then, and no mark.
-pub fn rewrite_with_seed<R: Source, W: Sink, P: Progress>(
     alloc: Global,
     seed: Seed,
     require_mark: bool,

@@ -6,6 +6,6 @@ mod copying;
 mod limits;
 mod stop;
 
-pub use copying::{rewrite, rewrite_with_seed};
+pub use copying::rewrite;
 pub use limits::at_least_standard;
 pub use stop::RewriteStop;

@@ -5,7 +5,7 @@ pub returns-clause-answers : goal.returns-clause-answers
 returns-clause-answers g c =
     let read = rw c.in-Ok.is at c.read_schema-schema.ensures.read in
     let works = rw c.in-Ok.is at c.read_schema-schema.ensures.works in
-    csv_answers _ _ _ _ _ _ _ _ _ _ _ _ c.from_csv_with_seed-result.result.0 _ read works c.csv_result.ensures
-    c.from_csv_with_seed-result.ensures.converts c.from_csv_with_seed-result.ensures.stopped
-    c.from_csv_with_seed-result.ensures.device
-    (record { failed = c.from_csv_with_seed-result.ensures.failed; works = c.from_csv_with_seed-result.ensures.works })
+    csv_answers _ _ _ _ _ _ _ _ _ _ _ _ c.from_csv-result.result.0 _ read works c.csv_result.ensures
+    c.from_csv-result.ensures.converts c.from_csv-result.ensures.stopped
+    c.from_csv-result.ensures.device
+    (record { failed = c.from_csv-result.ensures.failed; works = c.from_csv-result.ensures.works })

@@ -3,7 +3,7 @@ use Rattle.job_from_csv.specs.Records.{IsSetUp}
 use Rattle.job_from_csv.proofs.Ending.{header_told}
 use Rattle.job_from_csv.proofs.NextRow.{answers_err, answers_ok, header_read}
 use Rattle.job_from_csv.proofs.Refusing.{answers_left}
-use Rattle.job_from_csv.proofs.convert.from_csv_with_seed.Goals as goal
+use Rattle.job_from_csv.proofs.convert.from_csv.Goals as goal
 
 pub returns-in-Err-read_header-clause-stopped : goal.returns-in-Err-read_header-clause-stopped
 returns-in-Err-read_header-clause-stopped g c =
