@@ -29,15 +29,8 @@ impl Model for DistinctValues {
 }
 
 impl DistinctValues {
-    /// Creates an empty list of values. It takes no memory.
-    pub fn new(alloc: Global) -> DistinctValues
-        ensures { result ≡ [] }
-    {
-        DistinctValues::with_seed(alloc, Seed::Fixed)
-    }
-
     /// Creates an empty list of values, whose hashes use this seed. It takes no memory.
-    pub fn with_seed(alloc: Global, seed: Seed) -> DistinctValues
+    pub fn new(alloc: Global, seed: Seed) -> DistinctValues
         ensures { result ≡ [] }
     {
         DistinctValues {

@@ -109,7 +109,7 @@ impl Plan {
         ensures only { IfErr result (λ fault. ((fault ≡ WriteFault.DictionaryFull)
             ⊎ IsOfLimits fault) ⊎ (fault ≡ WriteFault.OutOfMemory)) }
     {
-        let mut tally = Tally::new(alloc, limits, schema)?;
+        let mut tally = Tally::new(alloc, limits, schema, Seed::Fixed)?;
         for row in rows {
             tally.note(row.as_slice())?;
         }
@@ -158,7 +158,7 @@ impl Plan {
         ensures only { IfErr result (λ fault. ((fault ≡ WriteFault.DictionaryFull)
             ⊎ IsOfLimits fault) ⊎ (fault ≡ WriteFault.OutOfMemory)) }
     {
-        let mut counted = Tally::with_seed(alloc, limits, schema, seed)?;
+        let mut counted = Tally::new(alloc, limits, schema, seed)?;
         counted.note_columns(batch)?;
         counted.settle(alloc, kept)
     }

@@ -102,7 +102,7 @@ fn add_field(
     entries.push(TallyEntry {
         id: dictionary.id,
         limit,
-        values: DistinctValues::with_seed(alloc, seed),
+        values: DistinctValues::new(alloc, seed),
     })?;
     Ok(())
 }

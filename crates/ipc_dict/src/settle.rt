@@ -218,6 +218,9 @@ fn keep(alloc: Global, kept: &mut KeptEntry, entry: &mut TallyEntry, numbers: &O
     } }
 {
     if numbers.is_none() {
-        kept.values = Some(mem::replace(&mut entry.values, DistinctValues::new(alloc)));
+        kept.values = Some(mem::replace(
+            &mut entry.values,
+            DistinctValues::new(alloc, Seed::Fixed),
+        ));
     }
 }

@@ -81,31 +81,12 @@ impl Tally {
     /// narrowest index type of its fields bounds the number of values of an id. So do the limits of
     /// the one column of its message (Arrow Columnar Format, "Dictionary Messages").
     ///
-    /// The fields are copied, and hashes use `Seed::Fixed`.
+    /// The fields are copied, and hashes use `seed`.
     ///
     /// Errors: W6 `TooLong` if the column without values already has more than `limits.body` bytes,
     /// because a binary or UTF-8 column has one offset; W11 `OutOfMemory` if memory for the fields,
     /// the entries or their columns ran out.
-    pub fn new(alloc: Global, limits: &Limits, schema: &Schema) -> Result<Tally, WriteFault>
-        ensures fresh { IfOk result (λ tally. tally ≡ record {
-          failed = false;
-          limits = limits.now;
-          fields = schema.now.fields;
-          entries = empty_entries schema.now.fields;
-        }) }
-        ensures within { IfOk result
-            (λ tally. AllWithin limits.now schema.now.fields tally.entries) }
-        // At W6 the column of no values of a dictionary is too long.
-        ensures over { IfErr result (λ fault. fault ≡ WriteFault.TooLong
-            → IsOverLimit limits.now schema.now.fields (empty_entries schema.now.fields) fault) }
-        ensures only { IfErr result
-            (λ fault. (fault ≡ WriteFault.TooLong) ⊎ (fault ≡ WriteFault.OutOfMemory)) }
-    {
-        Tally::with_seed(alloc, limits, schema, Seed::Fixed)
-    }
-
-    /// Creates a tally as `Tally::new` does, but hashes use this seed.
-    pub fn with_seed(
+    pub fn new(
         alloc: Global,
         limits: &Limits,
         schema: &Schema,

@@ -70,7 +70,7 @@ impl PendingBatch {
             (RefusesPending limits.now schema.now (no_rows pairs) false) }
     {
         check_pairs(alloc, limits, schema, &pairs)?;
-        let tally = Tally::with_seed(alloc, limits, schema, seed)?;
+        let tally = Tally::new(alloc, limits, schema, seed)?;
         Ok(PendingBatch {
             builder: Builder::with_pool(alloc, schema.fields.as_slice(), limits, room)?,
             tally,
