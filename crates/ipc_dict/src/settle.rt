@@ -12,6 +12,7 @@ use crate::distinct::DistinctValues;
 use crate::entry::{TallyEntry, find};
 use crate::kept::KeptEntry;
 use crate::plan::Plan;
+use crate::seed::Seed;
 use ipc_model::{Items, Row, Value};
 use std::alloc::{AllocError, Global};
 use std::mem;
@@ -218,9 +219,7 @@ fn keep(alloc: Global, kept: &mut KeptEntry, entry: &mut TallyEntry, numbers: &O
     } }
 {
     if numbers.is_none() {
-        kept.values = Some(mem::replace(
-            &mut entry.values,
-            DistinctValues::new(alloc, Seed::Fixed),
-        ));
+        let none = DistinctValues::new(alloc, Seed::Fixed);
+        kept.values = Some(mem::replace(&mut entry.values, none));
     }
 }
