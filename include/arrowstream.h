@@ -1,8 +1,11 @@
-/* Reads Apache Arrow IPC streams (streaming format, metadata version V5) that arrive in pieces.
+/* Reads and writes Apache Arrow IPC streams (streaming format, metadata version V5).
  *
  * A reader is fed bytes and reports the schema, record batches and the end of the stream. A batch
  * that was taken from its reader stays valid until it is freed. Every accepted stream and every
  * refusal is that of the program `arrowstream` (docs/FAULTS.md lists the refusals F1 to F37).
+ *
+ * A writer is given a schema and the cells of rows, and makes the bytes of a stream. Its refusals
+ * are W1 to W11 and X6 of docs/FAULTS.md.
  *
  * PROVED, by machine, for each call below: it is memory safe and returns on every input. Its
  * result, what it writes and the state that it leaves are as its comment says (docs/PROVED.md names
@@ -11,15 +14,15 @@
  * call says so, and that no memory leaks.
  *
  * THE CALLER OWES, and nothing checks:
- *   - a reader or batch is one that a call set, not NULL, and not freed yet;
+ *   - a reader, batch or writer is one that a call set, not NULL, and not freed yet;
  *   - a pointer with a length may be read, or written if it is not const, for that many elements,
  *     and is not NULL, even if the length is 0; an `out` or `wanted` may be written; no two of them
  *     overlap;
  *   - a reader and all batches taken from it are used on one thread, by one call at a time, and not
- *     from a signal handler;
+ *     from a signal handler; so is a writer;
  *   - malloc, realloc and free are one allocator, and malloc aligns as C demands.
  *
- * Buffers are copied, never lent: no pointer into a reader or a batch leaves the library.
+ * Bytes are copied, never lent: no pointer into a reader, a batch or a writer leaves the library.
  */
 #ifndef ARROWSTREAM_H
 #define ARROWSTREAM_H
@@ -37,15 +40,23 @@ extern "C" {
 /* Returns ARROW_VERSION of the library that is linked. */
 uint32_t arrow_version(void);
 
-/* The status of a call: ARROW_OK, the number 1 to 37 of a refusal F1 to F37, or ARROW_ABSENT. */
+/* The status of a call: ARROW_OK, the number 1 to 37 of a refusal F1 to F37, or one of these.
+ * ARROW_WRITE + n stands for the refusal Wn, and ARROW_TEXT + n for Xn. */
 #define ARROW_OK 0u
 #define ARROW_FAILED 35u        /* F35: an earlier call was refused */
 #define ARROW_OUT_OF_MEMORY 37u /* F37 */
 #define ARROW_ABSENT 64u        /* what was asked for does not exist */
+#define ARROW_MISUSE 65u        /* the writer does not allow the call in its state */
+#define ARROW_NOT_UTF8 66u      /* a text for a writer is not UTF-8 */
+#define ARROW_WRITE 100u
+#define ARROW_WRITE_FAILED 110u        /* W10: the writer has ended */
+#define ARROW_WRITE_OUT_OF_MEMORY 111u /* W11 */
+#define ARROW_TEXT 200u
 
 /* ---- limits ---------------------------------------------------------------------------------- */
 
-/* The most that a reader accepts. A value above its maximum counts as the maximum. */
+/* The most that a reader accepts and a writer makes. A value above its maximum counts as the
+ * maximum. */
 typedef struct {
     uint64_t metadata; /* bytes of a message's metadata: at most 2^28 */
     uint64_t body;     /* bytes of a message's body: at most 2^42 */
@@ -188,6 +199,96 @@ uint32_t arrow_batch_buffer(arrow_batch *batch, const uint64_t *path, size_t ste
 
 /* Frees a batch. */
 void arrow_batch_free(arrow_batch *batch);
+
+/* ---- writer ---------------------------------------------------------------------------------- */
+
+typedef struct arrow_writer arrow_writer;
+
+/* A writer is in one of three states:
+ *
+ *   new      the schema is wanted. Every call but arrow_writer_schema returns ARROW_MISUSE.
+ *   open     rows are given and sent.
+ *   ended    the stream was finished, or W9 or W11 came. Every call returns ARROW_WRITE_FAILED.
+ *
+ * This is said of the calls that return a status, but for arrow_writer_line. The bytes that a call
+ * makes are ready at once, and remain so until they are taken. After W11 these are the bytes of
+ * earlier calls. After W9 they are a beginning of the stream.
+ *
+ * If a call returns another status than ARROW_OK, the writer is as it was, unless the call states
+ * otherwise. */
+
+/* Sets `out` to a new writer, or to NULL if memory ran out. All that it makes is within the limits.
+ * Free it by arrow_writer_free. */
+void arrow_writer_open(const arrow_limits *limits, arrow_writer **out);
+
+/* Begins the stream of the schema that the JSON text of `length` bytes states (docs/SCHEMA.md). The
+ * writer is open.
+ *
+ * Returns ARROW_OK, or ARROW_TEXT + 6 if the text states no schema, or ARROW_WRITE + 1, 6, 9 or 11.
+ * Returns ARROW_MISUSE if the writer is open. */
+uint32_t arrow_writer_schema(arrow_writer *writer, const uint8_t *text, size_t length);
+
+/* These calls add one cell to the row, or to the list or struct that was begun last and has not
+ * ended. A cell is of the kind that the field's type stores (docs/SCHEMA.md): integers, dates,
+ * times, timestamps and durations are `int`; unsigned integers are `uint`; the cell of a field with
+ * a dictionary is one of its values. Whether it fits is checked by arrow_writer_row.
+ *
+ * They return ARROW_OK, ARROW_MISUSE or ARROW_WRITE + 10 or 11. arrow_writer_text also returns
+ * ARROW_NOT_UTF8. */
+uint32_t arrow_writer_null(arrow_writer *writer);
+uint32_t arrow_writer_bool(arrow_writer *writer, uint32_t value); /* 0 is false, others are true */
+uint32_t arrow_writer_int(arrow_writer *writer, int64_t value);
+uint32_t arrow_writer_uint(arrow_writer *writer, uint64_t value);
+uint32_t arrow_writer_bytes(arrow_writer *writer, const uint8_t *bytes, size_t length);
+uint32_t arrow_writer_text(arrow_writer *writer, const uint8_t *text, size_t length);
+
+/* These calls begin a list or a struct, whose cells follow: for a struct one for each child of its
+ * field. They return ARROW_MISUSE also inside 64 lists and structs that have not ended. */
+uint32_t arrow_writer_begin_list(arrow_writer *writer);
+uint32_t arrow_writer_begin_struct(arrow_writer *writer);
+
+/* Ends the list or struct that was begun last: it is one cell of what is around it. Returns
+ * ARROW_MISUSE also if none was begun. */
+uint32_t arrow_writer_end(arrow_writer *writer);
+
+/* Ends the row. It is added to the rows that are sent next.
+ *
+ * Returns ARROW_OK, or ARROW_WRITE + 2, 3, 4 or 5 if the row does not fit the schema; then it is
+ * dropped. Returns ARROW_MISUSE also inside a list or struct. */
+uint32_t arrow_writer_row(arrow_writer *writer);
+
+/* Sends the rows as one record batch, after the dictionaries that it needs. There may be none.
+ *
+ * Returns ARROW_OK, or ARROW_WRITE + 6, 7, 8, 9 or 11. The rows are dropped in each of these cases.
+ * Cells of a row that has not ended remain. */
+uint32_t arrow_writer_send(arrow_writer *writer);
+
+/* Sends the columns and pairs of a batch that was read as one record batch, after the dictionaries
+ * that it needs. The batch and the rows that were not sent remain.
+ *
+ * Returns ARROW_OK, or ARROW_WRITE + 2 to 9 or 11. */
+uint32_t arrow_writer_columns(arrow_writer *writer, arrow_batch *batch);
+
+/* Sends the end-of-stream mark, and ends the writer. Returns ARROW_MISUSE also if rows were not
+ * sent, or a row or its list or struct has not ended. */
+uint32_t arrow_writer_finish(arrow_writer *writer);
+
+/* Returns the number of bytes that one call of arrow_writer_take can move. It is 0 only if no bytes
+ * are ready. */
+size_t arrow_writer_ready(arrow_writer *writer);
+
+/* Moves the first of the ready bytes to `bytes`, and returns their number: that of
+ * arrow_writer_ready, or `length` if that is less. More may be ready after it: the next call begins
+ * where this one ended. */
+size_t arrow_writer_take(arrow_writer *writer, uint8_t *bytes, size_t length);
+
+/* Copies the line of the refusal that came last, such as "W4 OutOfRange at row 2 path 0", without a
+ * line feed. ARROW_WRITE_FAILED leaves the line of its cause. `text`, `length`, `wanted` and the
+ * result are as in arrow_reader_schema; ARROW_ABSENT before a refusal. */
+uint32_t arrow_writer_line(arrow_writer *writer, uint8_t *text, size_t length, size_t *wanted);
+
+/* Frees a writer. Bytes that were not taken are dropped. */
+void arrow_writer_free(arrow_writer *writer);
 
 #ifdef __cplusplus
 }

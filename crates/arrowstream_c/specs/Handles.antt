@@ -6,6 +6,7 @@ use Rattle.std.specs.declared.alloc.Global.{Global}
 use Rattle.std.specs.contracts.impls.GlobalAllocator.TheImpl.{ghosts}
 use Rattle.ipc_stream_session.specs.contracts.batch.ReadBatch as batch
 use Rattle.ipc_stream_session.specs.contracts.session.ReadSession as session
+use Rattle.ipc_stream_session.specs.contracts.write_session.WriteSession as writing
 use base.Fml.{Fml, fex, feq}
 use denote.RattleType.{RattleType}
 use denote.RawPtr.{null_ptr}
@@ -46,3 +47,15 @@ is_batch p = is_held batch.the_row p
 -- this batch, or null
 abbrev pub batch_or_null : Ptr → Option batch.the_row.Denot → Fml
 batch_or_null p x = held_or_null batch.the_row p x
+
+-- this writer
+abbrev pub writer_at : Ptr → writing.the_row.Denot → Fml
+writer_at p x = is_held_at writing.the_row p x
+
+-- a writer
+abbrev pub is_writer : Ptr → Fml
+is_writer p = is_held writing.the_row p
+
+-- this writer, or null
+abbrev pub writer_or_null : Ptr → Option writing.the_row.Denot → Fml
+writer_or_null p x = held_or_null writing.the_row p x

@@ -1,3 +1,4 @@
 pub mod Calls
 pub mod Handles
 pub mod Numbers
+pub mod WriterCalls

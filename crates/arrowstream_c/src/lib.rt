@@ -1,20 +1,24 @@
-//! Arrow IPC streams for C, and for each language that calls C: a reader and its batches behind
-//! opaque pointers. `include/arrowstream.h` is the header.
+//! Arrow IPC streams for C, and for each language that calls C: a reader, its batches and a writer
+//! behind opaque pointers. `include/arrowstream.h` is the header.
 //!
 //! Every export that takes a pointer requires what the pointer owns, and returns it at the value
-//! that its clause names. C calls one at a time for a reader and all batches taken from it.
+//! that its clause names. C calls one at a time for a writer, and for a reader with all batches
+//! taken from it.
 #![tactic(auto)]
 
 ghost use Rattle.std.specs.Prelude.{◌≡◌, Option, length};
 ghost use Rattle.std.specs.Borrow.{sem};
 ghost use Rattle.ipc_stream_session.specs.declared.batch.ReadBatch.{ReadBatch};
 ghost use Rattle.ipc_stream_session.specs.declared.session.ReadSession.{ReadSession};
+ghost use Rattle.ipc_stream_session.specs.declared.write_session.WriteSession.{WriteSession};
 ghost use Rattle.arrowstream_c.specs.Calls.{AreRows, AreColumns, Closes, CopiesBuffer, CopiesLine};
 ghost use Rattle.arrowstream_c.specs.Calls.{CopiesPairs, CopiesSchema, DescribesColumn, Feeds};
 ghost use Rattle.arrowstream_c.specs.Calls.{OpensReader, TakesBatch};
 ghost use Rattle.arrowstream_c.specs.Handles.{batch_at, batch_or_null, is_batch, is_reader};
-ghost use Rattle.arrowstream_c.specs.Handles.{reader_at, reader_or_null};
+ghost use Rattle.arrowstream_c.specs.Handles.{reader_at, reader_or_null, is_writer, writer_at};
+ghost use Rattle.arrowstream_c.specs.Handles.{writer_or_null};
 ghost use Rattle.arrowstream_c.specs.Numbers.{AreStandard};
+ghost use Rattle.arrowstream_c.specs.WriterCalls as w;
 
 mod answers;
 mod batch;
@@ -22,13 +26,16 @@ mod batch_calls;
 mod block;
 mod reader;
 mod reader_calls;
+mod writer;
+mod writer_calls;
 
 use answers::{Column, Progress, ReadLimits};
 use batch::BatchHandle;
 use block::Block;
-use ipc_stream_session::{ReadBatch, ReadSession};
+use ipc_stream_session::{ReadBatch, ReadSession, WriteSession};
 use reader::ReaderHandle;
 use std::alloc::Global;
+use writer::WriterHandle;
 
 /// Returns the version of the interface: the major number times 65,536, and the minor number.
 #[unsafe(no_mangle)]
@@ -210,4 +217,224 @@ pub unsafe extern "C" fn arrow_batch_buffer(
         ∗ ⌜ CopiesBuffer was path.now buffer is bytes.old bytes.new wanted.new result ⌝) }
 {
     batch_calls::buffer(&mut *(batch as *mut ReadBatch), path, buffer, bytes, wanted)
+}
+
+/// Makes a writer without a schema, and sets `out` to it, or to null if memory ran out. A limit
+/// above its maximum is as the maximum.
+#[unsafe(no_mangle)]
+pub extern "C" fn arrow_writer_open(alloc: Global, limits: &ReadLimits, out: &mut *mut u8)
+    ensures* { ∃ₛ (λ (made : Option WriteSession). sem 𝓛 (writer_or_null out.new made)
+        ∗ ⌜ w.OpensWriter limits.now made ⌝) }
+{
+    let WriterHandle { at } = WriterHandle::fresh(alloc, limits);
+    *out = at;
+}
+
+/// Frees a writer.
+#[unsafe(no_mangle)]
+pub unsafe extern "C" fn arrow_writer_free(alloc: Global, writer: *mut u8)
+    requires* { sem 𝓛 (is_writer writer) }
+{
+    writer_calls::free_writer(Block {
+        ptr: writer as *mut WriteSession,
+        alloc,
+    });
+}
+
+/// Begins the stream of the schema that a JSON text states. Returns 0, or the number of the error.
+#[unsafe(no_mangle)]
+pub unsafe extern "C" fn arrow_writer_schema(writer: *mut u8, text: &[u8]) -> u32
+    ghost was: { WriteSession }
+    requires* { sem 𝓛 (writer_at writer was) }
+    ensures* { ∃ₛ (λ (is : WriteSession). sem 𝓛 (writer_at writer is)
+        ∗ ⌜ w.BeginsStream was text.now is result ⌝) }
+{
+    writer_calls::begin(&mut *(writer as *mut WriteSession), text)
+}
+
+/// Adds a null cell. Returns 0, or the number of the error.
+#[unsafe(no_mangle)]
+pub unsafe extern "C" fn arrow_writer_null(writer: *mut u8) -> u32
+    ghost was: { WriteSession }
+    requires* { sem 𝓛 (writer_at writer was) }
+    ensures* { ∃ₛ (λ (is : WriteSession). sem 𝓛 (writer_at writer is)
+        ∗ ⌜ w.AddsNull was is result ⌝) }
+{
+    writer_calls::add_null(&mut *(writer as *mut WriteSession))
+}
+
+/// Adds a boolean cell: 0 is false, and each other number is true. Returns 0, or the number of the
+/// error.
+#[unsafe(no_mangle)]
+pub unsafe extern "C" fn arrow_writer_bool(writer: *mut u8, value: u32) -> u32
+    ghost was: { WriteSession }
+    requires* { sem 𝓛 (writer_at writer was) }
+    ensures* { ∃ₛ (λ (is : WriteSession). sem 𝓛 (writer_at writer is)
+        ∗ ⌜ w.AddsBool was value is result ⌝) }
+{
+    writer_calls::add_bool(&mut *(writer as *mut WriteSession), value)
+}
+
+/// Adds a cell that is a signed integer, a date, a time, a timestamp or a duration. Returns 0, or
+/// the number of the error.
+#[unsafe(no_mangle)]
+pub unsafe extern "C" fn arrow_writer_int(writer: *mut u8, value: i64) -> u32
+    ghost was: { WriteSession }
+    requires* { sem 𝓛 (writer_at writer was) }
+    ensures* { ∃ₛ (λ (is : WriteSession). sem 𝓛 (writer_at writer is)
+        ∗ ⌜ w.AddsInt was value is result ⌝) }
+{
+    writer_calls::add_int(&mut *(writer as *mut WriteSession), value)
+}
+
+/// Adds a cell that is an unsigned integer. Returns 0, or the number of the error.
+#[unsafe(no_mangle)]
+pub unsafe extern "C" fn arrow_writer_uint(writer: *mut u8, value: u64) -> u32
+    ghost was: { WriteSession }
+    requires* { sem 𝓛 (writer_at writer was) }
+    ensures* { ∃ₛ (λ (is : WriteSession). sem 𝓛 (writer_at writer is)
+        ∗ ⌜ w.AddsUInt was value is result ⌝) }
+{
+    writer_calls::add_uint(&mut *(writer as *mut WriteSession), value)
+}
+
+/// Adds a cell of bytes. Returns 0, or the number of the error.
+#[unsafe(no_mangle)]
+pub unsafe extern "C" fn arrow_writer_bytes(writer: *mut u8, bytes: &[u8]) -> u32
+    ghost was: { WriteSession }
+    requires* { sem 𝓛 (writer_at writer was) }
+    ensures* { ∃ₛ (λ (is : WriteSession). sem 𝓛 (writer_at writer is)
+        ∗ ⌜ w.AddsBytes was bytes.now is result ⌝) }
+{
+    writer_calls::add_bytes(&mut *(writer as *mut WriteSession), bytes)
+}
+
+/// Adds a cell of UTF-8 text. Returns 0, or the number of the error.
+#[unsafe(no_mangle)]
+pub unsafe extern "C" fn arrow_writer_text(writer: *mut u8, text: &[u8]) -> u32
+    ghost was: { WriteSession }
+    requires* { sem 𝓛 (writer_at writer was) }
+    ensures* { ∃ₛ (λ (is : WriteSession). sem 𝓛 (writer_at writer is)
+        ∗ ⌜ w.AddsText was text.now is result ⌝) }
+{
+    writer_calls::add_text(&mut *(writer as *mut WriteSession), text)
+}
+
+/// Begins a list. Returns 0, or the number of the error.
+#[unsafe(no_mangle)]
+pub unsafe extern "C" fn arrow_writer_begin_list(writer: *mut u8) -> u32
+    ghost was: { WriteSession }
+    requires* { sem 𝓛 (writer_at writer was) }
+    ensures* { ∃ₛ (λ (is : WriteSession). sem 𝓛 (writer_at writer is)
+        ∗ ⌜ w.BeginsList was is result ⌝) }
+{
+    writer_calls::begin_list(&mut *(writer as *mut WriteSession))
+}
+
+/// Begins a struct. Returns 0, or the number of the error.
+#[unsafe(no_mangle)]
+pub unsafe extern "C" fn arrow_writer_begin_struct(writer: *mut u8) -> u32
+    ghost was: { WriteSession }
+    requires* { sem 𝓛 (writer_at writer was) }
+    ensures* { ∃ₛ (λ (is : WriteSession). sem 𝓛 (writer_at writer is)
+        ∗ ⌜ w.BeginsStruct was is result ⌝) }
+{
+    writer_calls::begin_struct(&mut *(writer as *mut WriteSession))
+}
+
+/// Ends the list or struct that was begun last. Returns 0, or the number of the error.
+#[unsafe(no_mangle)]
+pub unsafe extern "C" fn arrow_writer_end(writer: *mut u8) -> u32
+    ghost was: { WriteSession }
+    requires* { sem 𝓛 (writer_at writer was) }
+    ensures* { ∃ₛ (λ (is : WriteSession). sem 𝓛 (writer_at writer is)
+        ∗ ⌜ w.EndsCell was is result ⌝) }
+{
+    writer_calls::end_cell(&mut *(writer as *mut WriteSession))
+}
+
+/// Ends the row. Returns 0, or the number of the error.
+#[unsafe(no_mangle)]
+pub unsafe extern "C" fn arrow_writer_row(writer: *mut u8) -> u32
+    ghost was: { WriteSession }
+    requires* { sem 𝓛 (writer_at writer was) }
+    ensures* { ∃ₛ (λ (is : WriteSession). sem 𝓛 (writer_at writer is)
+        ∗ ⌜ w.EndsRow was is result ⌝) }
+{
+    writer_calls::end_row(&mut *(writer as *mut WriteSession))
+}
+
+/// Sends the pending rows as one batch. Returns 0, or the number of the error.
+#[unsafe(no_mangle)]
+pub unsafe extern "C" fn arrow_writer_send(writer: *mut u8) -> u32
+    ghost was: { WriteSession }
+    requires* { sem 𝓛 (writer_at writer was) }
+    ensures* { ∃ₛ (λ (is : WriteSession). sem 𝓛 (writer_at writer is)
+        ∗ ⌜ w.SendsRows was is result ⌝) }
+{
+    writer_calls::send(&mut *(writer as *mut WriteSession))
+}
+
+/// Sends the columns and pairs of a batch that was read as one batch. Returns 0, or the number of
+/// the error.
+#[unsafe(no_mangle)]
+pub unsafe extern "C" fn arrow_writer_columns(writer: *mut u8, batch: *mut u8) -> u32
+    ghost was: { WriteSession × ReadBatch }
+    requires* { sem 𝓛 (writer_at writer was.0) ∗ sem 𝓛 (batch_at batch was.1) }
+    ensures* { ∃ₛ (λ (is : WriteSession). ∃ₛ (λ (left : ReadBatch).
+        sem 𝓛 (writer_at writer is) ∗ (sem 𝓛 (batch_at batch left)
+        ∗ ⌜ w.SendsColumns was.0 was.1 is left result ⌝))) }
+{
+    writer_calls::send_columns(
+        &mut *(writer as *mut WriteSession),
+        &mut *(batch as *mut ReadBatch),
+    )
+}
+
+/// Sends the end-of-stream mark. Returns 0, or the number of the error.
+#[unsafe(no_mangle)]
+pub unsafe extern "C" fn arrow_writer_finish(writer: *mut u8) -> u32
+    ghost was: { WriteSession }
+    requires* { sem 𝓛 (writer_at writer was) }
+    ensures* { ∃ₛ (λ (is : WriteSession). sem 𝓛 (writer_at writer is)
+        ∗ ⌜ w.Finishes was is result ⌝) }
+{
+    writer_calls::finish(&mut *(writer as *mut WriteSession))
+}
+
+/// Returns the number of bytes that are ready.
+#[unsafe(no_mangle)]
+pub unsafe extern "C" fn arrow_writer_ready(writer: *mut u8) -> usize
+    ghost was: { WriteSession }
+    requires* { sem 𝓛 (writer_at writer was) }
+    ensures* { ∃ₛ (λ (is : WriteSession). sem 𝓛 (writer_at writer is)
+        ∗ ⌜ w.AreReady was is result ⌝) }
+{
+    writer_calls::ready(&mut *(writer as *mut WriteSession))
+}
+
+/// Moves the first of the ready bytes to `bytes`. Returns their number.
+#[unsafe(no_mangle)]
+pub unsafe extern "C" fn arrow_writer_take(writer: *mut u8, bytes: &mut [u8]) -> usize
+    ghost was: { WriteSession }
+    requires* { sem 𝓛 (writer_at writer was) }
+    ensures* { ∃ₛ (λ (is : WriteSession). sem 𝓛 (writer_at writer is)
+        ∗ ⌜ w.TakesBytes was is bytes.old bytes.new result ⌝) }
+{
+    writer_calls::take(&mut *(writer as *mut WriteSession), bytes)
+}
+
+/// Copies the line of the last error. Returns 0, `ABSENT` before an error, or 37 if memory ran out.
+#[unsafe(no_mangle)]
+pub unsafe extern "C" fn arrow_writer_line(
+    writer: *mut u8,
+    text: &mut [u8],
+    wanted: &mut usize,
+) -> u32
+    ghost was: { WriteSession }
+    requires* { sem 𝓛 (writer_at writer was) }
+    ensures* { ∃ₛ (λ (is : WriteSession). sem 𝓛 (writer_at writer is)
+        ∗ ⌜ w.CopiesLine was is text.old text.new wanted.new result ⌝) }
+{
+    writer_calls::error_line(&mut *(writer as *mut WriteSession), text, wanted)
 }

@@ -34,6 +34,14 @@ impl ReadBatch {
         }
     }
 
+    // The batch, and its pairs.
+    pub(crate) fn parts(&self) -> (&Batch, &Items<(Text, Text)>)
+        ensures batch { result.0.now ≡ self.now.batch }
+        ensures pairs { result.1.now ≡ self.now.pairs }
+    {
+        (&self.batch, &self.pairs)
+    }
+
     /// Returns the number of rows.
     pub fn rows(&self) -> usize
         ensures { result ≡ length self.now.batch.rows }

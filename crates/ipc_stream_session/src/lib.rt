@@ -5,13 +5,22 @@
 mod arrival;
 mod batch;
 mod buffer;
+mod cells;
 mod column;
 mod copy;
+mod open_table;
+mod ready;
 mod session;
+mod stage;
+mod write_error;
+mod write_session;
 
 pub use arrival::Arrival;
 pub use batch::ReadBatch;
 pub use buffer::BufferKind;
+pub use cells::Nesting;
 pub use column::{ColumnFacts, DICTIONARY_STEP};
 pub use copy::copy_into;
 pub use session::ReadSession;
+pub use write_error::WriteError;
+pub use write_session::WriteSession;

@@ -1,0 +1,78 @@
+-- What each export of a writer answers, and which state it leaves.
+use Rattle.std.specs.Prelude.{◌≡◌, ⊤, ℕ, ℤ, not, ◌==◌, List, Option, Some, None, Result}
+use Rattle.std.specs.declared.alloc.Global.{Global}
+use Rattle.std.specs.declared.string.String.{String}
+use Rattle.ipc_model.specs.declared.fault.Fault.{Fault}
+use Rattle.ipc_model.specs.declared.value.Value.TheVariants as value
+use Rattle.ipc_stream_session.specs.declared.batch.ReadBatch.{ReadBatch}
+use Rattle.ipc_stream_session.specs.declared.cells.Nesting.TheVariants as nesting
+use Rattle.ipc_stream_session.specs.declared.write_session.WriteSession.{WriteSession}
+use Rattle.ipc_stream_session.specs.Writes as s
+use Rattle.arrowstream_c.specs.Calls.{GivesText}
+use Rattle.arrowstream_c.specs.Numbers.{AreCapped}
+use Rattle.arrowstream_c.specs.declared.answers.ReadLimits.{ReadLimits}
+
+-- a new writer within the limits that were asked for, or none because memory ran out
+abbrev pub OpensWriter : ReadLimits → Option WriteSession → Type 0
+OpensWriter asked None = ⊤
+OpensWriter asked (Some made) = AreCapped asked made.limits × s.IsNew made.limits made
+
+-- the status is that of the session's call
+abbrev pub BeginsStream : WriteSession → List ℕ → WriteSession → ℕ → Type 0
+BeginsStream was text is status = s.Reports (s.Begins text) was is status
+
+abbrev pub AddsNull : WriteSession → WriteSession → ℕ → Type 0
+AddsNull was is status = s.Reports (s.Adds value.Null) was is status
+
+-- 0 is false, and each other number is true
+abbrev pub AddsBool : WriteSession → ℕ → WriteSession → ℕ → Type 0
+AddsBool was number is status = s.Reports (s.Adds (value.Bool (not (number == 0)))) was is status
+
+abbrev pub AddsInt : WriteSession → ℤ → WriteSession → ℕ → Type 0
+AddsInt was number is status = s.Reports (s.Adds (value.Int number)) was is status
+
+abbrev pub AddsUInt : WriteSession → ℕ → WriteSession → ℕ → Type 0
+AddsUInt was number is status = s.Reports (s.Adds (value.UInt number)) was is status
+
+abbrev pub AddsBytes : WriteSession → List ℕ → WriteSession → ℕ → Type 0
+AddsBytes was bytes is status = s.Reports (s.Adds (value.Bytes bytes)) was is status
+
+abbrev pub AddsText : WriteSession → List ℕ → WriteSession → ℕ → Type 0
+AddsText was text is status = s.Reports (s.AddsText text) was is status
+
+abbrev pub BeginsList : WriteSession → WriteSession → ℕ → Type 0
+BeginsList was is status = s.Reports (s.BeginsCell nesting.List) was is status
+
+abbrev pub BeginsStruct : WriteSession → WriteSession → ℕ → Type 0
+BeginsStruct was is status = s.Reports (s.BeginsCell nesting.Struct) was is status
+
+abbrev pub EndsCell : WriteSession → WriteSession → ℕ → Type 0
+EndsCell was is status = s.Reports s.EndsCell was is status
+
+abbrev pub EndsRow : WriteSession → WriteSession → ℕ → Type 0
+EndsRow was is status = s.Reports s.EndsRow was is status
+
+abbrev pub SendsRows : WriteSession → WriteSession → ℕ → Type 0
+SendsRows was is status = s.Reports s.SendsRows was is status
+
+-- the batch stays
+abbrev pub SendsColumns : WriteSession → ReadBatch → WriteSession → ReadBatch → ℕ → Type 0
+SendsColumns was batch is left status =
+    (left ≡ batch) × s.Reports (s.SendsColumns batch) was is status
+
+abbrev pub Finishes : WriteSession → WriteSession → ℕ → Type 0
+Finishes was is status = s.Reports s.Finishes was is status
+
+-- the number of bytes that one call can take
+abbrev pub AreReady : WriteSession → WriteSession → ℕ → Type 0
+AreReady was is count = s.CountsReady was is count
+
+-- the first bytes that wait are moved
+abbrev pub TakesBytes : WriteSession → WriteSession → List ℕ → List ℕ → ℕ → Type 0
+TakesBytes was is old new count = s.TakesBytes was is old new count
+
+-- the line of the last error is copied; the writer stays
+abbrev pub CopiesLine : WriteSession → WriteSession → List ℕ → List ℕ → ℕ → ℕ → Type 0
+CopiesLine was is old new wanted status = (is ≡ was)
+    × ((answer : Result (Option (String Global)) Fault)
+    × s.GivesErrorLine was.error answer × GivesText answer old new wanted status)

@@ -1,0 +1,4 @@
+mod Begun
+mod Moved
+mod SchemaTexts
+mod Sent

@@ -1,0 +1,289 @@
+-- What the calls of a writer's session do to its stream, its row and its pending rows.
+use Rattle.std.specs.Prelude.{◌≡◌, ◌≢◌, ◌⊎◌, ◌++◌, ◌≤◌, ◌<◌, ⊤, ℕ, List, [], ◌∷◌, length}
+use Rattle.std.specs.Prelude.{Option, Some, None, Result, Ok, Err, IsUtf8, string_bytes}
+use Rattle.std.specs.List.{AllByRecursion}
+use Rattle.std.specs.declared.alloc.Global.{Global}
+use Rattle.std.specs.declared.string.String.{String}
+use Rattle.serde_json.specs.Read.{read}
+use Rattle.ipc_model.specs.Entries.{entries}
+use Rattle.ipc_model.specs.FirstRowFault.{IsFirstRowFault}
+use Rattle.ipc_model.specs.Fits.{RowFits}
+use Rattle.ipc_model.specs.Limits.{IsStandard}
+use Rattle.ipc_model.specs.WellFormed.{WellFormed}
+use Rattle.ipc_model.specs.declared.fault.Fault.{Fault}
+use Rattle.ipc_model.specs.declared.fault.Fault.TheVariants.{OutOfMemory as NoMemory}
+use Rattle.ipc_model.specs.declared.fault.WriteFault.{WriteFault}
+use Rattle.ipc_model.specs.declared.fault.WriteFault.TheVariants as w
+use Rattle.ipc_model.specs.declared.limits.Limits.{Limits}
+use Rattle.ipc_model.specs.declared.schema.Schema.{Schema}
+use Rattle.ipc_model.specs.declared.table.BatchRows.{BatchRows}
+use Rattle.ipc_model.specs.declared.value.Value.{Value}
+use Rattle.ipc_model.specs.declared.value.Value.TheVariants as value
+use Rattle.ipc_text_json.specs.SchemaJson.{schema_json}
+use Rattle.ipc_text_json.specs.SchemaTexts.{HasWideId}
+use Rattle.ipc_stream.specs.PendingBatches.{with_rows}
+use Rattle.ipc_stream.specs.Writer.{StartsWriter}
+use Rattle.ipc_stream_session.specs.Cells.{nested_cell}
+use Rattle.ipc_stream_session.specs.Stages.{HasWritten, IsNotOpen, SendsBatch, emptied_stage}
+use Rattle.ipc_stream_session.specs.Tables.{FinishesTable, Moves, StopsAtStart, TableState}
+use Rattle.ipc_stream_session.specs.WriteErrors.{error_line, error_number}
+use Rattle.ipc_stream_session.specs.declared.batch.ReadBatch.{ReadBatch}
+use Rattle.ipc_stream_session.specs.declared.cells.Around.{Around}
+use Rattle.ipc_stream_session.specs.declared.cells.Nesting.{Nesting}
+use Rattle.ipc_stream_session.specs.declared.stage.Stage.{Stage}
+use Rattle.ipc_stream_session.specs.declared.stage.Stage.TheVariants as stage
+use Rattle.ipc_stream_session.specs.declared.write_error.WriteError.{WriteError}
+use Rattle.ipc_stream_session.specs.declared.write_error.WriteError.TheVariants as error
+use Rattle.ipc_stream_session.specs.declared.write_session.WriteSession.{WriteSession}
+
+-- a writer without a schema, within these limits
+pub record IsNew (limits : Limits) (s : WriteSession) : Type 0 where
+  pub within : s.limits ≡ limits
+  pub stage_is : s.stage ≡ stage.New
+  pub front_is : s.front ≡ []
+  pub cells_are : s.cells ≡ []
+  pub around_is : s.around ≡ []
+  pub rows_are : s.rows ≡ []
+  pub error_is : s.error ≡ None
+
+-- ---- what each call needs
+
+-- nothing more is written: the bytes that were written wait
+abbrev pub HasEnded : Stage → Stage → Type 0
+HasEnded old new = (ready : List ℕ) × HasWritten old ready × (new ≡ stage.Ended ready)
+
+-- nothing more is written, and the rest of the session is as it was
+abbrev pub Ends : WriteSession → WriteSession → Type 0
+Ends old new = (ready : List ℕ) × HasWritten old.stage ready
+    × (new ≡ record old { stage = stage.Ended ready })
+
+-- a call with this error leaves the session as it was
+abbrev pub IsRefused : WriteError → WriteSession → WriteSession → Result ⊤ WriteError → Type 0
+IsRefused e old new r = (r ≡ Err e) × (new ≡ old)
+
+-- memory ran out, and nothing more is written
+abbrev pub RunsOut : WriteSession → WriteSession → WriteError → Type 0
+RunsOut old new e = (e ≡ error.Refused w.OutOfMemory) × HasEnded old.stage new.stage
+
+-- a call that needs an open table: before its schema it is a misuse, after the end it is W10
+abbrev pub OnStage : Stage → (TableState → Type 0) → WriteSession → WriteSession
+    → Result ⊤ WriteError → Type 0
+OnStage stage.New Call old new r = IsRefused error.Misuse old new r
+OnStage (stage.Open table) Call old new r = Call table
+OnStage (stage.Ended ready) Call old new r = IsRefused (error.Refused w.Failed) old new r
+
+-- the table leaves the session, for a call that needs one
+abbrev pub TakesTable : WriteSession → WriteSession → Result TableState WriteError → Type 0
+TakesTable old new (Ok t) =
+    (old.stage ≡ stage.Open t) × (new ≡ record old { stage = stage.New })
+TakesTable old new (Err e) = IsNotOpen old.stage e × (new ≡ old)
+
+-- ---- the schema
+
+-- the text is the JSON of this schema
+pub record StatesSchema (text : List ℕ) (s : Schema) : Type 0 where
+  pub utf8 : IsUtf8 text
+  pub json : read text ≡ Some (schema_json s)
+  pub limits : Limits
+  pub standard : IsStandard limits
+  pub well_formed : WellFormed limits s
+
+-- the text is the JSON of no schema whose ids fit 64 bits
+abbrev pub StatesNoSchema : List ℕ → Type 0
+StatesNoSchema text = (s : Schema) → StatesSchema text s
+    → AllByRecursion (λ e. HasWideId e.dictionary) (entries s.fields) → ⊥
+
+-- the table is open, and the message of its schema is written
+pub record IsBegun (limits : Limits) (s : Schema) (t : TableState) : Type 0 where
+  pub starts : StartsWriter limits s (Some []) 0 t.stream
+  pub schema_is : t.schema ≡ s
+
+-- the stage after a schema was refused: W9 and W11 end the stream
+abbrev pub stage_at : WriteFault → List ℕ → Stage
+stage_at w.Write ready = stage.Ended ready
+stage_at w.OutOfMemory ready = stage.Ended ready
+stage_at fault ready = stage.New
+
+-- the schema of the text was begun, or refused for its cause
+abbrev pub BeginsNew : List ℕ → WriteSession → WriteSession → Result ⊤ WriteError → Type 0
+BeginsNew text old new (Ok x) = (s : Schema) × StatesSchema text s × ((t : TableState)
+    × IsBegun old.limits s t × (new ≡ record old { stage = stage.Open t }))
+BeginsNew text old new (Err error.BadSchemaJson) = StatesNoSchema text × (new ≡ old)
+BeginsNew text old new (Err (error.Refused w.OutOfMemory)) =
+    new ≡ record old { stage = stage.Ended [] }
+BeginsNew text old new (Err (error.Refused fault)) = (s : Schema) × StatesSchema text s
+    × ((ready : List ℕ) × StopsAtStart old.limits s ready fault
+    × (new ≡ record old { stage = stage_at fault ready }))
+BeginsNew text old new (Err e) = ⊥
+
+-- a schema is for a new writer: on an open one it is a misuse, after the end it is W10
+abbrev pub BeginsAt : Stage → List ℕ → WriteSession → WriteSession → Result ⊤ WriteError → Type 0
+BeginsAt stage.New text old new r = BeginsNew text old new r
+BeginsAt (stage.Open table) text old new r = IsRefused error.Misuse old new r
+BeginsAt (stage.Ended ready) text old new r = IsRefused (error.Refused w.Failed) old new r
+
+abbrev pub Begins : List ℕ → WriteSession → WriteSession → Result ⊤ WriteError → Type 0
+Begins text old new r = BeginsAt old.stage text old new r
+
+-- ---- cells
+
+-- the cell is the next one of the row, or of the list or struct that was begun last
+abbrev pub AddsTo : Value → WriteSession → WriteSession → Result ⊤ WriteError → Type 0
+AddsTo cell old new (Ok x) = new ≡ record old { cells = old.cells ++ cell ∷ [] }
+AddsTo cell old new (Err e) = RunsOut old new e
+
+abbrev pub Adds : Value → WriteSession → WriteSession → Result ⊤ WriteError → Type 0
+Adds cell old new r = OnStage old.stage (λ _. AddsTo cell old new r) old new r
+
+-- a text is a cell if it is UTF-8
+pub record AddsUtf8 (text : List ℕ) (old new : WriteSession) (r : Result ⊤ WriteError) :
+    Type 0 where
+  pub is_utf8 : IsUtf8 text → AddsTo (value.Text text) old new r
+  pub not_utf8 : ¬ IsUtf8 text → IsRefused error.NotUtf8 old new r
+
+abbrev pub AddsText : List ℕ → WriteSession → WriteSession → Result ⊤ WriteError → Type 0
+AddsText text old new r = OnStage old.stage (λ _. AddsUtf8 text old new r) old new r
+
+-- a list or struct is begun after the cells so far; more than 64 of them are a misuse
+abbrev pub BeginsIn : Nesting → WriteSession → WriteSession → Result ⊤ WriteError → Type 0
+BeginsIn begun old new (Ok x) = (length old.around < 64) × (new ≡ record old {
+  around = old.around ++ record { begun = begun; cells = old.cells } ∷ [];
+  cells = [];
+})
+BeginsIn begun old new (Err error.Misuse) = (64 ≤ length old.around) × (new ≡ old)
+BeginsIn begun old new (Err e) = RunsOut old new e
+
+abbrev pub BeginsCell : Nesting → WriteSession → WriteSession → Result ⊤ WriteError → Type 0
+BeginsCell begun old new r = OnStage old.stage (λ _. BeginsIn begun old new r) old new r
+
+-- the list or struct that was begun last is the next cell of what is around it; if there is none,
+-- the call is a misuse
+abbrev pub EndsIn : WriteSession → WriteSession → Result ⊤ WriteError → Type 0
+EndsIn old new (Ok x) = (outer : List Around) × ((last : Around)
+    × (old.around ≡ outer ++ last ∷ []) × (new ≡ record old {
+      around = outer;
+      cells = last.cells ++ nested_cell last.begun old.cells ∷ [];
+    }))
+EndsIn old new (Err error.Misuse) = (old.around ≡ []) × (new ≡ old)
+EndsIn old new (Err e) = RunsOut old new e
+
+abbrev pub EndsCell : WriteSession → WriteSession → Result ⊤ WriteError → Type 0
+EndsCell old new r = OnStage old.stage (λ _. EndsIn old new r) old new r
+
+-- ---- rows
+
+-- the cells are a row that fits, and is the last pending one; or they do not fit, and are dropped;
+-- inside a list or struct the call is a misuse
+abbrev pub TakesRow : TableState → WriteSession → WriteSession → Result ⊤ WriteError → Type 0
+TakesRow t old new (Ok x) = (old.around ≡ []) × RowFits t.schema.fields old.cells
+    × (new ≡ record old { cells = []; rows = old.rows ++ old.cells ∷ [] })
+TakesRow t old new (Err (error.Refused (w.Row row fault))) = (old.around ≡ [])
+    × (row ≡ length old.rows) × IsFirstRowFault t.schema.fields old.cells fault
+    × (new ≡ record old { cells = [] })
+TakesRow t old new (Err error.Misuse) = (old.around ≢ []) × (new ≡ old)
+TakesRow t old new (Err e) = RunsOut old new e
+
+abbrev pub EndsRow : WriteSession → WriteSession → Result ⊤ WriteError → Type 0
+EndsRow old new r = OnStage old.stage (λ t. TakesRow t old new r) old new r
+
+-- ---- batches
+
+-- the error of a call whose writer refuses it
+abbrev pub refused_as : Result ⊤ WriteFault → Result ⊤ WriteError
+refused_as (Ok x) = Ok x
+refused_as (Err fault) = Err (error.Refused fault)
+
+-- the batch was sent, or refused for its cause, and these rows remain pending
+pub record Sends (b : BatchRows) (rows : List (List Value)) (t : TableState)
+    (old new : WriteSession) (r : Result ⊤ WriteError) : Type 0 where
+  pub sent : Result ⊤ WriteFault
+  pub result_is : r ≡ refused_as sent
+  pub after : Stage
+  pub sends : SendsBatch t b after sent
+  pub new_is : new ≡ record old { stage = after; rows = rows }
+
+-- the pending rows are sent as a batch without pairs, and none remains
+abbrev pub SendsRows : WriteSession → WriteSession → Result ⊤ WriteError → Type 0
+SendsRows old new r = OnStage old.stage
+    (λ t. Sends (with_rows [] old.rows) [] t old new r) old new r
+
+-- the columns are sent with their pairs, or memory for the pairs ran out
+abbrev pub SendsRead : ReadBatch → TableState → WriteSession → WriteSession → Result ⊤ WriteError
+    → Type 0
+SendsRead b t old new r = Sends (with_rows b.pairs b.batch.rows) old.rows t old new r
+    ⊎ ((r ≡ Err (error.Refused w.OutOfMemory)) × HasEnded old.stage new.stage)
+
+abbrev pub SendsColumns : ReadBatch → WriteSession → WriteSession → Result ⊤ WriteError → Type 0
+SendsColumns b old new r = OnStage old.stage (λ t. SendsRead b t old new r) old new r
+
+-- ---- the end
+
+-- no row and no cell is pending
+abbrev pub HasNoRows : WriteSession → Type 0
+HasNoRows s = (s.rows ≡ []) × (s.cells ≡ []) × (s.around ≡ [])
+
+-- the end mark was sent, or not for this cause, and all bytes that were sent wait
+pub record FinishesWith (t : TableState) (old new : WriteSession) (r : Result ⊤ WriteError) :
+    Type 0 where
+  pub none : HasNoRows old
+  pub ended : Result ⊤ WriteFault
+  pub result_is : r ≡ refused_as ended
+  pub ready : List ℕ
+  pub finishes : FinishesTable t ready ended
+  pub new_is : new ≡ record old { stage = stage.Ended ready }
+
+-- a table with pending rows or cells is not finished: that is a misuse
+abbrev pub FinishesOpen : TableState → WriteSession → WriteSession → Result ⊤ WriteError → Type 0
+FinishesOpen t old new (Err error.Misuse) = (¬ HasNoRows old) × (new ≡ old)
+FinishesOpen t old new r = FinishesWith t old new r
+
+abbrev pub Finishes : WriteSession → WriteSession → Result ⊤ WriteError → Type 0
+Finishes old new r = OnStage old.stage (λ t. FinishesOpen t old new r) old new r
+
+-- ---- what the caller sees
+
+-- the last error; W10 does not replace it
+abbrev pub error_after : Option WriteError → WriteError → Option WriteError
+error_after last (error.Refused w.Failed) = last
+error_after last e = Some e
+
+-- the status is 0, or the number of the error, which is kept
+abbrev pub IsTold : WriteSession → Result ⊤ WriteError → WriteSession → ℕ → Type 0
+IsTold s (Ok x) new status = (status ≡ 0) × (new ≡ s)
+IsTold s (Err e) new status = (status ≡ error_number e)
+    × (new ≡ record s { error = error_after s.error e })
+
+-- the call is made, and the status is that of its answer
+pub record Reports (Call : WriteSession → WriteSession → Result ⊤ WriteError → Type 0)
+    (old new : WriteSession) (status : ℕ) : Type 0 where
+  pub after : WriteSession
+  pub answer : Result ⊤ WriteError
+  pub called : Call old after answer
+  pub told : IsTold after answer new status
+
+-- the bytes that were written and not taken are the front, and then those of the stage: if the front
+-- is empty, those of the stage become it
+pub record Gathers (old new : WriteSession) : Type 0 where
+  pub some : old.front ≢ [] → new ≡ old
+  pub none : old.front ≡ [] → (last : List ℕ) × HasWritten old.stage last
+      × (new ≡ record old { front = last; stage = emptied_stage old.stage })
+
+-- the number of bytes that one call can move: it is 0 only if no bytes wait
+abbrev pub CountsReady : WriteSession → WriteSession → ℕ → Type 0
+CountsReady old new count = Gathers old new × (count ≡ length new.front)
+
+-- the first of these bytes are moved to the target
+pub record TakesBytes (old new : WriteSession) (target_old target_new : List ℕ) (count : ℕ) :
+    Type 0 where
+  pub gathered : WriteSession
+  pub gathers : Gathers old gathered
+  pub left : List ℕ
+  pub moves : Moves gathered.front left target_old target_new count
+  pub new_is : new ≡ record gathered { front = left }
+
+-- the line of the last error, if there is one
+abbrev pub GivesErrorLine : Option WriteError → Result (Option (String Global)) Fault → Type 0
+GivesErrorLine last (Ok None) = last ≡ None
+GivesErrorLine last (Ok (Some text)) = (e : WriteError) × (last ≡ Some e)
+    × (string_bytes text ≡ error_line e)
+GivesErrorLine last (Err fault) = (last ≢ None) × (fault ≡ NoMemory)

@@ -1,0 +1,406 @@
+//! A stream that is written, as a value between the calls of a program in another language.
+ghost use Rattle.std.specs.Prelude.{◌≡◌, ◌⊎◌, IfErr, IfOk, length};
+ghost use Rattle.ipc_stream_session.specs.Writes as w;
+
+use crate::batch::ReadBatch;
+use crate::cells::{Around, Nesting, pop, push};
+use crate::open_table::OpenTable;
+use crate::ready::Ready;
+use crate::stage::Stage;
+use crate::write_error::WriteError;
+use ipc_model::{BatchRows, Fault, Items, Limits, Row, Schema, Text, Value, WriteFault, conforms};
+use ipc_text_json::schema_from_json;
+use ipc_text_temporal::TextFault;
+use std::alloc::Global;
+use std::mem;
+
+// The most lists and structs around a cell: no schema nests its fields deeper.
+const MAX_NESTING: usize = 64;
+
+/// A stream that is written cell by cell, with the rows that were not sent and the last error.
+///
+/// It is new, then open from its schema on, and ended by `finish` and after W9 or W11. A call that
+/// needs another state returns the number of `WriteError::Misuse`, or of W10 after the end, and
+/// changes nothing but the last error, which is that of the last call that was refused. W10 does
+/// not replace it.
+#[derive(Drop)]
+pub struct WriteSession {
+    limits: Limits,
+    stage: Stage,
+    // The bytes that are taken next. Those of the stage follow.
+    front: Ready,
+    // The cells of the innermost list or struct that has not ended, or of the row.
+    cells: Items<Value>,
+    // What is around these cells, the row first.
+    around: Items<Around>,
+    rows: Items<Row>,
+    error: Option<WriteError>,
+    alloc: Global,
+}
+
+// The schema that a JSON text states.
+fn schema_of(alloc: Global, text: &[u8]) -> Result<Schema, TextFault>
+    ensures read { IfOk result (w.StatesSchema text.now) }
+    ensures none { IfErr result (λ fault. (fault ≡ TextFault.OutOfMemory)
+        ⊎ ((fault ≡ TextFault.BadSchemaJson) × w.StatesNoSchema text.now)) }
+{
+    let Ok(text) = str::from_utf8(text) else {
+        return Err(TextFault::BadSchemaJson);
+    };
+    schema_from_json(alloc, text)
+}
+
+// Calls that leave the last error as it is.
+impl WriteSession {
+    // Ends the stream, for this cause.
+    fn end(&mut self, fault: WriteFault) -> WriteError
+        ensures ended { w.Ends self.old self.new }
+        ensures cause { result ≡ WriteError.Refused fault }
+    {
+        let stage = mem::replace(&mut self.stage, Stage::New);
+        self.stage = Stage::Ended(stage.into_ready(self.alloc));
+        WriteError::Refused(fault)
+    }
+
+    fn try_begin(&mut self, text: &[u8]) -> Result<(), WriteError>
+        ensures { w.Begins text.now self.old self.new result }
+    {
+        self.stage.check_new()?;
+        let schema = match schema_of(self.alloc, text) {
+            Ok(schema) => schema,
+            Err(TextFault::OutOfMemory) => return Err(self.end(WriteFault::OutOfMemory)),
+            Err(_) => return Err(WriteError::BadSchemaJson),
+        };
+        match OpenTable::start(self.alloc, self.limits, schema) {
+            Ok(table) => {
+                self.stage = Stage::Open(table);
+                Ok(())
+            }
+            Err((fault, ready)) => {
+                if matches!(fault, WriteFault::Write | WriteFault::OutOfMemory) {
+                    self.stage = Stage::Ended(ready);
+                }
+                Err(WriteError::Refused(fault))
+            }
+        }
+    }
+
+    fn try_add(&mut self, cell: Value) -> Result<(), WriteError>
+        ensures { w.Adds cell self.old self.new result }
+    {
+        self.stage.open()?;
+        if push(&mut self.cells, cell).is_err() {
+            return Err(self.end(WriteFault::OutOfMemory));
+        }
+        Ok(())
+    }
+
+    fn try_add_bytes(&mut self, bytes: &[u8]) -> Result<(), WriteError>
+        ensures { w.Adds (Value.Bytes bytes.now) self.old self.new result }
+    {
+        self.stage.open()?;
+        match Items::copied(self.alloc, bytes) {
+            Ok(copy) => self.try_add(Value::Bytes(copy)),
+            Err(_) => Err(self.end(WriteFault::OutOfMemory)),
+        }
+    }
+
+    fn try_add_text(&mut self, text: &[u8]) -> Result<(), WriteError>
+        ensures { w.AddsText text.now self.old self.new result }
+    {
+        self.stage.open()?;
+        let Ok(text) = str::from_utf8(text) else {
+            return Err(WriteError::NotUtf8);
+        };
+        match Text::copied(self.alloc, text) {
+            Ok(copy) => self.try_add(Value::Text(copy)),
+            Err(_) => Err(self.end(WriteFault::OutOfMemory)),
+        }
+    }
+
+    fn try_begin_cell(&mut self, begun: Nesting) -> Result<(), WriteError>
+        ensures { w.BeginsCell begun self.old self.new result }
+    {
+        self.stage.open()?;
+        if self.around.len() >= MAX_NESTING {
+            return Err(WriteError::Misuse);
+        }
+        let cells = mem::replace(&mut self.cells, Items::new(self.alloc));
+        if push(&mut self.around, Around { begun, cells }).is_err() {
+            return Err(self.end(WriteFault::OutOfMemory));
+        }
+        Ok(())
+    }
+
+    fn try_end_cell(&mut self) -> Result<(), WriteError>
+        ensures { w.EndsCell self.old self.new result }
+    {
+        self.stage.open()?;
+        let Some(Around { begun, cells }) = pop(&mut self.around) else {
+            return Err(WriteError::Misuse);
+        };
+        let cell = begun.of(mem::replace(&mut self.cells, cells));
+        if push(&mut self.cells, cell).is_err() {
+            return Err(self.end(WriteFault::OutOfMemory));
+        }
+        Ok(())
+    }
+
+    fn try_end_row(&mut self) -> Result<(), WriteError>
+        ensures { w.EndsRow self.old self.new result }
+    {
+        let table = self.stage.open()?;
+        if !self.around.is_empty() {
+            return Err(WriteError::Misuse);
+        }
+        let row = mem::replace(&mut self.cells, Items::new(self.alloc));
+        if let Err(fault) = conforms(table.schema(), row.as_slice()) {
+            return Err(WriteError::Refused(fault.at_row(self.rows.len() as u64)));
+        }
+        if push(&mut self.rows, row).is_err() {
+            return Err(self.end(WriteFault::OutOfMemory));
+        }
+        Ok(())
+    }
+
+    // Takes the open table out of the session, whose stage is then to be set.
+    fn take_table(&mut self) -> Result<OpenTable, WriteError>
+        ensures { w.TakesTable self.old self.new result }
+    {
+        match mem::replace(&mut self.stage, Stage::New) {
+            Stage::New => Err(WriteError::Misuse),
+            Stage::Open(table) => Ok(table),
+            Stage::Ended(ready) => {
+                self.stage = Stage::Ended(ready);
+                Err(WriteError::Refused(WriteFault::Failed))
+            }
+        }
+    }
+
+    fn try_send(&mut self) -> Result<(), WriteError>
+        ensures { w.SendsRows self.old self.new result }
+    {
+        let table = self.take_table()?;
+        let rows = mem::replace(&mut self.rows, Items::new(self.alloc));
+        let pairs = Items::new(self.alloc);
+        let (stage, sent) = table.send(&BatchRows { pairs, rows });
+        self.stage = stage;
+        Ok(sent?)
+    }
+
+    fn try_send_columns(&mut self, batch: &ReadBatch) -> Result<(), WriteError>
+        ensures { w.SendsColumns batch.now self.old self.new result }
+    {
+        let table = self.take_table()?;
+        let (columns, pairs) = batch.parts();
+        let Ok(pairs) = pairs.clone() else {
+            self.stage = Stage::Ended(table.into_ready());
+            return Err(WriteError::Refused(WriteFault::OutOfMemory));
+        };
+        let (stage, sent) = table.send_columns(columns, pairs);
+        self.stage = stage;
+        Ok(sent?)
+    }
+
+    fn try_finish(&mut self) -> Result<(), WriteError>
+        ensures { w.Finishes self.old self.new result }
+    {
+        let table = self.take_table()?;
+        if !self.rows.is_empty() || !self.cells.is_empty() || !self.around.is_empty() {
+            self.stage = Stage::Open(table);
+            return Err(WriteError::Misuse);
+        }
+        let (ready, ended) = table.finish();
+        self.stage = Stage::Ended(ready);
+        Ok(ended?)
+    }
+
+    // Returns the status of an answer, and keeps its error unless it is W10.
+    fn report(&mut self, answer: Result<(), WriteError>) -> u32
+        ensures { w.IsTold self.old answer self.new result }
+    {
+        let Err(error) = answer else {
+            return 0;
+        };
+        let number = error.number();
+        if !error.is_repeated() {
+            self.error = Some(error);
+        }
+        number
+    }
+}
+
+impl WriteSession {
+    /// Creates a writer without a schema. All that it makes is within `limits`. It takes no memory.
+    pub fn new(alloc: Global, limits: Limits) -> WriteSession
+        ensures { w.IsNew limits result }
+    {
+        WriteSession {
+            limits,
+            stage: Stage::New,
+            front: Ready::new(Vec::new(alloc)),
+            cells: Items::new(alloc),
+            around: Items::new(alloc),
+            rows: Items::new(alloc),
+            error: None,
+            alloc,
+        }
+    }
+
+    /// Begins the stream of the schema that a JSON text states, as `schema_from_json`. Returns 0,
+    /// or the number of the error, after which the writer is as it was: X6, W1 and W6. W9 and W11
+    /// end the writer.
+    pub fn begin(&mut self, text: &[u8]) -> u32
+        ensures { w.Reports (w.Begins text.now) self.old self.new result }
+    {
+        let answer = self.try_begin(text);
+        self.report(answer)
+    }
+
+    /// Adds a null cell. Returns 0, or the number of the error. W11 ends the writer.
+    pub fn add_null(&mut self) -> u32
+        ensures { w.Reports (w.Adds Value.Null) self.old self.new result }
+    {
+        let answer = self.try_add(Value::Null);
+        self.report(answer)
+    }
+
+    /// Adds a boolean cell. Returns as `add_null`.
+    pub fn add_bool(&mut self, value: bool) -> u32
+        ensures { w.Reports (w.Adds (Value.Bool value)) self.old self.new result }
+    {
+        let answer = self.try_add(Value::Bool(value));
+        self.report(answer)
+    }
+
+    /// Adds a cell that is a signed integer, a date, a time, a timestamp or a duration. Returns as
+    /// `add_null`.
+    pub fn add_int(&mut self, value: i64) -> u32
+        ensures { w.Reports (w.Adds (Value.Int value)) self.old self.new result }
+    {
+        let answer = self.try_add(Value::Int(value));
+        self.report(answer)
+    }
+
+    /// Adds a cell that is an unsigned integer. Returns as `add_null`.
+    pub fn add_uint(&mut self, value: u64) -> u32
+        ensures { w.Reports (w.Adds (Value.UInt value)) self.old self.new result }
+    {
+        let answer = self.try_add(Value::UInt(value));
+        self.report(answer)
+    }
+
+    /// Adds a cell with a copy of the bytes. Returns as `add_null`.
+    pub fn add_bytes(&mut self, bytes: &[u8]) -> u32
+        ensures { w.Reports (w.Adds (Value.Bytes bytes.now)) self.old self.new result }
+    {
+        let answer = self.try_add_bytes(bytes);
+        self.report(answer)
+    }
+
+    /// Adds a cell with a copy of the text. Returns as `add_null`, or 66 if the text is not UTF-8.
+    pub fn add_text(&mut self, text: &[u8]) -> u32
+        ensures { w.Reports (w.AddsText text.now) self.old self.new result }
+    {
+        let answer = self.try_add_text(text);
+        self.report(answer)
+    }
+
+    /// Begins a list or a struct, whose cells follow. It is a misuse inside 64 of them. Returns as
+    /// `add_null`.
+    pub fn begin_cell(&mut self, begun: Nesting) -> u32
+        ensures { w.Reports (w.BeginsCell begun) self.old self.new result }
+    {
+        let answer = self.try_begin_cell(begun);
+        self.report(answer)
+    }
+
+    /// Ends the list or struct that was begun last. It is a misuse if there is none. Returns as
+    /// `add_null`.
+    pub fn end_cell(&mut self) -> u32
+        ensures { w.Reports w.EndsCell self.old self.new result }
+    {
+        let answer = self.try_end_cell();
+        self.report(answer)
+    }
+
+    /// Ends the row, which is then pending. It is a misuse inside a list or struct. Returns 0, or
+    /// the number of the error: for W2 to W5 the row is dropped, and the pending rows remain. W11
+    /// ends the writer.
+    pub fn end_row(&mut self) -> u32
+        ensures { w.Reports w.EndsRow self.old self.new result }
+    {
+        let answer = self.try_end_row();
+        self.report(answer)
+    }
+
+    /// Sends the pending rows as one batch without pairs, as `StreamWriter::write_batch`. Returns
+    /// 0, or the number of the error: W6, W7 and W8, after which the writer goes on, and W9 and
+    /// W11, which end it. The pending rows are dropped in all cases.
+    pub fn send(&mut self) -> u32
+        ensures { w.Reports w.SendsRows self.old self.new result }
+    {
+        let answer = self.try_send();
+        self.report(answer)
+    }
+
+    /// Sends a batch that was read, with its pairs, as `StreamWriter::write_columns`. Returns 0, or
+    /// the number of the error: W2 to W8, after which the writer goes on, and W9 and W11, which end
+    /// it. The pending rows remain.
+    pub fn send_columns(&mut self, batch: &ReadBatch) -> u32
+        ensures { w.Reports (w.SendsColumns batch.now) self.old self.new result }
+    {
+        let answer = self.try_send_columns(batch);
+        self.report(answer)
+    }
+
+    /// Sends the end-of-stream mark, and ends the writer. It is a misuse if rows or cells are
+    /// pending. Returns 0, or the number of the error: W9 ends the writer too.
+    pub fn finish(&mut self) -> u32
+        ensures { w.Reports w.Finishes self.old self.new result }
+    {
+        let answer = self.try_finish();
+        self.report(answer)
+    }
+
+    // Makes the bytes that were written the front, if that is empty.
+    fn gather(&mut self)
+        ensures { w.Gathers self.old self.new }
+    {
+        if self.front.len() == 0 {
+            self.front = self.stage.take_bytes(self.alloc);
+        }
+    }
+
+    /// Returns the number of bytes that one call of `take` can move. It is 0 only if all bytes that
+    /// were written are taken.
+    pub fn ready(&mut self) -> usize
+        ensures { w.CountsReady self.old self.new result }
+    {
+        self.gather();
+        self.front.len()
+    }
+
+    /// Moves the first of the bytes that were written and not taken to the beginning of `target`.
+    /// Returns their number: `ready`, or as many as `target` has room for.
+    pub fn take(&mut self, target: &mut [u8]) -> usize
+        ensures { w.TakesBytes self.old self.new target.old target.new result }
+    {
+        self.gather();
+        self.front.take(target)
+    }
+
+    /// Returns the last error as one line without a line feed, as in `W4 OutOfRange at row 2 path
+    /// 0`, or `None` before an error. Errors: `OutOfMemory` only.
+    pub fn error_text(&self) -> Result<Option<String>, Fault>
+        ensures { w.GivesErrorLine self.now.error result }
+    {
+        match &self.error {
+            None => Ok(None),
+            Some(error) => match error.to_string(self.alloc) {
+                Ok(text) => Ok(Some(text)),
+                Err(_) => Err(Fault::OutOfMemory),
+            },
+        }
+    }
+}

@@ -1,0 +1,188 @@
+/* Test equipment: makes every call of a writer of include/arrowstream.h, by a script with the
+ * status and the line that each call has to answer.
+ *
+ *     c_writes stream     writes the stream of the script to standard output
+ *     c_writes growths    refuses each growth of memory in turn, and prints their number
+ *
+ * With a refused growth each call answers as without it, or that memory ran out; from then on the
+ * writer has ended. The program is linked with --wrap=malloc and --wrap=realloc. */
+#include "arrowstream.h"
+
+#include <stdio.h>
+#include <stdlib.h>
+#include <string.h>
+
+/* TAKEN: after this batch, all bytes are taken. */
+enum { FILL = 0xa5, PIECE = 7, TAKEN = 1, OUT_OF_MEMORY_IN_SINK = ARROW_WRITE + 9 };
+
+void *__real_malloc(size_t count);
+void *__real_realloc(void *block, size_t count);
+void *__wrap_malloc(size_t count);
+void *__wrap_realloc(void *block, size_t count);
+
+/* The growths that were asked for, and the one that is refused. */
+static unsigned long asked, refused;
+
+static int is_refused(void) { return ++asked == refused; }
+
+void *__wrap_malloc(size_t count) { return is_refused() ? NULL : __real_malloc(count); }
+
+void *__wrap_realloc(void *block, size_t count) {
+    return is_refused() ? NULL : __real_realloc(block, count);
+}
+
+static void stop(const char *why, size_t step) {
+    fprintf(stderr, "c_writes: %s, step %zu, growth %lu\n", why, step, refused);
+    exit(1);
+}
+
+#define FIELD(name, type, nullable, children, dictionary)                                        \
+    "{\"name\":\"" name "\",\"type\":[" type "],\"nullable\":" nullable ",\"children\":" children \
+    ",\"dictionary\":" dictionary ",\"metadata\":[]}"
+
+static const char schema[] = "{\"fields\":["
+    FIELD("a", "\"int\",8", "false", "0", "null") ","
+    FIELD("b", "\"uint\",64", "true", "0", "null") ","
+    FIELD("c", "\"bool\"", "true", "0", "null") ","
+    FIELD("d", "\"utf8\"", "true", "0", "[1,[\"int\",8],false]") ","
+    FIELD("e", "\"binary\"", "true", "0", "null") ","
+    FIELD("f", "\"list\"", "true", "1", "null") ","
+    FIELD("item", "\"utf8\"", "true", "0", "null") ","
+    FIELD("g", "\"struct\"", "true", "1", "null") ","
+    FIELD("member", "\"int\",32", "true", "0", "null") "],\"metadata\":[]}";
+
+/* A call by its letter, what it is given, and what it answers. */
+typedef struct {
+    char call;
+    uint32_t status;
+    int64_t number;
+    const char *text, *line;
+} step;
+
+/* A row of which the first and the fourth cell are given. */
+#define ROW(first, fourth)                                                                    \
+    {'i', 0, first, NULL, NULL}, {'u', 0, -1, NULL, NULL}, {'b', 0, 1, NULL, NULL},           \
+    {'t', 0, 0, fourth, NULL}, {'x', 0, 0, "\xff\x01", NULL}, {'[', 0, 0, NULL, NULL},        \
+    {'t', 0, 0, "one", NULL}, {'n', 0, 0, NULL, NULL}, {'e', 0, 0, NULL, NULL},               \
+    {'{', 0, 0, NULL, NULL}, {'i', 0, -5, NULL, NULL}, {'e', 0, 0, NULL, NULL}
+
+static const step steps[] = {
+    {'n', ARROW_MISUSE, 0, NULL, "call out of order"},
+    {'f', ARROW_MISUSE, 0, NULL, NULL},
+    {'S', ARROW_TEXT + 6, 0, "{\"fields\":[]", "X6 BadSchemaJson"},
+    {'S', ARROW_TEXT + 6, 0, "\xff", "X6 BadSchemaJson"},
+    {'S', ARROW_OK, 0, schema, NULL},
+    {'S', ARROW_MISUSE, 0, schema, NULL},
+    {'e', ARROW_MISUSE, 0, NULL, "call out of order"},
+    ROW(1, "Bonn"), {'r', ARROW_OK, 0, NULL, NULL},
+    ROW(300, "Bonn"), {'r', ARROW_WRITE + 4, 0, NULL, "W4 OutOfRange at row 1 path 0"},
+    {'i', ARROW_OK, 1, NULL, NULL}, {'r', ARROW_WRITE + 2, 0, NULL, "W2 RowWidth at row 1 path"},
+    {'r', ARROW_WRITE + 2, 0, NULL, NULL},
+    {'t', ARROW_NOT_UTF8, 0, "\xff", "text is not UTF-8"},
+    ROW(2, "Bonn"), {'[', ARROW_OK, 0, NULL, NULL}, {'r', ARROW_MISUSE, 0, NULL, NULL},
+    {'e', ARROW_OK, 0, NULL, NULL}, {'r', ARROW_WRITE + 2, 0, NULL, NULL},
+    ROW(3, "Kiel"), {'r', ARROW_OK, 0, NULL, NULL},
+    {'i', ARROW_OK, 4, NULL, NULL}, {'f', ARROW_MISUSE, 0, NULL, "call out of order"},
+    {'s', ARROW_OK, TAKEN, NULL, NULL},
+    {'n', ARROW_OK, 0, NULL, NULL}, {'n', ARROW_OK, 0, NULL, NULL}, {'n', ARROW_OK, 0, NULL, NULL},
+    {'n', ARROW_OK, 0, NULL, NULL}, {'n', ARROW_OK, 0, NULL, NULL}, {'n', ARROW_OK, 0, NULL, NULL},
+    {'r', ARROW_OK, 0, NULL, NULL}, {'f', ARROW_MISUSE, 0, NULL, NULL},
+    {'s', ARROW_OK, 0, NULL, NULL}, {'s', ARROW_OK, 0, NULL, NULL},
+    {'f', ARROW_OK, 0, NULL, NULL},
+    {'n', ARROW_WRITE_FAILED, 0, NULL, "call out of order"},
+    {'f', ARROW_WRITE_FAILED, 0, NULL, NULL},
+};
+
+static uint32_t make(arrow_writer *writer, const step *now) {
+    const uint8_t *text = (const uint8_t *)(now->text ? now->text : "");
+    size_t length = strlen((const char *)text);
+    switch (now->call) {
+    case 'S': return arrow_writer_schema(writer, text, length);
+    case 'n': return arrow_writer_null(writer);
+    case 'b': return arrow_writer_bool(writer, (uint32_t)now->number);
+    case 'i': return arrow_writer_int(writer, now->number);
+    case 'u': return arrow_writer_uint(writer, (uint64_t)now->number);
+    case 'x': return arrow_writer_bytes(writer, text, length);
+    case 't': return arrow_writer_text(writer, text, length);
+    case '[': return arrow_writer_begin_list(writer);
+    case '{': return arrow_writer_begin_struct(writer);
+    case 'e': return arrow_writer_end(writer);
+    case 'r': return arrow_writer_row(writer);
+    case 's': return arrow_writer_send(writer);
+    default: return arrow_writer_finish(writer);
+    }
+}
+
+/* Compares the line with the one that is wanted. Returns whether memory ran out. */
+static int is_line_lost(arrow_writer *writer, const char *line, size_t at) {
+    uint8_t text[64];
+    size_t wanted = 0;
+    memset(text, FILL, sizeof text);
+    uint32_t status = arrow_writer_line(writer, text, 3, &wanted);
+    if (status == ARROW_OUT_OF_MEMORY) return 1;
+    if (status != ARROW_OK || wanted != strlen(line) || text[0] != FILL) stop("a line cut", at);
+    status = arrow_writer_line(writer, text, sizeof text, &wanted);
+    if (status == ARROW_OUT_OF_MEMORY) return 1;
+    if (status != ARROW_OK || memcmp(text, line, wanted) != 0) stop("another line", at);
+    return 0;
+}
+
+/* Takes all bytes, a few at a time, and writes them if asked to. */
+static void take(arrow_writer *writer, int writes) {
+    uint8_t bytes[PIECE + 1];
+    for (size_t ready = arrow_writer_ready(writer); ready > 0; ready = arrow_writer_ready(writer)) {
+        memset(bytes, FILL, sizeof bytes);
+        size_t count = arrow_writer_take(writer, bytes, PIECE);
+        if (count != (ready < PIECE ? ready : PIECE)) stop("another count", ready);
+        if (bytes[count] != FILL) stop("a byte past the end", ready);
+        if (writes && fwrite(bytes, 1, count, stdout) != count) stop("no output", ready);
+    }
+    if (arrow_writer_take(writer, bytes, PIECE) != 0) stop("bytes after the last", 0);
+}
+
+/* Makes all calls, and takes what the first batch made. Returns whether memory ran out. */
+static int run(arrow_writer *writer, int writes) {
+    int lost = 0;
+    uint8_t none = 0;
+    size_t wanted = 1;
+    if (arrow_writer_line(writer, &none, 0, &wanted) != ARROW_ABSENT || wanted != 0)
+        stop("a line without an error", 0);
+    for (size_t at = 0; at < sizeof steps / sizeof *steps; at++) {
+        uint32_t status = make(writer, &steps[at]);
+        if (status == ARROW_WRITE_OUT_OF_MEMORY || status == OUT_OF_MEMORY_IN_SINK) {
+            if (make(writer, &steps[at]) != ARROW_WRITE_FAILED) stop("it goes on", at);
+            return 1;
+        }
+        if (status != steps[at].status) stop("another status", at);
+        if (steps[at].line) lost |= is_line_lost(writer, steps[at].line, at);
+        if (steps[at].call == 's' && steps[at].number == TAKEN) take(writer, writes);
+    }
+    return lost;
+}
+
+/* Runs the script. Returns whether memory ran out. */
+static int write_stream(int writes) {
+    arrow_limits limits;
+    arrow_writer *writer = NULL;
+    arrow_limits_standard(&limits);
+    arrow_writer_open(&limits, &writer);
+    if (!writer) return 1;
+    int lost = run(writer, writes);
+    take(writer, writes);
+    arrow_writer_free(writer);
+    return lost;
+}
+
+int main(int count, char **words) {
+    if (count != 2) return 2;
+    int grows = strcmp(words[1], "growths") == 0;
+    if (write_stream(!grows)) stop("out of memory without a refusal", 0);
+    if (!grows) return 0;
+    unsigned long all = asked;
+    for (refused = 1; refused <= all; refused++) {
+        asked = 0;
+        if (!write_stream(0)) stop("a refused growth that no call reports", 0);
+    }
+    printf("%lu growths\n", all);
+    return 0;
+}
