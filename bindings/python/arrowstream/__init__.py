@@ -1,4 +1,5 @@
-"""Reads Apache Arrow IPC streams by a library whose memory safety and answers are proved.
+"""Reads and writes Apache Arrow IPC streams by a library whose memory safety and answers are
+proved.
 
     import arrowstream
 
@@ -10,5 +11,17 @@
 from .errors import ArrowError
 from .reader import Batch, Column, Reader, read
 from .schema import Dictionary, Field, Schema
+from .writer import Writer, write
 
-__all__ = ["ArrowError", "Batch", "Column", "Dictionary", "Field", "Reader", "Schema", "read"]
+__all__ = [
+    "ArrowError",
+    "Batch",
+    "Column",
+    "Dictionary",
+    "Field",
+    "Reader",
+    "Schema",
+    "Writer",
+    "read",
+    "write",
+]

@@ -5,16 +5,19 @@ from __future__ import annotations
 import ctypes
 import os
 import pathlib
-from typing import Callable
+from typing import Any, Callable
 
 OK = 0
 OUT_OF_MEMORY = 37
 ABSENT = 64
+WRITE_OUT_OF_MEMORY = 111
 VERSION = 1
 
 NOTHING, SCHEMA, BATCH, END, CLOSED = range(5)
 VALIDITY, OFFSETS, VALUES = range(3)
 DICTIONARY = 2**64 - 1
+# Room for a text, so that most are made by one call.
+_ROOM = 1 << 12
 
 
 class Limits(ctypes.Structure):
@@ -68,6 +71,7 @@ _SIZE = ctypes.c_size_t
 _STATUS = ctypes.c_uint32
 _TEXT = [_HANDLE, ctypes.c_void_p, _SIZE, ctypes.POINTER(_SIZE)]
 _PATH = [_HANDLE, ctypes.POINTER(ctypes.c_uint64), _SIZE]
+_BYTES = [_HANDLE, ctypes.c_char_p, _SIZE]
 _CALLS = {
     "arrow_version": (_STATUS, []),
     "arrow_limits_standard": (None, [ctypes.POINTER(Limits)]),
@@ -87,6 +91,25 @@ _CALLS = {
         [*_PATH, ctypes.c_uint32, ctypes.c_void_p, _SIZE, ctypes.POINTER(_SIZE)],
     ),
     "arrow_batch_free": (None, [_HANDLE]),
+    "arrow_writer_open": (None, [ctypes.POINTER(Limits), ctypes.POINTER(_HANDLE)]),
+    "arrow_writer_schema": (_STATUS, _BYTES),
+    "arrow_writer_null": (_STATUS, [_HANDLE]),
+    "arrow_writer_bool": (_STATUS, [_HANDLE, ctypes.c_uint32]),
+    "arrow_writer_int": (_STATUS, [_HANDLE, ctypes.c_int64]),
+    "arrow_writer_uint": (_STATUS, [_HANDLE, ctypes.c_uint64]),
+    "arrow_writer_bytes": (_STATUS, _BYTES),
+    "arrow_writer_text": (_STATUS, _BYTES),
+    "arrow_writer_begin_list": (_STATUS, [_HANDLE]),
+    "arrow_writer_begin_struct": (_STATUS, [_HANDLE]),
+    "arrow_writer_end": (_STATUS, [_HANDLE]),
+    "arrow_writer_row": (_STATUS, [_HANDLE]),
+    "arrow_writer_send": (_STATUS, [_HANDLE]),
+    "arrow_writer_columns": (_STATUS, [_HANDLE, _HANDLE]),
+    "arrow_writer_finish": (_STATUS, [_HANDLE]),
+    "arrow_writer_ready": (_SIZE, [_HANDLE]),
+    "arrow_writer_take": (_SIZE, [_HANDLE, ctypes.c_void_p, _SIZE]),
+    "arrow_writer_line": (_STATUS, _TEXT),
+    "arrow_writer_free": (None, [_HANDLE]),
 }
 
 
@@ -112,7 +135,7 @@ library = _load()
 
 def text_of(call: Callable[..., int], handle: ctypes.c_void_p) -> str | None:
     """The text that a call copies, or None if there is none. Raises MemoryError."""
-    room, wanted = ctypes.create_string_buffer(256), _SIZE()
+    room, wanted = ctypes.create_string_buffer(_ROOM), _SIZE()
     status = call(handle, room, len(room), wanted)
     if status == OK and wanted.value > len(room):
         room = ctypes.create_string_buffer(wanted.value)
@@ -120,6 +143,23 @@ def text_of(call: Callable[..., int], handle: ctypes.c_void_p) -> str | None:
     if status == OUT_OF_MEMORY:
         raise MemoryError
     return room.raw[: wanted.value].decode() if status == OK else None
+
+
+def limits_of(metadata: int | None, body: int | None, slots: int | None) -> Limits:
+    """The standard limits, with these in place of some. Raises ValueError."""
+    limits = Limits()
+    library.arrow_limits_standard(limits)
+    for name, value in (("metadata", metadata), ("body", body), ("slots", slots)):
+        if value is not None:
+            if not 0 <= value < 2**64:
+                raise ValueError(f"the limit {value} is out of range")
+            setattr(limits, name, value)
+    return limits
+
+
+def start_of(buffer: bytearray | memoryview) -> Any:
+    """A pointer to the first byte of a buffer that may be written. It has a byte at least."""
+    return ctypes.byref(ctypes.c_char.from_buffer(buffer))
 
 
 def path_of(steps: tuple[int, ...]) -> ctypes.Array[ctypes.c_uint64]:

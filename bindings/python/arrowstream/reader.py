@@ -3,6 +3,7 @@
 from __future__ import annotations
 
 import ctypes
+import functools
 import json
 import threading
 from typing import Any, BinaryIO, Iterator
@@ -10,7 +11,7 @@ from typing import Any, BinaryIO, Iterator
 from . import _library as c
 from .errors import ArrowError
 from .schema import Field, Schema, pairs_of, schema_of
-from .values import to_list
+from .values import live_slots, to_list
 
 _PIECE = 1 << 16
 
@@ -31,12 +32,9 @@ class Column:
         parent: Column | None = None,
     ):
         self._batch = batch
-        self.parent = parent
-        # What `values.live_slots` returns, or NotImplemented before it was asked for.
-        self.live: Any = NotImplemented
         self._path = path
         self._facts = batch._facts(path)
-        self._buffers: dict[int, memoryview] = {}
+        self.parent = parent
         self.field = field
         self.is_encoded = is_encoded
 
@@ -58,26 +56,26 @@ class Column:
         """The number of slots that the validity bitmap marks as null."""
         return self._facts.nulls
 
-    def _buffer(self, kind: int, size: int) -> memoryview:
-        if kind not in self._buffers:
-            self._buffers[kind] = memoryview(self._batch._copy(self._path, kind, size))
-        return self._buffers[kind]
+    @functools.cached_property
+    def live(self) -> bytes | None:
+        """A byte 1 for each slot that is valid and that a row can show, else 0. None if each is."""
+        return live_slots(self)
 
     @property
     def validity(self) -> memoryview:
         """The validity bitmap, or no bytes if no slot is null. The lowest bit comes first."""
-        return self._buffer(c.VALIDITY, self._facts.validity)
+        return self._batch._buffer(self._path, c.VALIDITY, self._facts.validity)
 
     @property
     def offsets(self) -> memoryview:
         """The offsets of texts, bytes and lists, 32 bits each, or no bytes."""
-        return self._buffer(c.OFFSETS, self._facts.offsets)
+        return self._batch._buffer(self._path, c.OFFSETS, self._facts.offsets)
 
     @property
     def values(self) -> memoryview:
         """The values of the slots. With a dictionary these are indices. Values of null slots have
         no meaning. `numpy.frombuffer(column.values, dtype)` shares this memory."""
-        return self._buffer(c.VALUES, self._facts.values)
+        return self._batch._buffer(self._path, c.VALUES, self._facts.values)
 
     def child(self, number: int) -> Column:
         """The child with this number, from 0. Raises IndexError."""
@@ -123,6 +121,7 @@ class Batch:
     def __init__(self, handle: ctypes.c_void_p, schema: Schema, check: Any):
         self._handle = handle
         self._check = check
+        self._buffers: dict[tuple[tuple[int, ...], int], memoryview] = {}
         self.schema = schema
 
     def __del__(self) -> None:
@@ -133,7 +132,7 @@ class Batch:
         self._check()
         return c.library.arrow_batch_rows(self._handle)
 
-    @property
+    @functools.cached_property
     def metadata(self) -> tuple[tuple[str, str], ...]:
         """The pairs of key and value of the batch's message."""
         self._check()
@@ -157,10 +156,15 @@ class Batch:
         field = self.schema.fields[key]
         return Column(self, (key,), field, field.dictionary is not None)
 
-    def rows(self) -> Iterator[tuple[Any, ...]]:
+    def rows(self, *, as_stored: bool = False) -> Iterator[tuple[Any, ...]]:
         """The rows, each a tuple of the values of `Column.to_list`."""
-        columns = [column.to_list() for column in self.columns]
+        columns = [column.to_list(as_stored=as_stored) for column in self.columns]
         return zip(*columns) if columns else iter([()] * len(self))
+
+    def _checked_handle(self) -> ctypes.c_void_p:
+        """The library's batch, on the thread where it may be used."""
+        self._check()
+        return self._handle
 
     def _find(self, path: tuple[int, ...]) -> c.ColumnFacts | None:
         self._check()
@@ -177,14 +181,17 @@ class Batch:
             raise LookupError(f"no column at {path}")
         return facts
 
-    def _copy(self, path: tuple[int, ...], kind: int, size: int) -> bytearray:
+    def _buffer(self, path: tuple[int, ...], kind: int, size: int) -> memoryview:
+        """A buffer of the column at a path. It is copied once, and kept with the batch."""
         self._check()
-        room, wanted = bytearray(size), ctypes.c_size_t()
-        view = (ctypes.c_char * size).from_buffer(room)
-        c.library.arrow_batch_buffer(
-            self._handle, c.path_of(path), len(path), kind, view, size, wanted
-        )
-        return room
+        if (path, kind) not in self._buffers:
+            room, wanted = bytearray(size), ctypes.c_size_t()
+            if size:
+                c.library.arrow_batch_buffer(
+                    self._handle, c.path_of(path), len(path), kind, c.start_of(room), size, wanted
+                )
+            self._buffers[path, kind] = memoryview(room)
+        return self._buffers[path, kind]
 
 
 class Reader:
@@ -251,10 +258,8 @@ class Reader:
                     return self._close()
                 self._piece = memoryview(self._room)[:count]
             progress = c.Progress()
-            piece = (ctypes.c_char * len(self._piece)).from_buffer(self._piece)
-            status = c.library.arrow_reader_feed(self._handle, piece, len(piece), progress)
-            del piece
-            self._raise(status)
+            start, size = c.start_of(self._piece), len(self._piece)
+            self._raise(c.library.arrow_reader_feed(self._handle, start, size, progress))
             self._piece = self._piece[progress.taken :]
             if progress.event == c.SCHEMA:
                 self._read_schema()
@@ -308,11 +313,4 @@ def read(
     Raises ArrowError, from the reader's methods, for a stream that is refused; the batches before
     it remain valid. Raises MemoryError if memory runs out.
     """
-    limits = c.Limits()
-    c.library.arrow_limits_standard(limits)
-    for name, value in (("metadata", max_metadata), ("body", max_body), ("slots", max_rows)):
-        if value is not None:
-            if not 0 <= value < 2**64:
-                raise ValueError(f"the limit {value} is out of range")
-            setattr(limits, name, value)
-    return Reader(file, limits)
+    return Reader(file, c.limits_of(max_metadata, max_body, max_rows))

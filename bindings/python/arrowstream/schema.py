@@ -1,4 +1,4 @@
-"""The schema of a stream (Schema.fbs), from the JSON form that `docs/SCHEMA.md` describes."""
+"""The schema of a stream (Schema.fbs), and the JSON form that `docs/SCHEMA.md` describes."""
 
 from __future__ import annotations
 
@@ -26,10 +26,24 @@ class Field:
 
     name: str
     type: tuple[Any, ...]
-    nullable: bool
-    dictionary: Dictionary | None
-    children: tuple[Field, ...]
-    metadata: tuple[tuple[str, str], ...]
+    nullable: bool = True
+    dictionary: Dictionary | None = None
+    children: tuple[Field, ...] = ()
+    metadata: tuple[tuple[str, str], ...] = ()
+
+    def _entries(self) -> Iterator[dict[str, Any]]:
+        """The JSON form of the field, and of its descendants in pre-order."""
+        encoding = self.dictionary
+        yield {
+            "name": self.name,
+            "type": self.type,
+            "nullable": self.nullable,
+            "children": len(self.children),
+            "dictionary": encoding and (encoding.id, encoding.index_type, encoding.ordered),
+            "metadata": self.metadata,
+        }
+        for child in self.children:
+            yield from child._entries()
 
 
 @dataclass(frozen=True)
@@ -37,12 +51,17 @@ class Schema:
     """The columns of a stream and its pairs of key and value (Schema.fbs, table Schema)."""
 
     fields: tuple[Field, ...]
-    metadata: tuple[tuple[str, str], ...]
+    metadata: tuple[tuple[str, str], ...] = ()
 
     @property
     def names(self) -> list[str]:
         """The names of the columns, which may repeat."""
         return [field.name for field in self.fields]
+
+    def to_json(self) -> str:
+        """The schema as JSON text, in the form of `docs/SCHEMA.md`."""
+        entries = [entry for field in self.fields for entry in field._entries()]
+        return json.dumps({"fields": entries, "metadata": self.metadata})
 
 
 def pairs_of(entries: list[list[str]]) -> tuple[tuple[str, str], ...]:

@@ -4,76 +4,77 @@ Layout")."""
 from __future__ import annotations
 
 import datetime
+import operator
 import re
 import zoneinfo
-from typing import TYPE_CHECKING, Any, Callable, Iterable, Sequence
+from itertools import compress
+from typing import TYPE_CHECKING, Any, Callable, Iterator
 
 if TYPE_CHECKING:
     from .reader import Column
 
-_EPOCH = datetime.datetime(1970, 1, 1)
-_EPOCH_DAY = datetime.date(1970, 1, 1).toordinal()
-_PER_DAY_MS = 86_400_000
-_MICROSECONDS = {"s": 1_000_000, "ms": 1_000, "us": 1}
+EPOCH = datetime.datetime(1970, 1, 1)
+EPOCH_DAY = EPOCH.toordinal()
+PER_DAY_MS = 86_400_000
+PER_SECOND = {"s": 1, "ms": 1_000, "us": 1_000_000, "ns": 1_000_000_000}
 _SIGNED = {8: "b", 16: "h", 32: "i", 64: "q"}
 _UNSIGNED = {8: "B", 16: "H", 32: "I", 64: "Q"}
 _OFFSET = re.compile(r"([+-])(\d\d):(\d\d)")
+# The bits of each byte, the lowest first, as bytes 0 and 1.
+_BITS = [bytes(byte >> bit & 1 for bit in range(8)) for byte in range(256)]
+_INVERTED = bytes.maketrans(b"\0\1", b"\1\0")
 
 
-def _bits(buffer: memoryview, count: int) -> str:
-    """The first `count` bits of a bitmap, as the digits "0" and "1"."""
-    used = (count + 7) // 8
-    number = int.from_bytes(buffer[:used], "little") | 1 << 8 * used
-    return bin(number)[:2:-1][:count]
+def _bits(buffer: memoryview, count: int) -> bytes:
+    """The first `count` bits of a bitmap, each as a byte 0 or 1."""
+    return b"".join(map(_BITS.__getitem__, buffer[: (count + 7) // 8]))[:count]
 
 
-def _used_slots(column: Column) -> Sequence[int] | None:
-    """For each slot of a child whether its parent uses it, or None if the parent uses each."""
+def _bounds(column: Column) -> list[int]:
+    """Where slot i begins and ends: at numbers i and i + 1. Without slots there need be none."""
+    if column.type[0] == "fixed_size_list":
+        return [column.type[1] * slot for slot in range(len(column) + 1)]
+    return column.offsets[: 4 * len(column) + 4].cast("i").tolist() if len(column) else []
+
+
+def _used_slots(column: Column) -> bytes | None:
+    """A byte 1 for each slot of a child that its parent uses, else 0. None if it uses each."""
     parent = column.parent
     if parent is None:
         return None
-    live, count = live_slots(parent), len(column)
+    live, count = parent.live, len(column)
     if parent.type[0] == "struct":
         more = count - len(parent)
-        return live if not more else [*(live or [True] * len(parent)), *[False] * more]
-    spans = _spans(parent) if parent.type[0] == "list" else _blocks(parent)
+        return (live or b"\1" * len(parent)) + bytes(more) if more else live
+    bounds = _bounds(parent)
+    starts, ends = bounds[:-1], bounds[1:]
     if live is not None:
-        spans = [span for span, is_live in zip(spans, live) if is_live]
+        starts, ends = list(compress(starts, live)), list(compress(ends, live))
     # The spans are in order, so together they have each slot if they have as many.
-    if sum(end - start for start, end in spans) == count:
+    if sum(ends) - sum(starts) == count:
         return None
     used = bytearray(count)
-    for start, end in spans:
+    for start, end in zip(starts, ends):
         used[start:end] = b"\1" * (end - start)
-    return used
+    return bytes(used)
 
 
-def live_slots(column: Column) -> Sequence[int] | None:
-    """For each slot whether it has a value and is used, or None if each is. Bytes of other slots
-    have no meaning: they need not even be a text or an index."""
-    if column.live is NotImplemented:
-        column.live = _used_slots(column)
-        if column.null_count and len(column.validity):
-            valid = [bit == "1" for bit in _bits(column.validity, len(column))]
-            pairs = zip(valid, column.live or valid)
-            column.live = [one and other for one, other in pairs]
-    return column.live
+def live_slots(column: Column) -> bytes | None:
+    """A byte 1 for each slot that has a value and is used, else 0. None if each is. Bytes of other
+    slots have no meaning: they need not even be a text or an index."""
+    used = _used_slots(column)
+    if not column.null_count or not len(column.validity):
+        return used
+    valid = _bits(column.validity, len(column))
+    return valid if used is None else bytes(map(operator.and_, valid, used))
 
 
-def _each(column: Column, slots: Iterable[Any], read: Callable[[Any], Any]) -> list[Any]:
-    """What `read` makes of each slot, and None for each that is null or not used."""
-    live = live_slots(column)
-    if live is None:
-        return [read(slot) for slot in slots]
-    return [read(slot) if is_live else None for slot, is_live in zip(slots, live)]
-
-
-def _with_nulls(column: Column, values: Iterable[Any]) -> list[Any]:
-    """The values, with None for each slot that is null or not used."""
-    live = live_slots(column)
-    if live is None:
-        return list(values)
-    return [value if is_live else None for value, is_live in zip(values, live)]
+def _filled(column: Column, values: list[Any], filler: Any = None) -> list[Any]:
+    """Sets each slot that is null or not used to `filler`, and returns the values."""
+    if column.live is not None:
+        for slot in compress(range(len(column)), column.live.translate(_INVERTED)):
+            values[slot] = filler
+    return values
 
 
 def _numbers(column: Column, kind: tuple[Any, ...]) -> list[int]:
@@ -81,83 +82,70 @@ def _numbers(column: Column, kind: tuple[Any, ...]) -> list[int]:
     return column.values[: kind[1] // 8 * len(column)].cast(codes[kind[1]]).tolist()
 
 
-def _spans(column: Column) -> list[tuple[int, int]]:
-    """Where each slot begins and ends, by the offsets. Without slots there need be none."""
-    if not len(column):
-        return []
-    offsets = column.offsets[: 4 * len(column) + 4].cast("i").tolist()
-    return list(zip(offsets, offsets[1:]))
-
-
-def _blocks(column: Column) -> list[tuple[int, int]]:
-    """Where each slot of lists of a fixed size begins and ends."""
-    size = column.type[1]
-    return [(size * slot, size * slot + size) for slot in range(len(column))]
+def _slices(whole: Any, bounds: list[int]) -> list[Any]:
+    return [whole[start:end] for start, end in zip(bounds, bounds[1:])]
 
 
 def _texts(column: Column) -> list[str | None]:
-    data = column.values.tobytes()
+    data, bounds = column.values.tobytes(), _bounds(column)
     if data.isascii():
-        text = data.decode("ascii")
-        return _with_nulls(column, (text[start:end] for start, end in _spans(column)))
-    return _each(column, _spans(column), lambda span: data[span[0] : span[1]].decode())
-
-
-def _binaries(column: Column) -> list[bytes | None]:
-    data = column.values.tobytes()
-    return _with_nulls(column, (data[start:end] for start, end in _spans(column)))
+        return _filled(column, _slices(data.decode("ascii"), bounds))
+    # Only bytes of a slot that is null or not used can be other than UTF-8.
+    texts = [item.decode("utf-8", "replace") for item in _slices(data, bounds)]
+    return _filled(column, texts)
 
 
 def _fixed_binaries(column: Column) -> list[bytes | None]:
-    data, width = column.values.tobytes(), column.type[1]
-    starts = (width * slot for slot in range(len(column)))
-    return _with_nulls(column, (data[start : start + width] for start in starts))
+    width = column.type[1]
+    bounds = [width * slot for slot in range(len(column) + 1)]
+    return _filled(column, _slices(column.values.tobytes(), bounds))
 
 
 def _lists(column: Column, as_stored: bool) -> list[list[Any] | None]:
     items = column.child(0).to_list(as_stored=as_stored)
-    return _with_nulls(column, (items[start:end] for start, end in _spans(column)))
-
-
-def _fixed_lists(column: Column, as_stored: bool) -> list[list[Any] | None]:
-    items = column.child(0).to_list(as_stored=as_stored)
-    return _with_nulls(column, (items[start:end] for start, end in _blocks(column)))
+    return _filled(column, _slices(items, _bounds(column)))
 
 
 def _structs(column: Column, as_stored: bool) -> list[Any]:
     names = [child.name for child in column.field.children]
-    members = [
-        column.child(number).to_list(as_stored=as_stored)[: len(column)]
-        for number in range(len(names))
-    ]
-    rows = zip(*members) if members else (() for _ in range(len(column)))
-    if len(set(names)) == len(names):
-        return _with_nulls(column, (dict(zip(names, row)) for row in rows))
-    return _with_nulls(column, (list(zip(names, row)) for row in rows))
+    members = [column.child(number).to_list(as_stored=as_stored) for number in range(len(names))]
+    if len(set(names)) < len(names):
+        pairs = (list(zip(names, row)) for row in zip(*members))
+        return _filled(column, [pair for _, pair in zip(range(len(column)), pairs)])
+    empty = dict.fromkeys(names)
+    rows = [empty.copy() for _ in range(len(column))]
+    for name, member in zip(names, members):
+        for row, value in zip(rows, member):
+            row[name] = value
+    return _filled(column, rows)
 
 
-def _microseconds(number: int, unit: str) -> int:
-    """A number of the unit in microseconds. Nanoseconds have to be whole microseconds."""
-    if unit != "ns":
-        return number * _MICROSECONDS[unit]
-    whole, part = divmod(number, 1_000)
-    if part:
-        raise ValueError(f"{number} ns is not a whole number of microseconds")
-    return whole
+def _divided(numbers: list[int], unit: str, size: int, wholes: str) -> list[int]:
+    """The numbers of `unit` in a unit of `size` of them. Raises ValueError if one is no multiple."""
+    for number in numbers:
+        if number % size:
+            raise ValueError(f"{number} {unit} is not a whole number of {wholes}")
+    return [number // size for number in numbers]
 
 
-def _date(number: int, unit: str) -> datetime.date:
-    days, part = (number, 0) if unit == "day" else divmod(number, _PER_DAY_MS)
-    if part:
-        raise ValueError(f"{number} ms is not a whole number of days")
-    return datetime.date.fromordinal(_EPOCH_DAY + days)
+def _durations(numbers: list[int], unit: str) -> Iterator[datetime.timedelta]:
+    if unit == "ns":
+        numbers, unit = _divided(numbers, unit, 1_000, "microseconds"), "us"
+    one = datetime.timedelta(microseconds=1_000_000 // PER_SECOND[unit])
+    return map(one.__mul__, numbers)
 
 
-def _time(number: int, unit: str) -> datetime.time:
-    passed = datetime.timedelta(0, 0, _microseconds(number, unit))
-    if not datetime.timedelta() <= passed < datetime.timedelta(days=1):
-        raise ValueError(f"{number} {unit} is no time of a day")
-    return (_EPOCH + passed).time()
+def _dates(numbers: list[int], unit: str) -> Iterator[datetime.date]:
+    days = numbers if unit == "day" else _divided(numbers, unit, PER_DAY_MS, "days")
+    return map(datetime.date.fromordinal, map(EPOCH_DAY.__add__, days))
+
+
+def _times(numbers: list[int], unit: str) -> Iterator[datetime.time]:
+    day = 86_400 * PER_SECOND[unit]
+    for number in numbers:
+        if not 0 <= number < day:
+            raise ValueError(f"{number} {unit} is no time of a day")
+    return map(datetime.datetime.time, _timestamps(numbers, unit))
 
 
 def _zone(name: str) -> datetime.tzinfo:
@@ -170,29 +158,29 @@ def _zone(name: str) -> datetime.tzinfo:
     return datetime.timezone.utc if name == "UTC" else zoneinfo.ZoneInfo(name)
 
 
-def _moment_reader(unit: str, zone: str | None) -> Callable[[int], datetime.datetime]:
-    place = None if zone is None else _zone(zone)
+def _timestamps(
+    numbers: list[int], unit: str, zone: str | None = None
+) -> Iterator[datetime.datetime]:
+    passed = _durations(numbers, unit)
+    if zone is None:
+        return map(EPOCH.__add__, passed)
+    place = _zone(zone)
+    return map(place.fromutc, map(EPOCH.replace(tzinfo=place).__add__, passed))
 
-    def moment(number: int) -> datetime.datetime:
-        naive = _EPOCH + datetime.timedelta(0, 0, _microseconds(number, unit))
-        if place is None:
-            return naive
-        return naive.replace(tzinfo=datetime.timezone.utc).astimezone(place)
 
-    return moment
+_TEMPORAL: dict[str, Callable[..., Iterator[Any]]] = {
+    "date": _dates,
+    "time": _times,
+    "timestamp": _timestamps,
+    "duration": _durations,
+}
 
 
 def _temporal(column: Column) -> list[Any]:
-    name, unit = column.type[:2]
-    readers: dict[str, Callable[[int], Any]] = {
-        "date": lambda number: _date(number, unit),
-        "time": lambda number: _time(number, unit),
-        "duration": lambda number: datetime.timedelta(0, 0, _microseconds(number, unit)),
-    }
-    if name == "timestamp":
-        readers[name] = _moment_reader(unit, column.type[2])
+    name, *parameters = column.type
+    numbers = _filled(column, _numbers(column, _width_of(column)), 0)
     try:
-        return _each(column, _numbers(column, _width_of(column)), readers[name])
+        return _filled(column, list(_TEMPORAL[name](numbers, *parameters)))
     except OverflowError as fault:
         raise ValueError(f"a value of {column.name!r} does not fit {name} of datetime") from fault
 
@@ -208,25 +196,23 @@ def _encoded(column: Column, as_stored: bool) -> list[Any]:
     dictionary = column.dictionary
     if dictionary is None:
         return [None] * len(column)
-    values = dictionary.to_list(as_stored=as_stored)
-    indices = _numbers(column, column.field.dictionary.index_type)
-    return _each(column, indices, lambda index: values[index])
+    values = [*dictionary.to_list(as_stored=as_stored), None]
+    indices = _filled(column, _numbers(column, column.field.dictionary.index_type), -1)
+    return list(map(values.__getitem__, indices))
 
 
 _FLAT: dict[str, Callable[[Column], list[Any]]] = {
     "null": lambda column: [None] * len(column),
-    "bool": lambda column: _with_nulls(
-        column, (bit == "1" for bit in _bits(column.values, len(column)))
-    ),
-    "int": lambda column: _with_nulls(column, _numbers(column, column.type)),
-    "uint": lambda column: _with_nulls(column, _numbers(column, column.type)),
-    "binary": _binaries,
+    "bool": lambda column: _filled(column, list(map(bool, _bits(column.values, len(column))))),
+    "int": lambda column: _filled(column, _numbers(column, column.type)),
+    "uint": lambda column: _filled(column, _numbers(column, column.type)),
+    "binary": lambda column: _filled(column, _slices(column.values.tobytes(), _bounds(column))),
     "utf8": _texts,
     "fixed_size_binary": _fixed_binaries,
 }
 _NESTED: dict[str, Callable[[Column, bool], list[Any]]] = {
     "list": _lists,
-    "fixed_size_list": _fixed_lists,
+    "fixed_size_list": _lists,
     "struct": _structs,
 }
 
@@ -241,5 +227,5 @@ def to_list(column: Column, as_stored: bool) -> list[Any]:
     if name in _FLAT:
         return _FLAT[name](column)
     if as_stored:
-        return _with_nulls(column, _numbers(column, _width_of(column)))
+        return _filled(column, _numbers(column, _width_of(column)))
     return _temporal(column)

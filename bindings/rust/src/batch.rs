@@ -106,6 +106,10 @@ impl Batch {
         Batch { batch, _thread: PhantomData }
     }
 
+    pub(crate) fn as_ptr(&self) -> *mut ffi::Batch {
+        self.batch.as_ptr()
+    }
+
     /// Returns the number of rows.
     pub fn rows(&self) -> usize {
         // SAFETY: the batch was not freed.

@@ -1,19 +1,23 @@
-//! Why a stream could not be read.
+//! Why a stream could not be read or written.
 
 use std::{fmt, io};
 
-/// Why a stream could not be read.
+/// Why a stream could not be read or written.
 #[derive(Debug)]
 pub enum Error {
-    /// The stream is refused.
+    /// The stream that is read is refused, or what was to be written.
     Refused {
-        /// The number of the refusal, from 1 for F1 to 35 for F35. `docs/FAULTS.md` lists them.
+        /// The number of the refusal: 1 for F1 to 35 for F35, 101 for W1 to 110 for W10, and 206
+        /// for X6. `docs/FAULTS.md` lists them.
         number: u32,
-        /// The line that the program `arrowstream` prints, as in `F4 Truncated at message 2`.
+        /// The line that the program `arrowstream` prints, as in `F4 Truncated at message 2` or
+        /// `W4 OutOfRange at row 0 path 1.0`.
         line: String,
     },
     /// The source failed.
     Read(io::Error),
+    /// The sink failed.
+    Write(io::Error),
     /// Memory ran out.
     OutOfMemory,
 }
@@ -23,6 +27,7 @@ impl fmt::Display for Error {
         match self {
             Error::Refused { line, .. } => f.write_str(line),
             Error::Read(cause) => write!(f, "the source failed: {cause}"),
+            Error::Write(cause) => write!(f, "the sink failed: {cause}"),
             Error::OutOfMemory => f.write_str("out of memory"),
         }
     }
@@ -31,7 +36,7 @@ impl fmt::Display for Error {
 impl std::error::Error for Error {
     fn source(&self) -> Option<&(dyn std::error::Error + 'static)> {
         match self {
-            Error::Read(cause) => Some(cause),
+            Error::Read(cause) | Error::Write(cause) => Some(cause),
             _ => None,
         }
     }

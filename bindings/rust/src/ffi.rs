@@ -5,6 +5,8 @@ use std::marker::{PhantomData, PhantomPinned};
 
 pub(crate) const OK: u32 = 0;
 pub(crate) const OUT_OF_MEMORY: u32 = 37;
+pub(crate) const WRITE_FAILED: u32 = 110;
+pub(crate) const WRITE_OUT_OF_MEMORY: u32 = 111;
 
 pub(crate) const SCHEMA: u64 = 1;
 pub(crate) const BATCH: u64 = 2;
@@ -18,6 +20,12 @@ pub(crate) struct Reader {
 
 #[repr(C)]
 pub(crate) struct Batch {
+    _opaque: [u8; 0],
+    _marker: PhantomData<(*mut u8, PhantomPinned)>,
+}
+
+#[repr(C)]
+pub(crate) struct Writer {
     _opaque: [u8; 0],
     _marker: PhantomData<(*mut u8, PhantomPinned)>,
 }
@@ -101,4 +109,27 @@ extern "C" {
         wanted: *mut usize,
     ) -> u32;
     pub(crate) fn arrow_batch_free(batch: *mut Batch);
+    pub(crate) fn arrow_writer_open(limits: *const crate::Limits, out: *mut *mut Writer);
+    pub(crate) fn arrow_writer_schema(writer: *mut Writer, text: *const u8, length: usize) -> u32;
+    pub(crate) fn arrow_writer_null(writer: *mut Writer) -> u32;
+    pub(crate) fn arrow_writer_bool(writer: *mut Writer, value: u32) -> u32;
+    pub(crate) fn arrow_writer_int(writer: *mut Writer, value: i64) -> u32;
+    pub(crate) fn arrow_writer_uint(writer: *mut Writer, value: u64) -> u32;
+    pub(crate) fn arrow_writer_bytes(writer: *mut Writer, bytes: *const u8, length: usize) -> u32;
+    pub(crate) fn arrow_writer_text(writer: *mut Writer, text: *const u8, length: usize) -> u32;
+    pub(crate) fn arrow_writer_begin_list(writer: *mut Writer) -> u32;
+    pub(crate) fn arrow_writer_begin_struct(writer: *mut Writer) -> u32;
+    pub(crate) fn arrow_writer_end(writer: *mut Writer) -> u32;
+    pub(crate) fn arrow_writer_row(writer: *mut Writer) -> u32;
+    pub(crate) fn arrow_writer_send(writer: *mut Writer) -> u32;
+    pub(crate) fn arrow_writer_columns(writer: *mut Writer, batch: *mut Batch) -> u32;
+    pub(crate) fn arrow_writer_finish(writer: *mut Writer) -> u32;
+    pub(crate) fn arrow_writer_take(writer: *mut Writer, bytes: *mut u8, length: usize) -> usize;
+    pub(crate) fn arrow_writer_line(
+        writer: *mut Writer,
+        text: *mut u8,
+        length: usize,
+        wanted: *mut usize,
+    ) -> u32;
+    pub(crate) fn arrow_writer_free(writer: *mut Writer);
 }

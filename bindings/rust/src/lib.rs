@@ -1,5 +1,5 @@
-//! Reads Apache Arrow IPC streams by a library whose memory safety and answers are proved
-//! (`include/arrowstream.h`).
+//! Reads and writes Apache Arrow IPC streams by a library whose memory safety and answers are
+//! proved (`include/arrowstream.h`).
 //!
 //! ```
 //! use arrowstream::{Buffer, Limits, Reader};
@@ -28,13 +28,58 @@
 //!     _ => unreachable!(),
 //! }
 //! ```
+//!
+//! A table is written row by row, or batch by batch from a stream that was read. Here is both:
+//!
+//! ```
+//! use arrowstream::{Cell, Limits, Reader, Writer};
+//! # fn main() -> Result<(), Box<dyn std::error::Error>> {
+//! # let path = std::env::var("ARROWSTREAM_SAMPLES")? + "/orders.json";
+//! let schema = std::fs::read_to_string(path)?;
+//! let mut writer = Writer::open(Vec::new(), &schema, &Limits::standard())?;
+//! let tags = [Cell::Text("new"), Cell::Null];
+//! let address = [Cell::Text("Elm Street"), Cell::Int(3)];
+//! writer.row(&[Cell::Int(1), Cell::Text("Ann"), Cell::List(&tags), Cell::Struct(&address)])?;
+//! writer.row(&[Cell::Int(2), Cell::Null, Cell::List(&[]), Cell::Null])?;
+//! let stream = writer.finish()?;
+//!
+//! let mut reader = Reader::open(&stream[..], &Limits::standard())?;
+//! let mut copy = Writer::open(Vec::new(), reader.schema(), &Limits::standard())?;
+//! for batch in &mut reader {
+//!     copy.write_batch(&batch?)?;
+//! }
+//! assert_eq!(copy.finish()?, stream);
+//! # Ok(())
+//! # }
+//! ```
+//!
+//! A row that does not fit its schema is refused with its number and the path to the value:
+//!
+//! ```
+//! use arrowstream::{Cell, Error, Limits, Writer};
+//! # fn main() -> Result<(), Box<dyn std::error::Error>> {
+//! let schema = r#"{"metadata":[],"fields":[{"name":"a","type":["int",8],"nullable":true,
+//!     "children":0,"dictionary":null,"metadata":[]}]}"#;
+//! let mut writer = Writer::open(Vec::new(), schema, &Limits::standard())?;
+//! writer.row(&[Cell::Int(127)])?;
+//! match writer.row(&[Cell::Int(128)]) {
+//!     Err(Error::Refused { number, line }) => {
+//!         assert_eq!((number, line.as_str()), (104, "W4 OutOfRange at row 1 path 0"));
+//!     }
+//!     _ => unreachable!(),
+//! }
+//! # Ok(())
+//! # }
+//! ```
 #![warn(missing_docs)]
 
 mod batch;
 mod error;
 mod ffi;
 mod reader;
+mod writer;
 
 pub use batch::{Batch, Buffer, Column, Layout, DICTIONARY};
 pub use error::Error;
 pub use reader::{End, Limits, Reader};
+pub use writer::{Cell, Writer};

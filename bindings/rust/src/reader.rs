@@ -6,8 +6,11 @@ use std::marker::PhantomData;
 use std::ptr::{null_mut, NonNull};
 
 const PIECE: usize = 1 << 16;
+// Room for a text, so that most are made by one call.
+const TEXT: usize = 1 << 12;
 
-/// The most that a reader accepts. A value above its maximum counts as the maximum.
+/// The most that a reader accepts and a writer makes. A value above its maximum counts as the
+/// maximum.
 #[repr(C)]
 #[derive(Clone, Copy, Debug, PartialEq, Eq)]
 pub struct Limits {
@@ -67,7 +70,7 @@ pub struct Reader<R> {
 pub(crate) fn text_of(
     call: impl Fn(*mut u8, usize, *mut usize) -> u32,
 ) -> Result<Option<String>, Error> {
-    let mut text = vec![0; 256];
+    let mut text = vec![0; TEXT];
     let mut wanted = 0;
     let mut status = call(text.as_mut_ptr(), text.len(), &mut wanted);
     if status == ffi::OK && wanted > text.len() {

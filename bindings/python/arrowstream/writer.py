@@ -1,0 +1,205 @@
+"""Writes streams of the Arrow IPC format, batch by batch."""
+
+from __future__ import annotations
+
+import ctypes
+import json
+import threading
+from typing import Any, BinaryIO, Dict, Iterable, Sequence, Union
+
+from . import _library as c
+from .cells import row_cells, rows_of
+from .errors import ArrowError
+from .reader import Batch
+from .schema import Schema, schema_of
+
+_PIECE = 1 << 20
+
+# A value for each column: in order, or by the names of the columns.
+Row = Union[Sequence[Any], Dict[str, Any]]
+
+
+def _json_of(schema: Schema | dict[str, Any] | str | bytes) -> bytes:
+    if isinstance(schema, Schema):
+        schema = schema.to_json()
+    elif isinstance(schema, dict):
+        schema = json.dumps(schema)
+    return schema.encode() if isinstance(schema, str) else schema
+
+
+class Writer:
+    """A stream that is written to a binary file, which stays open.
+
+        with arrowstream.Writer(file, schema) as writer:
+            writer.write_row((1, "milk"))
+
+    At the end of `with` the rows that wait are sent, and then the end-of-stream mark. After an
+    exception they are not: the stream ends without its mark. Bytes are written as each batch is
+    sent, so memory holds one batch.
+
+    A refused row, batch or schema raises ArrowError. Use a writer on the thread that made it: any
+    other thread gets a RuntimeError. A closed writer raises ValueError, and a writer is closed
+    when its file raises an exception.
+    """
+
+    def __init__(
+        self,
+        file: BinaryIO,
+        schema: Schema | dict[str, Any] | str | bytes,
+        *,
+        max_metadata: int | None = None,
+        max_body: int | None = None,
+        max_rows: int | None = None,
+    ):
+        """Begins a stream of a schema: `Reader.schema`, or the form of `docs/SCHEMA.md` as a dict
+        or as JSON text. The limits are those of `read`.
+
+        Raises ArrowError: X6 if there is no such schema, and W1 or W6 if it breaks a rule or a
+        limit. Raises MemoryError if memory runs out.
+        """
+        self._thread = threading.get_ident()
+        self._file = file
+        self._waiting = False
+        self._handle = ctypes.c_void_p()
+        text = _json_of(schema)
+        c.library.arrow_writer_open(c.limits_of(max_metadata, max_body, max_rows), self._handle)
+        if not self._handle:
+            raise MemoryError
+        self._raise(c.library.arrow_writer_schema(self._handle, text, len(text)))
+        self.schema = schema_of(text)
+        self._flush()
+
+    def __del__(self) -> None:
+        if getattr(self, "_handle", None):
+            self._free()
+
+    def __enter__(self) -> Writer:
+        return self
+
+    def __exit__(self, kind: Any, *_: Any) -> None:
+        if kind is None:
+            self.close()
+        else:
+            self._free()
+
+    def write_row(self, row: Row) -> None:
+        """Adds a row to those that wait for `send`. Values are those of `Column.to_list`: None,
+        bool, int, str, bytes, an object of `datetime`, a list, and for a struct a dict, a tuple of
+        its members, or a list of (name, value). A name that a dict does not have is null. Dates,
+        times, timestamps and durations can also be the numbers that are stored.
+
+        Raises ArrowError with the row and the path if the row does not fit (W2 to W5), TypeError
+        for a value of another type, and ValueError if a number does not fit 64 bits or the unit of
+        its column, or if a name is unknown. In all these cases the row is dropped, and the writer
+        is as it was.
+        """
+        self._check()
+        for call, *arguments in row_cells(self.schema.fields, row):
+            self._raise(call(self._handle, *arguments))
+        self._raise(c.library.arrow_writer_row(self._handle))
+        self._waiting = True
+
+    def send(self) -> None:
+        """Sends the rows that wait as one batch. There may be none.
+
+        Raises ArrowError if the batch does not fit its limits or a dictionary (W6 to W8); then the
+        rows are dropped.
+        """
+        self._check()
+        self._waiting = False
+        self._raise(c.library.arrow_writer_send(self._handle))
+        self._flush()
+
+    def write_batch(self, batch: Batch | dict[str, Sequence[Any]] | Iterable[Row]) -> None:
+        """Sends a batch: one that was read, with its pairs, or a list of rows, or a dict of columns
+        by their names. Rows that wait are sent before it, as a batch of their own.
+
+        Raises what `write_row` and `send` raise. The rows before one that is refused wait for
+        `send`.
+        """
+        self._check()
+        if self._waiting:
+            self.send()
+        if isinstance(batch, Batch):
+            handle = batch._checked_handle()
+            self._raise(c.library.arrow_writer_columns(self._handle, handle))
+            self._flush()
+            return
+        is_columns = isinstance(batch, dict)
+        for row in rows_of(self.schema.fields, batch) if is_columns else batch:
+            self.write_row(row)
+        self.send()
+
+    def close(self) -> None:
+        """Sends the rows that wait, if there are any, and the end-of-stream mark. A closed writer
+        stays as it is."""
+        if not self._handle:
+            return
+        self._check()
+        if self._waiting:
+            self.send()
+        self._raise(c.library.arrow_writer_finish(self._handle))
+        self._flush()
+        self._free()
+
+    def _check(self) -> None:
+        if threading.get_ident() != self._thread:
+            raise RuntimeError("a writer stays on the thread that made it")
+        if not self._handle:
+            raise ValueError("the writer is closed")
+
+    def _raise(self, status: int) -> None:
+        if status == c.OK:
+            return
+        if status in (c.OUT_OF_MEMORY, c.WRITE_OUT_OF_MEMORY):
+            raise MemoryError
+        line = c.text_of(c.library.arrow_writer_line, self._handle)
+        raise ArrowError(line or f"status {status}")
+
+    def _flush(self) -> None:
+        """Writes the bytes that are ready to the file."""
+        try:
+            while self._handle:
+                size = min(c.library.arrow_writer_ready(self._handle), _PIECE)
+                if not size:
+                    return
+                piece = bytearray(size)
+                count = c.library.arrow_writer_take(self._handle, c.start_of(piece), size)
+                self._write(memoryview(piece)[:count])
+        except BaseException:
+            # Bytes that the library gave are lost, so the stream cannot go on.
+            self._free()
+            raise
+
+    def _write(self, piece: memoryview) -> None:
+        while piece:
+            count = self._file.write(piece)
+            if not count:
+                raise BlockingIOError("the file takes no bytes, or does not return how many")
+            piece = piece[count:]
+
+    def _free(self) -> None:
+        handle, self._handle = self._handle, ctypes.c_void_p()
+        if handle:
+            c.library.arrow_writer_free(handle)
+
+
+def write(
+    file: BinaryIO,
+    schema: Schema | dict[str, Any] | str | bytes,
+    batches: Iterable[Batch | dict[str, Sequence[Any]] | Iterable[Row]],
+    *,
+    max_metadata: int | None = None,
+    max_body: int | None = None,
+    max_rows: int | None = None,
+) -> None:
+    """Writes a stream to a binary file, which stays open: the schema, each batch as
+    `Writer.write_batch` does, and the end-of-stream mark. One batch is held in memory at a time.
+
+    Raises what `Writer` and `Writer.write_batch` raise, and what the file raises. Then the stream
+    ends without its mark.
+    """
+    limits = {"max_metadata": max_metadata, "max_body": max_body, "max_rows": max_rows}
+    with Writer(file, schema, **limits) as writer:
+        for batch in batches:
+            writer.write_batch(batch)
