@@ -21,6 +21,7 @@ OpensWriter asked (Some made) = AreCapped asked made.limits × s.IsNew made.limi
 abbrev pub BeginsStream : WriteSession → List ℕ → WriteSession → ℕ → Type 0
 BeginsStream was text is status = s.Reports (s.Begins text) was is status
 
+-- a null cell is added
 abbrev pub AddsNull : WriteSession → WriteSession → ℕ → Type 0
 AddsNull was is status = s.Reports (s.Adds value.Null) was is status
 
@@ -28,30 +29,39 @@ AddsNull was is status = s.Reports (s.Adds value.Null) was is status
 abbrev pub AddsBool : WriteSession → ℕ → WriteSession → ℕ → Type 0
 AddsBool was number is status = s.Reports (s.Adds (value.Bool (not (number == 0)))) was is status
 
+-- a signed integer is added
 abbrev pub AddsInt : WriteSession → ℤ → WriteSession → ℕ → Type 0
 AddsInt was number is status = s.Reports (s.Adds (value.Int number)) was is status
 
+-- an unsigned integer is added
 abbrev pub AddsUInt : WriteSession → ℕ → WriteSession → ℕ → Type 0
 AddsUInt was number is status = s.Reports (s.Adds (value.UInt number)) was is status
 
+-- bytes are added as a cell
 abbrev pub AddsBytes : WriteSession → List ℕ → WriteSession → ℕ → Type 0
 AddsBytes was bytes is status = s.Reports (s.Adds (value.Bytes bytes)) was is status
 
+-- a text is added as a cell
 abbrev pub AddsText : WriteSession → List ℕ → WriteSession → ℕ → Type 0
 AddsText was text is status = s.Reports (s.AddsText text) was is status
 
+-- a list is begun
 abbrev pub BeginsList : WriteSession → WriteSession → ℕ → Type 0
 BeginsList was is status = s.Reports (s.BeginsCell nesting.List) was is status
 
+-- a struct is begun
 abbrev pub BeginsStruct : WriteSession → WriteSession → ℕ → Type 0
 BeginsStruct was is status = s.Reports (s.BeginsCell nesting.Struct) was is status
 
+-- the list or struct that was begun last is ended
 abbrev pub EndsCell : WriteSession → WriteSession → ℕ → Type 0
 EndsCell was is status = s.Reports s.EndsCell was is status
 
+-- the row is ended
 abbrev pub EndsRow : WriteSession → WriteSession → ℕ → Type 0
 EndsRow was is status = s.Reports s.EndsRow was is status
 
+-- the pending rows are sent
 abbrev pub SendsRows : WriteSession → WriteSession → ℕ → Type 0
 SendsRows was is status = s.Reports s.SendsRows was is status
 
@@ -60,6 +70,7 @@ abbrev pub SendsColumns : WriteSession → ReadBatch → WriteSession → ReadBa
 SendsColumns was batch is left status =
     (left ≡ batch) × s.Reports (s.SendsColumns batch) was is status
 
+-- the stream is ended
 abbrev pub Finishes : WriteSession → WriteSession → ℕ → Type 0
 Finishes was is status = s.Reports s.Finishes was is status
 

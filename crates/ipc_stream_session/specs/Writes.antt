@@ -122,6 +122,7 @@ BeginsAt stage.New text old new r = BeginsNew text old new r
 BeginsAt (stage.Open table) text old new r = IsRefused error.Misuse old new r
 BeginsAt (stage.Ended ready) text old new r = IsRefused (error.Refused w.Failed) old new r
 
+-- the call that begins the stream of the schema that a text states
 abbrev pub Begins : List ℕ → WriteSession → WriteSession → Result ⊤ WriteError → Type 0
 Begins text old new r = BeginsAt old.stage text old new r
 
@@ -132,6 +133,7 @@ abbrev pub AddsTo : Value → WriteSession → WriteSession → Result ⊤ Write
 AddsTo cell old new (Ok x) = new ≡ record old { cells = old.cells ++ cell ∷ [] }
 AddsTo cell old new (Err e) = RunsOut old new e
 
+-- the call that adds a cell
 abbrev pub Adds : Value → WriteSession → WriteSession → Result ⊤ WriteError → Type 0
 Adds cell old new r = OnStage old.stage (λ _. AddsTo cell old new r) old new r
 
@@ -141,6 +143,7 @@ pub record AddsUtf8 (text : List ℕ) (old new : WriteSession) (r : Result ⊤ W
   pub is_utf8 : IsUtf8 text → AddsTo (value.Text text) old new r
   pub not_utf8 : ¬ IsUtf8 text → IsRefused error.NotUtf8 old new r
 
+-- the call that adds a text as a cell
 abbrev pub AddsText : List ℕ → WriteSession → WriteSession → Result ⊤ WriteError → Type 0
 AddsText text old new r = OnStage old.stage (λ _. AddsUtf8 text old new r) old new r
 
@@ -153,6 +156,7 @@ BeginsIn begun old new (Ok x) = (length old.around < 64) × (new ≡ record old 
 BeginsIn begun old new (Err error.Misuse) = (64 ≤ length old.around) × (new ≡ old)
 BeginsIn begun old new (Err e) = RunsOut old new e
 
+-- the call that begins a list or a struct
 abbrev pub BeginsCell : Nesting → WriteSession → WriteSession → Result ⊤ WriteError → Type 0
 BeginsCell begun old new r = OnStage old.stage (λ _. BeginsIn begun old new r) old new r
 
@@ -167,6 +171,7 @@ EndsIn old new (Ok x) = (outer : List Around) × ((last : Around)
 EndsIn old new (Err error.Misuse) = (old.around ≡ []) × (new ≡ old)
 EndsIn old new (Err e) = RunsOut old new e
 
+-- the call that ends the list or struct that was begun last
 abbrev pub EndsCell : WriteSession → WriteSession → Result ⊤ WriteError → Type 0
 EndsCell old new r = OnStage old.stage (λ _. EndsIn old new r) old new r
 
@@ -183,6 +188,7 @@ TakesRow t old new (Err (error.Refused (w.Row row fault))) = (old.around ≡ [])
 TakesRow t old new (Err error.Misuse) = (old.around ≢ []) × (new ≡ old)
 TakesRow t old new (Err e) = RunsOut old new e
 
+-- the call that ends the row
 abbrev pub EndsRow : WriteSession → WriteSession → Result ⊤ WriteError → Type 0
 EndsRow old new r = OnStage old.stage (λ t. TakesRow t old new r) old new r
 
@@ -213,6 +219,7 @@ abbrev pub SendsRead : ReadBatch → TableState → WriteSession → WriteSessio
 SendsRead b t old new r = Sends (with_rows b.pairs b.batch.rows) old.rows t old new r
     ⊎ ((r ≡ Err (error.Refused w.OutOfMemory)) × HasEnded old.stage new.stage)
 
+-- the call that sends a batch that was read
 abbrev pub SendsColumns : ReadBatch → WriteSession → WriteSession → Result ⊤ WriteError → Type 0
 SendsColumns b old new r = OnStage old.stage (λ t. SendsRead b t old new r) old new r
 
@@ -237,6 +244,7 @@ abbrev pub FinishesOpen : TableState → WriteSession → WriteSession → Resul
 FinishesOpen t old new (Err error.Misuse) = (¬ HasNoRows old) × (new ≡ old)
 FinishesOpen t old new r = FinishesWith t old new r
 
+-- the call that ends the stream
 abbrev pub Finishes : WriteSession → WriteSession → Result ⊤ WriteError → Type 0
 Finishes old new r = OnStage old.stage (λ t. FinishesOpen t old new r) old new r
 
@@ -261,8 +269,8 @@ pub record Reports (Call : WriteSession → WriteSession → Result ⊤ WriteErr
   pub called : Call old after answer
   pub told : IsTold after answer new status
 
--- the bytes that were written and not taken are the front, and then those of the stage: if the front
--- is empty, those of the stage become it
+-- the bytes that were written and not taken are the front, and then those of the stage: if the
+-- front is empty, those of the stage become it
 pub record Gathers (old new : WriteSession) : Type 0 where
   pub some : old.front ≢ [] → new ≡ old
   pub none : old.front ≡ [] → (last : List ℕ) × HasWritten old.stage last

@@ -61,9 +61,13 @@ pub arrow_writer_bytes_spec : {M : Type 1} → statement M
 arrow_writer_bytes_spec 𝓤 𝓛 𝓜 𝓡 wired =
     let c = f.clauses 𝓛 𝓜.mem 𝓡.returns in let W = walk_of 𝓛 f.ended stayed c in
     let 𝓣 = tables 𝓤 𝓛.H 𝓜 𝓡 𝓡.env in
-    proved 𝓛 f.ended stayed c 𝓜 𝓡
-    (Goes-dropped 𝓛 1 (plain (λ _. RawPtr)) yes (λ κs x w. refl), (Goes-dropped 𝓛 1 (slot_at 1 f.signature.params) yes (λ κs x w. refl),
-    tt))
+    proved 𝓛 f.ended stayed c 𝓜 𝓡 (
+      Goes-dropped 𝓛 1 (plain (λ _. RawPtr)) yes (λ κs x w. refl),
+      (
+        Goes-dropped 𝓛 1 (slot_at 1 f.signature.params) yes (λ κs x w. refl),
+        tt,
+      ),
+    )
     f.Key.name code.function (code.unfolded 𝓤 𝓛.H 𝓜 𝓡 wired)
     (λ κs. (rawptr_vals, (shr_slice_vals, tt))) (λ κs. (rawptr_Tells, (shr_slice_Tells (named 0) κs.0 u8, tt))) (λ κs qs bounds a x are.
     let a0 = a.1.0 in let words : Ptr → (List Val × (List Val × Unit {0})) = λ p. (rawptr_vals p, (shr_slice_vals a0, tt)) in
