@@ -2,6 +2,7 @@
  * status and the line that each call has to answer.
  *
  *     c_writes stream     writes the stream of the script to standard output
+ *     c_writes copy       writes the columns of the stream on standard input to standard output
  *     c_writes growths    refuses each growth of memory in turn, and prints their number
  *
  * With a refused growth each call answers as without it, or that memory ran out; from then on the
@@ -13,7 +14,7 @@
 #include <string.h>
 
 /* TAKEN: after this batch, all bytes are taken. */
-enum { FILL = 0xa5, PIECE = 7, TAKEN = 1, OUT_OF_MEMORY_IN_SINK = ARROW_WRITE + 9 };
+enum { MOST = 1 << 20, FILL = 0xa5, PIECE = 7, TAKEN = 1, OUT_OF_MEMORY_IN_SINK = ARROW_WRITE + 9 };
 
 void *__real_malloc(size_t count);
 void *__real_realloc(void *block, size_t count);
@@ -173,8 +174,55 @@ static int write_stream(int writes) {
     return lost;
 }
 
+static void copy_schema(arrow_reader *reader, arrow_writer *writer) {
+    static uint8_t text[MOST];
+    size_t wanted = 0;
+    if (arrow_reader_schema(reader, text, sizeof text, &wanted) != ARROW_OK) stop("no schema", 0);
+    if (arrow_writer_schema(writer, text, wanted) != ARROW_OK) stop("another schema", 0);
+}
+
+static void copy_batch(arrow_reader *reader, arrow_writer *writer) {
+    arrow_batch *batch = NULL;
+    arrow_reader_take(reader, &batch);
+    if (!batch) stop("no batch", 0);
+    size_t rows = arrow_batch_rows(batch);
+    if (arrow_writer_columns(writer, batch) != ARROW_OK) stop("refused columns", rows);
+    if (arrow_batch_rows(batch) != rows) stop("another batch", rows);
+    arrow_batch_free(batch);
+    take(writer, 1);
+}
+
+/* Writes the columns of the stream on standard input. */
+static void copy_stream(void) {
+    static uint8_t bytes[MOST];
+    size_t length = fread(bytes, 1, sizeof bytes, stdin), from = 0;
+    arrow_limits limits;
+    arrow_reader *reader = NULL;
+    arrow_writer *writer = NULL;
+    arrow_progress now = {0, 0, 0, ARROW_NOTHING};
+    arrow_limits_standard(&limits);
+    arrow_reader_open(&limits, &reader);
+    arrow_writer_open(&limits, &writer);
+    if (!reader || !writer) stop("no memory", 0);
+    while (from < length && now.event != ARROW_END) {
+        if (arrow_reader_feed(reader, bytes + from, length - from, &now) != ARROW_OK)
+            stop("a refused stream", from);
+        from += now.taken;
+        if (now.event == ARROW_SCHEMA) copy_schema(reader, writer);
+        if (now.event == ARROW_BATCH) copy_batch(reader, writer);
+    }
+    if (arrow_writer_finish(writer) != ARROW_OK) stop("no end", from);
+    take(writer, 1);
+    arrow_reader_free(reader);
+    arrow_writer_free(writer);
+}
+
 int main(int count, char **words) {
     if (count != 2) return 2;
+    if (strcmp(words[1], "copy") == 0) {
+        copy_stream();
+        return 0;
+    }
     int grows = strcmp(words[1], "growths") == 0;
     if (write_stream(!grows)) stop("out of memory without a refusal", 0);
     if (!grows) return 0;

@@ -132,5 +132,5 @@ arrow_writer_columns_spec 𝓤 𝓛 𝓜 𝓡 wired =
     show ! (λ (left : S.Denot). sep 𝓤 (sem 𝓛 (is_held_at R (block_ptr b o) ws.0))
     (sep 𝓤 (sem 𝓛 (is_held_at S (block_ptr b₂ o₂) left)) (fact 𝓤 (SendsColumns x.0 x.1 ws.0 left r)))) ws.1.0 $
     fjoin ! $ fpack ! Global (λ d. box_owns (ghosts.dealloc_token d) R (block_ptr b o) ws.0) h $ move ! (1 ∷ 2 ∷ []) $ fjoin ! $
-    fpack ! Global (λ d. box_owns (ghosts.dealloc_token d) S (block_ptr b₂ o₂) ws.1.0) k $ move ! (1 ∷ 0 ∷ []) $ frame ! $ frame ! $
+    fpack ! Global (λ d. box_owns (ghosts.dealloc_token d) S (block_ptr b₂ o₂) ws.1.0) k $ move ! (1 ∷ 0 ∷ []) $ frame ! $
     says ! told $ done !)))))))))))))))

@@ -106,7 +106,8 @@ arrow_writer_take_spec 𝓤 𝓛 𝓜 𝓡 wired =
     is).0 $
     returns ! (look_at ! 0 refl) $ free_all ! refl $ keep ! (4 ∷ 3 ∷ 0 ∷ 1 ∷ 5 ∷ []) $
     -- [the tokens; what is left of the others; the result; the value; the right to free]
-    move ! (1 ∷ []) $ fsplit ! $ fsplit ! $ move ! (1 ∷ []) $ feq_l ! (λ same. fjoin ! $ move ! (1 ∷ 0 ∷ []) $
+    move ! (1 ∷ []) $ fsplit ! $ fsplit ! $ fsplit ! $ move ! (1 ∷ []) $ feq_l ! (λ same. fjoin ! $ fjoin ! $
+    move ! (1 ∷ 0 ∷ []) $
     suffices ! _ (ends_at 𝓛 f.ended stayed c (y (block_ptr b o)) v r (tt, (ws.1.0, tt)) (tt, (same, tt))) $
     nothing ! $ move ! (0 ∷ 2 ∷ []) $ join ! $ move ! (1 ∷ 0 ∷ []) $ group ! 3 $
     frame ! $ show ! (λ (is : R.Denot). sep 𝓤 (sem 𝓛 (is_held_at R (block_ptr b o) is)) (fact 𝓤 (TakesBytes x is a0.now ws.1.0 r))) ws.0 $
