@@ -11,7 +11,8 @@
  * result, what it writes and the state that it leaves are as its comment says (docs/PROVED.md names
  * the clauses). What several calls give of one column belongs together. Only tested: this for the
  * values of a dictionary, that the buffers are the bytes of the stream, that memory ran out where a
- * call says so, and that no memory leaks.
+ * call says so, and that no memory leaks. No clause says that bytes which were ready remain if
+ * memory runs out in a call for a cell or a row, or in arrow_writer_columns.
  *
  * THE CALLER OWES, and nothing checks:
  *   - a reader, batch or writer is one that a call set, not NULL, and not freed yet;
