@@ -8,7 +8,7 @@ use Rattle.std.specs.Map.{lookup}
 use Rattle.std.specs.Option.{option_map, unwrap_or}
 use Rattle.std.specs.Ordering.{int_cmp}
 use Rattle.std.specs.BTreeMap.{BTreeMap, is_at}
-use Rattle.std.specs.declared.rc.Rc.{Rc}
+use Rattle.std.specs.declared.sync.Arc.{Arc}
 use Rattle.std.proofs.lemmas.Bool.{false≢true}
 use Rattle.std.proofs.lemmas.Bool.Decides.{nat_tests}
 use Rattle.std.proofs.lemmas.List.{map-append}
@@ -205,17 +205,17 @@ leaf_at o f i e m =
 
 module _ {Z : Type 0} where
   -- what a look-up in the shared map finds
-  pub values_found : (m : BTreeMap ℤ (Rc Contents Z)) (id k : ℤ) (r : Option (Rc Contents Z)) → k ≡ id
+  pub values_found : (m : BTreeMap ℤ (Arc Contents Z)) (id k : ℤ) (r : Option (Arc Contents Z)) → k ≡ id
       → r ≡ lookup (is_at (int_cmp k)) m.entries
-      → unwrap_or (option_map (λ (x : Rc Contents Z). dictionary_values x.value) r) [] ≡ values_for (dictionaries_in m) id
+      → unwrap_or (option_map (λ (x : Arc Contents Z). dictionary_values x.value) r) [] ≡ values_for (dictionaries_in m) id
   values_found m id k r same there =
-      let g : Rc Contents Z → List Value = λ x. dictionary_values x.value in
-      ap (λ (o : Option (Rc Contents Z)). unwrap_or (option_map g o) []) there
+      let g : Arc Contents Z → List Value = λ x. dictionary_values x.value in
+      ap (λ (o : Option (Arc Contents Z)). unwrap_or (option_map g o) []) there
       ∙ ap (λ (o : Option (List Value)). unwrap_or o []) (sym (lookup-map_values g (is_at (int_cmp k)) m.entries))
       ∙ ap (values_for (dictionaries_in m)) same
 
   -- what holds of each entry holds of the one that is found
-  pub entry_found : (P : Rc Contents Z → Type 0) (test : ℤ → Bool) (es : List (ℤ × Rc Contents Z)) (x : Rc Contents Z)
+  pub entry_found : (P : Arc Contents Z → Type 0) (test : ℤ → Bool) (es : List (ℤ × Arc Contents Z)) (x : Arc Contents Z)
       → AllByRecursion (λ e. P e.1) es → Some x ≡ lookup test es → P x
   entry_found P test [] x all e = absurd (cc)
   entry_found P test (y ∷ es) x all e =

@@ -10,7 +10,7 @@ use Rattle.ipc_model.specs.declared.value.Value.{Value}
 use Rattle.ipc_model.specs.declared.layout.Layout.{Layout}
 use Rattle.ipc_model.specs.declared.layout.Layout.TheVariants as l
 use Rattle.ipc_model.specs.Layouts.{own_buffers}
-use Rattle.ipc_column.specs.declared.numbers.Numbers.{Numbers}
+use Rattle.ipc_column.specs.declared.buffers.Numbers.{Numbers}
 use Rattle.ipc_column.specs.declared.ranges.ColumnRanges.{ColumnRanges}
 use Rattle.ipc_column.specs.Checks.{PassTests, holds_values}
 use Rattle.ipc_column.specs.Columns.{Column, Columns}

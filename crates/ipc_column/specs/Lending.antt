@@ -8,7 +8,7 @@ use Rattle.ipc_model.specs.declared.layout.Layout.{Layout}
 use Rattle.ipc_model.specs.declared.layout.Layout.TheVariants as l
 use Rattle.ipc_model.specs.Layouts.{number_bytes}
 use Rattle.ipc_column.specs.declared.buffers.Buffers.{Buffers}
-use Rattle.ipc_column.specs.declared.numbers.Numbers.{Numbers}
+use Rattle.ipc_column.specs.declared.buffers.Numbers.{Numbers}
 use Rattle.ipc_column.specs.Columns.{Columns, none, column}
 use Rattle.ipc_column.specs.Dictionaries.{has_no_children}
 use Rattle.ipc_column.specs.Nested.{Nested, child_columns, slot_values}

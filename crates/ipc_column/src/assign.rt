@@ -16,7 +16,7 @@ use ipc_meta::BatchHead;
 use ipc_model::{Field, Layout, layout_of};
 use std::alloc::{AllocError, Global};
 use std::collections::BTreeMap;
-use std::rc::Rc;
+use std::sync::Arc;
 
 /// A position in the nodes and buffers of a record batch (Message.fbs, table RecordBatch).
 #[derive(Clone, Copy, Debug, PartialEq, Eq, Drop)]
@@ -118,7 +118,7 @@ fn values_span(layout: Layout, head: &BatchHead, first: usize) -> BufferRange
 // The values that the slots of a column of this layout are indices of.
 fn dictionary_of(
     layout: Layout,
-    dictionaries: &BTreeMap<i64, Rc<Batch>>,
+    dictionaries: &BTreeMap<i64, Arc<Batch>>,
 ) -> Result<DictionaryValues, AllocError>
     requires { AreDictionaries dictionaries.now }
     ensures { IfOk result (λ values. values
@@ -133,7 +133,7 @@ fn dictionary_of(
 // The values in force for the dictionary with this id.
 fn values_for(
     id: i64,
-    dictionaries: &BTreeMap<i64, Rc<Batch>>,
+    dictionaries: &BTreeMap<i64, Arc<Batch>>,
 ) -> Result<DictionaryValues, AllocError>
     requires { AreDictionaries dictionaries.now }
     ensures { IfOk result (λ values. values ≡ values_for (dictionaries_in dictionaries.now) id) }
@@ -150,7 +150,7 @@ fn assign_field(
     alloc: Global,
     field: &Field,
     head: &BatchHead,
-    dictionaries: &BTreeMap<i64, Rc<Batch>>,
+    dictionaries: &BTreeMap<i64, Arc<Batch>>,
     at: Cursor,
 ) -> Result<(ColumnRanges, Cursor), AllocError>
     requires dictionaries { AreDictionaries dictionaries.now }
@@ -201,7 +201,7 @@ pub(crate) fn assign_buffers(
     alloc: Global,
     fields: &[Field],
     head: &BatchHead,
-    dictionaries: &BTreeMap<i64, Rc<Batch>>,
+    dictionaries: &BTreeMap<i64, Arc<Batch>>,
     at: Cursor,
 ) -> Result<(Vec<ColumnRanges>, Cursor), AllocError>
     requires dictionaries { AreDictionaries dictionaries.now }

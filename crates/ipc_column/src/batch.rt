@@ -31,14 +31,14 @@ use ipc_model::{Fault, Field, Items, Limits, Row, Value};
 use std::alloc::{AllocError, Global};
 use std::collections::BTreeMap;
 use std::marker::Model;
-use std::rc::Rc;
+use std::sync::Arc;
 
 /// The rows of a record batch, read in place from its body.
 ///
 /// Clones of a batch share one body.
 #[derive(Debug, Drop)]
 pub struct Batch {
-    shared: Rc<Shared>,
+    shared: Arc<Shared>,
 }
 
 // What the clones of a batch share.
@@ -46,7 +46,7 @@ pub struct Batch {
 struct Shared {
     count: usize,
     parts: Vec<ColumnRanges>,
-    body: Rc<Vec<u8>>,
+    body: Arc<Vec<u8>>,
     slot_tests: u64,
 }
 
@@ -74,7 +74,7 @@ fn share(alloc: Global, shared: Shared) -> Result<Batch, AllocError>
     ensures { IfOk result (λ batch. batch ≡ contents_of shared) }
 {
     Ok(Batch {
-        shared: Rc::new(alloc, shared)?,
+        shared: Arc::new(alloc, shared)?,
     })
 }
 
@@ -85,7 +85,7 @@ fn read(
     fields: &[Field],
     head: &BatchHead,
     body: Vec<u8>,
-    dictionaries: &BTreeMap<i64, Rc<Batch>>,
+    dictionaries: &BTreeMap<i64, Arc<Batch>>,
 ) -> Result<Batch, Fault>
     requires few { node_count (shape_of fields.now) ≤ limits.now.fields }
     requires dictionaries { AreDictionaries dictionaries.now }
@@ -116,7 +116,7 @@ fn read(
     let shared = Shared {
         count,
         parts,
-        body: Rc::new(alloc, body)?,
+        body: Arc::new(alloc, body)?,
         slot_tests,
     };
     Ok(share(alloc, shared)?)
@@ -143,6 +143,7 @@ impl Batch {
     /// The fields must be those of a schema that passes `Schema::check`. `dictionaries` maps ids to
     /// the dictionaries in force; each is a batch of one column that has no children and no
     /// dictionary. The batch keeps the dictionaries of its fields, even if they are replaced later.
+    /// It does not keep the fields.
     ///
     /// A refusal is true of the input, which then has no rows. Errors:
     ///
@@ -160,58 +161,10 @@ impl Batch {
     pub fn check(
         alloc: Global,
         limits: &Limits,
-        fields: Rc<Vec<Field>>,
-        head: BatchHead,
-        body: Vec<u8>,
-        dictionaries: &BTreeMap<i64, Rc<Batch>>,
-    ) -> Result<Batch, Fault>
-        requires dictionaries { AreDictionaries dictionaries.now }
-        requires few { length (entries fields.value.items) ≤ limits.now.fields }
-        // What is answered are the rows of the parts.
-        ensures rows { IfOk result (λ batch. Rows limits.now (dictionaries_in dictionaries.now)
-            fields.value.items head body.items batch.rows) }
-        // Where the parts give rows, these are answered, unless memory runs out.
-        ensures only { (rows : List (List Value))
-            → Rows limits.now (dictionaries_in dictionaries.now) fields.value.items head body.items
-            rows
-            → MatchResult result (λ batch. batch.rows ≡ rows) (λ fault. fault ≡ Fault.OutOfMemory) }
-        // A refusal is true of the parts.
-        ensures refused { IfErr result
-            (λ fault. RefusesParts limits.now fault (dictionaries_in dictionaries.now)
-            fields.value.items head body.items) }
-        ensures columns { IfOk result (λ batch. batch.columns ≡ length fields.value.items) }
-        // Each column has the layout of its field's type.
-        ensures layouts { IfOk result
-            (λ batch. layouts batch ≡ map field_layout fields.value.items) }
-        // Each column has, as its descendants have, the buffers that the head locates in the body.
-        ensures buffers { IfOk result (λ batch. map with_children batch.slots
-            ≡ found_columns (field_columns (dictionaries_in dictionaries.now) fields.value.items
-            head
-            body.items)) }
-        ensures body { IfOk result (λ batch. batch.body_len ≡ length body.items) }
-        // The batch keeps the body as it is.
-        ensures bytes { IfOk result (λ batch. batch.body ≡ body.items) }
-        // Only slots of texts and indices are visited, and slots of lists and structs that have a
-        // validity bitmap and such descendants. Each is visited at most once.
-        ensures visits { IfOk result
-            (λ batch. batch.tests ≤ visits_in (field_columns (dictionaries_in dictionaries.now)
-            fields.value.items head body.items)) }
-        ensures tests { IfOk result (λ batch. batch.tests ≤ slots_in head.nodes) }
-    {
-        Batch::check_borrowed(alloc, limits, fields.as_slice(), head, body, dictionaries)
-    }
-
-    /// Validates a record batch as `Batch::check` does, with borrowed fields. The batch keeps none
-    /// of them, so a reader that has the schema makes no second list of its fields.
-    ///
-    /// The parameters, the limits and the errors are those of `Batch::check`.
-    pub fn check_borrowed(
-        alloc: Global,
-        limits: &Limits,
         fields: &[Field],
         head: BatchHead,
         body: Vec<u8>,
-        dictionaries: &BTreeMap<i64, Rc<Batch>>,
+        dictionaries: &BTreeMap<i64, Arc<Batch>>,
     ) -> Result<Batch, Fault>
         requires dictionaries { AreDictionaries dictionaries.now }
         requires few { length (entries fields.now) ≤ limits.now.fields }
@@ -362,7 +315,7 @@ impl Batch {
         ensures bytes { IfSome result (λ body. body.items ≡ self.body) }
     {
         let Batch { shared } = self;
-        match Rc::into_inner(shared) {
+        match Arc::into_inner(shared) {
             Some(
                 Shared {
                     count: _,
@@ -370,7 +323,7 @@ impl Batch {
                     body,
                     slot_tests: _,
                 },
-            ) => Rc::into_inner(body),
+            ) => Arc::into_inner(body),
             None => None,
         }
     }

@@ -15,13 +15,12 @@ ghost use Rattle.ipc_column.specs.Views.{part_columns};
 
 use crate::cell::{Cell, is_valid_in, leaf_cell};
 use crate::fixed::index_in;
-use crate::range_bytes::bytes_at;
-use crate::ranges::{BufferRange, ColumnRanges};
+use crate::ranges::{BufferRange, ColumnRanges, bytes_at};
 use crate::slot_view::{SlotView, slots_of_buffers};
 use ipc_model::{IntBits, Layout};
 use std::alloc::AllocError;
 use std::marker::Model;
-use std::rc::Rc;
+use std::sync::Arc;
 
 /// The values of a dictionary, shared with its batch. There are none if a column has no dictionary
 /// or none in force. Contracts describe it as a list.
@@ -38,7 +37,7 @@ struct Leaf {
     validity: BufferRange,
     offsets: BufferRange,
     values: BufferRange,
-    body: Rc<Vec<u8>>,
+    body: Arc<Vec<u8>>,
 }
 
 impl Model for DictionaryValues {
@@ -185,7 +184,7 @@ pub(crate) fn is_one_leaf(parts: &[ColumnRanges]) -> bool
 /// Returns the values of the one column of parts with `rows` rows. The body is not copied. Returns
 /// an error only if the reference count is at its maximum.
 pub(crate) fn share_values(
-    body: &Rc<Vec<u8>>,
+    body: &Arc<Vec<u8>>,
     parts: &[ColumnRanges],
     rows: usize,
 ) -> Result<DictionaryValues, AllocError>

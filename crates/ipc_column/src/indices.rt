@@ -6,7 +6,7 @@ ghost use Rattle.ipc_column.specs.Checks.{all_slots, has_bitmap, index_good};
 ghost use Rattle.ipc_column.specs.Values.{number_in, place_below};
 
 use crate::fixed::index_in;
-use crate::slot_visit::visit;
+use crate::visit::visit;
 use ipc_model::IntBits;
 use ipc_scalar::indices_below;
 

@@ -1,3 +1,7 @@
+//! The ranges of buffers in a body.
+ghost use Rattle.std.specs.Prelude.{◌≡◌};
+ghost use Rattle.ipc_column.specs.Spans.{span_bytes};
+
 use crate::dictionary::DictionaryValues;
 use ipc_model::Layout;
 
@@ -32,4 +36,17 @@ pub struct ColumnRanges {
     /// Whether all texts and indices in the slots and below them are known to be valid, those of
     /// null slots included.
     pub known_valid: bool,
+}
+
+/// Returns the bytes of a range, or no bytes if it ends after the body.
+#[tactic(auto, unfolding(crate::specs::Columns::body_range))]
+#[inline(always)]
+pub(crate) fn bytes_at(body: &[u8], span: BufferRange) -> &[u8]
+    ensures { result.now ≡ span_bytes body.now span }
+{
+    if span.len <= body.len() && span.start <= body.len() - span.len {
+        &body[span.start..span.start + span.len]
+    } else {
+        &[]
+    }
 }

@@ -7,8 +7,7 @@ ghost use Rattle.ipc_column.specs.Views.{part_columns, column_of, children_of};
 
 use crate::cell::{Cell, cell_at, is_valid_in};
 use crate::offsets::{fixed_place, place_at};
-use crate::range_bytes::bytes_at;
-use crate::ranges::ColumnRanges;
+use crate::ranges::{ColumnRanges, bytes_at};
 use ipc_model::{Items, Layout, Row, Text, Value};
 use std::alloc::{AllocError, Global};
 

@@ -10,8 +10,7 @@ ghost use Rattle.ipc_column.specs.Marks.{AreMarked, IsMarked, all_valid, each_va
 ghost use Rattle.ipc_column.specs.Views.{part_columns, column_of, children_of, one};
 
 use crate::indices::are_indices;
-use crate::range_bytes::bytes_at;
-use crate::ranges::ColumnRanges;
+use crate::ranges::{ColumnRanges, bytes_at};
 use crate::texts::are_texts;
 use ipc_model::Layout;
 

@@ -24,14 +24,12 @@ ghost use Rattle.ipc_column.specs.Rules.{HoldValues, SpellsTexts};
 ghost use Rattle.ipc_column.specs.Values.{between, own_value, row, rows_of};
 ghost use Rattle.ipc_column.specs.Views.{part_columns, column_of, children_of};
 
-use crate::buffers::Buffers;
+use crate::buffers::{Buffers, Numbers};
 use crate::cell::{Cell, is_valid};
 use crate::dictionary::{DictionaryValues, indexed_cell};
 use crate::fixed::{bytes_of, index_in, signed_at, unsigned_at};
-use crate::numbers::Numbers;
 use crate::offsets::{bytes_between, fixed_place, place_at};
-use crate::range_bytes::bytes_at;
-use crate::ranges::ColumnRanges;
+use crate::ranges::{ColumnRanges, bytes_at};
 use ipc_model::Layout;
 use ipc_scalar::{bit, count_clear};
 use std::marker::Model;

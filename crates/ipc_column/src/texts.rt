@@ -6,7 +6,7 @@ ghost use Rattle.ipc_column.specs.Checks.{text_good};
 ghost use Rattle.ipc_column.specs.Values.{offset_position};
 
 use crate::offsets::{bytes_between, start_at};
-use crate::slot_visit::visit;
+use crate::visit::visit;
 use simdutf8::basic::from_utf8;
 
 /// Returns the text of bytes that are known to be UTF-8.

@@ -11,8 +11,7 @@ ghost use Rattle.ipc_column.specs.Views.{part_columns, column_of, children_of};
 
 use crate::cause::Cause;
 use crate::offsets::{are_in_order, place_at};
-use crate::range_bytes::bytes_at;
-use crate::ranges::ColumnRanges;
+use crate::ranges::{ColumnRanges, bytes_at};
 use crate::slot_facts::store_all_facts;
 use crate::visit::visit_all;
 use ipc_model::Layout;

@@ -10,8 +10,7 @@ ghost use Rattle.ipc_column.specs.Views.{part_columns, column_of, children_of};
 
 use crate::cell::{Cell, is_valid, own_cell};
 use crate::dictionary::DictionaryValues;
-use crate::range_bytes::bytes_at;
-use crate::ranges::ColumnRanges;
+use crate::ranges::{ColumnRanges, bytes_at};
 use crate::slot_view::{SlotView, slots_of_buffers};
 use ipc_model::Layout;
 use std::marker::Model;

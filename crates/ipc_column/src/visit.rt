@@ -1,20 +1,33 @@
 ghost use Rattle.std.specs.Prelude.{◌≡◌, ◌≤◌, ◌<◌, ◌+◌, ◌^◌, length, true, false};
-ghost use Rattle.ipc_column.specs.Checks.{IsIndexed, Judges, good, good_slot, range_good};
+ghost use Rattle.ipc_column.specs.Checks.{IsIndexed, Judges, good, good_slot, has_bitmap};
+ghost use Rattle.ipc_column.specs.Checks.{range_good};
 ghost use Rattle.ipc_column.specs.Lent.{AreSlots};
 ghost use Rattle.ipc_column.specs.Marks.{AreMarked, IsMarked};
 ghost use Rattle.ipc_column.specs.Rules.{has_slot_visits};
 ghost use Rattle.ipc_model.specs.Layouts.{needs_slot_checks, is_texts};
+ghost use Rattle.ipc_column.specs.Values.{is_valid};
 ghost use Rattle.ipc_column.specs.Views.{part_columns, column_of, children_of, one};
 ghost use Rattle.ipc_column.specs.Weights.{weight, weight_below};
 
 use crate::cause::Cause;
+use crate::cell::is_valid;
 use crate::indices::visit_indices;
 use crate::offsets::{fixed_place, place_at};
-use crate::range_bytes::bytes_at;
-use crate::ranges::ColumnRanges;
-use crate::slot_visit::visit;
+use crate::ranges::{ColumnRanges, bytes_at};
 use crate::texts::visit_texts;
 use ipc_model::{IntBits, Layout};
+
+/// Returns whether a slot is not null. Each slot that is visited by itself is visited here, and the
+/// visit is counted.
+pub(crate) fn visit(validity: &[u8], slot: usize, tests: &mut u64) -> bool
+    requires bitmap { has_bitmap (slot + 1) (length validity.now) ≡ true }
+    requires fits { tests.old + 1 < 2 ^ 64 }
+    ensures valid { result ≡ is_valid validity.now slot }
+    ensures counted { tests.new ≡ tests.old + 1 }
+{
+    *tests += 1;
+    is_valid(validity, slot)
+}
 
 // Whether the descendants of a part's slots from `from` up to `to` are valid. For a list these are
 // the slots between its offsets; for a fixed-size list its number of slots for each; for a struct

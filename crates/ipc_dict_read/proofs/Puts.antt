@@ -6,7 +6,7 @@ use Rattle.std.specs.BTreeMap.{BTreeMap, insert_entry, is_at}
 use Rattle.std.specs.Map.{lookup, keys_of, values_of}
 use Rattle.std.specs.Option.{option_map, unwrap_or}
 use Rattle.std.specs.List.Sorted.{IsStrictlySortedBy}
-use Rattle.std.specs.declared.rc.Rc.{Rc}
+use Rattle.std.specs.declared.sync.Arc.{Arc}
 use Rattle.std.proofs.lemmas.Cmp.{int_cmp_total}
 use Rattle.std.proofs.lemmas.Map.Entries.{sum_by-insert_entry}
 use Rattle.std.specs.List.{sum_by, AllByRecursion}
@@ -18,11 +18,11 @@ use Rattle.ipc_dict_read.specs.InForce.{put, in_force, total, body_len_of, AreVa
 
 module _ {X Z : Type 0} where
   -- what is shared is put as what it holds
-  pub plain-put : (es : List (ℤ × Rc X Z)) (k : ℤ) (r : Rc X Z)
+  pub plain-put : (es : List (ℤ × Arc X Z)) (k : ℤ) (r : Arc X Z)
       → map (λ e. (e.0, e.1.value)) (insert_entry int_cmp es k r) ≡ put (map (λ e. (e.0, e.1.value)) es) k r.value
   plain-put [] k r = refl
   plain-put (e ∷ es) k r =
-      let f : ℤ × Rc X Z → ℤ × X = λ e. (e.0, e.1.value) in
+      let f : ℤ × Arc X Z → ℤ × X = λ e. (e.0, e.1.value) in
       elim (int_cmp k e.0) as (λ o. map f (match_ordering o ((k, r) ∷ e ∷ es) ((e.0, r) ∷ es) (e ∷ insert_entry int_cmp es k r))
       ≡ match_ordering o ((k, r.value) ∷ f e ∷ map f es) ((e.0, r.value) ∷ map f es) (f e ∷ insert_entry int_cmp (map f es) k r.value))
       [ Less ↦ refl | Equal ↦ refl | Greater ↦ ap (λ t. f e ∷ t) (plain-put es k r) ]
@@ -44,21 +44,21 @@ body-le-total (e ∷ es) k =
 
 module _ {Z : Type 0} where
   -- what a look-up in the shared map finds
-  pub body_of-found : (m : BTreeMap ℤ (Rc Contents Z)) (id k : ℤ) (r : Option (Rc Contents Z)) → k ≡ id
+  pub body_of-found : (m : BTreeMap ℤ (Arc Contents Z)) (id k : ℤ) (r : Option (Arc Contents Z)) → k ≡ id
       → r ≡ lookup (is_at (int_cmp k)) m.entries
-      → unwrap_or (option_map (λ (x : Rc Contents Z). x.value.body_len) r) 0 ≡ body_len_of (in_force m) id
+      → unwrap_or (option_map (λ (x : Arc Contents Z). x.value.body_len) r) 0 ≡ body_len_of (in_force m) id
   body_of-found m id k r same found =
-      let g : Rc Contents Z → Contents = λ x. x.value in
+      let g : Arc Contents Z → Contents = λ x. x.value in
       let f : Contents → ℕ = λ v. v.body_len in
-      let e1 : unwrap_or (option_map (λ (x : Rc Contents Z). x.value.body_len) r) 0 ≡ unwrap_or (option_map f (option_map g r)) 0 =
-      elim r as (λ o. unwrap_or (option_map (λ (x : Rc Contents Z). x.value.body_len) o) 0 ≡ unwrap_or (option_map f (option_map g o)) 0)
+      let e1 : unwrap_or (option_map (λ (x : Arc Contents Z). x.value.body_len) r) 0 ≡ unwrap_or (option_map f (option_map g r)) 0 =
+      elim r as (λ o. unwrap_or (option_map (λ (x : Arc Contents Z). x.value.body_len) o) 0 ≡ unwrap_or (option_map f (option_map g o)) 0)
       [ None ↦ refl | Some x ↦ refl ] in
       e1 ∙ ap (λ o. unwrap_or (option_map f o) 0) (ap (option_map g) found ∙ sym (lookup-map_values g (is_at (int_cmp k)) m.entries))
       ∙ ap (body_len_of (in_force m)) same
 
   -- the values of a shared map are those that it shares
-  pub shared_values : (es : List (ℤ × Rc Contents Z)) → AreValues (map (λ e. (e.0, e.1.value)) es)
-      → AllByRecursion (λ (e : ℤ × Rc Contents Z). IsDictionary e.1.value) es
+  pub shared_values : (es : List (ℤ × Arc Contents Z)) → AreValues (map (λ e. (e.0, e.1.value)) es)
+      → AllByRecursion (λ (e : ℤ × Arc Contents Z). IsDictionary e.1.value) es
   shared_values [] all = tt
   shared_values (e ∷ es) all = (all.0, shared_values es all.1)
 

@@ -6,7 +6,7 @@ use Rattle.std.specs.Ordering.{int_cmp}
 use Rattle.std.specs.Map.{lookup, values_of}
 use Rattle.std.specs.Option.{option_map, unwrap_or}
 use Rattle.std.specs.BTreeMap.{BTreeMap, insert_entry, is_at}
-use Rattle.std.specs.declared.rc.Rc.{Rc}
+use Rattle.std.specs.declared.sync.Arc.{Arc}
 use Rattle.ipc_column.specs.Contents.{Contents}
 use Rattle.ipc_column.specs.DictionaryBatches.{IsDictionary}
 
@@ -20,7 +20,7 @@ module _ {X : Type 0} where
   at m id = lookup (is_at (int_cmp id)) m
 
   -- the map of the values themselves, from a map of shared values
-  abbrev pub in_force : {Z : Type 0} → BTreeMap ℤ (Rc X Z) → List (ℤ × X)
+  abbrev pub in_force : {Z : Type 0} → BTreeMap ℤ (Arc X Z) → List (ℤ × X)
   in_force m = map (λ e. (e.0, e.1.value)) m.entries
 
 -- how many bytes all bodies have together

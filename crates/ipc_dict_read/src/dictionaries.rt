@@ -10,7 +10,7 @@ use ipc_model::{Fault, Field, Items, Schema};
 use std::alloc::Global;
 use std::collections::BTreeMap;
 use std::marker::Model;
-use std::rc::Rc;
+use std::sync::Arc;
 
 /// The dictionaries in force while a stream is read. For each id that was set it has the values,
 /// which are a batch of one column (Arrow Columnar Format, "Dictionary Messages"). It also has the
@@ -21,7 +21,7 @@ use std::rc::Rc;
 #[derive(Debug, Drop)]
 pub struct Dictionaries {
     columns: Vec<(i64, Items<Field>)>,
-    current: BTreeMap<i64, Rc<Batch>>,
+    current: BTreeMap<i64, Arc<Batch>>,
     held: usize,
 }
 
@@ -79,7 +79,7 @@ impl Dictionaries {
 
     /// Returns the values in force, by the id of their dictionary. A batch with columns of indices
     /// is validated against them. It takes no memory.
-    pub fn current(&self) -> &BTreeMap<i64, Rc<Batch>>
+    pub fn current(&self) -> &BTreeMap<i64, Arc<Batch>>
         ensures current { in_force result.now ≡ self.now.current }
         // Each of them is a batch of one column, which is no list, no struct and no column of
         // indices.
@@ -115,7 +115,7 @@ impl Dictionaries {
         let Some(held) = (self.held - before).checked_add(values.body_len()) else {
             return Err(Fault::OutOfMemory);
         };
-        let shared = Rc::new(alloc, values)?;
+        let shared = Arc::new(alloc, values)?;
         self.current.insert(id, shared)?;
         self.held = held;
         Ok(())
@@ -123,7 +123,7 @@ impl Dictionaries {
 }
 
 // How many bytes the body in force for the id has.
-fn body_at(current: &BTreeMap<i64, Rc<Batch>>, id: i64) -> usize
+fn body_at(current: &BTreeMap<i64, Arc<Batch>>, id: i64) -> usize
     ensures { result ≡ body_len_of (in_force current.now) id }
 {
     match current.get(&id) {

@@ -12,7 +12,7 @@ use Rattle.std.specs.Map.{values_of}
 use Rattle.std.specs.Ordering.{int_cmp, match_ordering}
 use Rattle.std.specs.declared.cmp.Ordering.TheVariants.{Less, Equal, Greater}
 use Rattle.std.specs.BTreeMap.{BTreeMap, insert_entry}
-use Rattle.std.specs.declared.rc.Rc.{Rc}
+use Rattle.std.specs.declared.sync.Arc.{Arc}
 use Rattle.ipc_model.specs.Entries.{Entry, Listing, entries, preorder_step}
 use Rattle.ipc_model.specs.WellFormed.{IsAmong, WellFormed}
 use Rattle.ipc_model.specs.declared.limits.Limits.{Limits}
@@ -122,18 +122,18 @@ schema_alone limits s fine = each_alone (dictionary_columns s.fields)
 -- ---- the dictionaries that are kept
 
 -- a dictionary's values beside its id, by the batch that is kept
-abbrev values_of_kept : {Z : Type 0} → ℤ × Rc Contents Z → ℤ × List Value
+abbrev values_of_kept : {Z : Type 0} → ℤ × Arc Contents Z → ℤ × List Value
 values_of_kept e = (e.0, dictionary_values e.1.value)
 
 -- the values of the dictionaries are those of the batches that are kept
-pub kept_values : {Z : Type 0} (es : List (ℤ × Rc Contents Z))
-    → map (λ (e : ℤ × DictionaryInForce). (e.0, e.1.values)) (dictionaries_of (map (λ (e : ℤ × Rc Contents Z). (e.0, e.1.value)) es))
+pub kept_values : {Z : Type 0} (es : List (ℤ × Arc Contents Z))
+    → map (λ (e : ℤ × DictionaryInForce). (e.0, e.1.values)) (dictionaries_of (map (λ (e : ℤ × Arc Contents Z). (e.0, e.1.value)) es))
     ≡ map values_of_kept es
 kept_values [] = refl
 kept_values (e ∷ es) = ap (λ t. (e.0, dictionary_values e.1.value) ∷ t) (kept_values es)
 
 -- so the dictionaries that a batch is read under are those in force
-pub shown_values : {Z : Type 0} (m : BTreeMap ℤ (Rc Contents Z)) (current : List (ℤ × Contents)) → in_force m ≡ current
+pub shown_values : {Z : Type 0} (m : BTreeMap ℤ (Arc Contents Z)) (current : List (ℤ × Contents)) → in_force m ≡ current
     → dictionaries_in m ≡ map (λ (e : ℤ × DictionaryInForce). (e.0, e.1.values)) (dictionaries_of current)
 shown_values m current is =
     sym (kept_values m.entries)

@@ -42,7 +42,7 @@ impl Scope {
             (values_in (in_scope self.now).dictionaries) self.now.schema.fields head body.items) }
         ensures columns { IfOk result (λ batch. batch.columns ≡ length self.now.schema.fields) }
     {
-        Batch::check_borrowed(
+        Batch::check(
             alloc,
             &self.limits,
             self.schema.fields.as_slice(),
@@ -71,7 +71,7 @@ impl Scope {
             return Err(Fault::UnknownDictionary);
         };
         let none = BTreeMap::new(alloc);
-        Batch::check_borrowed(alloc, &self.limits, columns.as_slice(), head, body, &none)
+        Batch::check(alloc, &self.limits, columns.as_slice(), head, body, &none)
     }
 
     // Sets the dictionary with the id to the values that a head and a body give, in the place of

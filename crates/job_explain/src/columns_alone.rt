@@ -11,7 +11,7 @@ use ipc_meta::BatchHead;
 use ipc_model::{Fault, Field, Items, Limits};
 use std::alloc::Global;
 use std::collections::BTreeMap;
-use std::rc::Rc;
+use std::sync::Arc;
 
 /// A column of a record batch, with its part of the batch's metadata (Message.fbs, table
 /// RecordBatch).
@@ -77,7 +77,7 @@ fn is_refused(
     fields: &[Field],
     head: BatchHead,
     body: Vec<u8>,
-    dictionaries: &BTreeMap<i64, Rc<Batch>>,
+    dictionaries: &BTreeMap<i64, Arc<Batch>>,
 ) -> Result<(bool, Option<Vec<u8>>), Fault>
     requires dictionaries { AreDictionaries dictionaries.now }
     requires few { length (entries fields.now) ≤ limits.now.fields }
@@ -88,7 +88,7 @@ fn is_refused(
     ensures body { IfOk result (λ r. IfSome r.1 (λ b. b.items ≡ body.items)) }
     ensures refused { IfErr result (λ f. f ≡ Fault.OutOfMemory) }
 {
-    match Batch::check_borrowed(alloc, limits, fields, head, body, dictionaries) {
+    match Batch::check(alloc, limits, fields, head, body, dictionaries) {
         Ok(batch) => Ok((false, batch.into_body())),
         Err(Fault::OutOfMemory) => Err(Fault::OutOfMemory),
         Err(other) if other.number() == fault.number() => Ok((true, None)),
@@ -108,7 +108,7 @@ pub(crate) fn first_alone<'a>(
     fields: &'a [Field],
     head: &'a BatchHead,
     body: &[u8],
-    dictionaries: &BTreeMap<i64, Rc<Batch>>,
+    dictionaries: &BTreeMap<i64, Arc<Batch>>,
 ) -> Result<Option<ColumnPart<'a>>, Fault>
     requires dictionaries { AreDictionaries dictionaries.now }
     requires few { length (entries fields.now) ≤ limits.now.fields }

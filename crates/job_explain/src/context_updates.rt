@@ -59,7 +59,7 @@ impl StreamContext {
             return Err(Fault::UnknownDictionary);
         };
         let none = BTreeMap::new(alloc);
-        Batch::check_borrowed(alloc, &self.limits, columns, head, body, &none)
+        Batch::check(alloc, &self.limits, columns, head, body, &none)
     }
 
     // Sets a dictionary to the values of a message. Refused if the message is, or if memory runs

@@ -23,7 +23,7 @@ use ipc_meta::{BatchHead, Head};
 use ipc_model::{Fault, Field, Limits};
 use std::alloc::Global;
 use std::collections::BTreeMap;
-use std::rc::Rc;
+use std::sync::Arc;
 
 // The metadata of a message with these first bytes: what follows the 8 bytes of the prefix.
 #[tactic(auto, using(std::proofs::lemmas::List::drop_min))]
@@ -148,7 +148,7 @@ fn explain_batch(
     fields: &[Field],
     head: &BatchHead,
     body: &[u8],
-    dictionaries: &BTreeMap<i64, Rc<Batch>>,
+    dictionaries: &BTreeMap<i64, Arc<Batch>>,
     front: Vec<u8>,
 ) -> Result<Vec<u8>, Fault>
     requires dictionaries { AreDictionaries dictionaries.now }

@@ -8,7 +8,6 @@ use ipc_column::{Batch, Cell};
 use ipc_model::{DataType, Fault, Field, Items, Limits, Text};
 use std::alloc::{AllocError, Global};
 use std::collections::BTreeMap;
-use std::rc::Rc;
 
 fn field(alloc: Global, kind: DataType) -> Result<Field, AllocError>
     ensures { IfOk result (λ f. length (entries (f ∷ [])) ≤ 1) }
@@ -23,12 +22,12 @@ fn field(alloc: Global, kind: DataType) -> Result<Field, AllocError>
     })
 }
 
-fn fields(alloc: Global, kind: DataType) -> Result<Rc<Vec<Field>>, AllocError>
-    ensures { IfOk result (λ all. length (entries all.value.items) ≤ 1) }
+fn fields(alloc: Global, kind: DataType) -> Result<Vec<Field>, AllocError>
+    ensures { IfOk result (λ all. length (entries all.items) ≤ 1) }
 {
     let mut all = Vec::new(alloc);
     all.push(field(alloc, kind)?)?;
-    Ok(Rc::new(alloc, all)?)
+    Ok(all)
 }
 
 fn batch(alloc: Global, kind: DataType, parts: Parts<'_>, body: &[u8]) -> Result<Batch, Fault> {
@@ -36,7 +35,7 @@ fn batch(alloc: Global, kind: DataType, parts: Parts<'_>, body: &[u8]) -> Result
     let head = head_of(alloc, parts)?;
     let body = Vec::from_slice(alloc, body)?;
     let none = BTreeMap::new(alloc);
-    Batch::check(alloc, &Limits::standard(), fields, head, body, &none)
+    Batch::check(alloc, &Limits::standard(), &fields, head, body, &none)
 }
 
 // What a row has in its one column.

@@ -5,7 +5,7 @@ use ipc_column::{Batch, Cell};
 use ipc_dict_read::Dictionaries;
 use ipc_model::{DataType, Dictionary, Fault, Field, IndexType, IntBits, Schema};
 use std::alloc::{AllocError, Global};
-use std::rc::Rc;
+use std::sync::Arc;
 use std::test::Fail;
 
 // Columns of texts, whose values stand in dictionary 7 under signed indices of 8 bits.
@@ -43,7 +43,7 @@ fn tell_letters(told: &mut Vec<u8>, batch: &Batch) -> Result<(), AllocError> {
     Ok(told.push(b' ')?)
 }
 
-fn current(dictionaries: &Dictionaries) -> Result<Rc<Batch>, Fault> {
+fn current(dictionaries: &Dictionaries) -> Result<Arc<Batch>, Fault> {
     match dictionaries.current().get(&7) {
         Some(values) => Ok(values.clone()?),
         None => Err(Fault::Failed),

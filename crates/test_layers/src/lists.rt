@@ -8,7 +8,7 @@ use ipc_meta::BatchHead;
 use ipc_model::{DataType, Fault, Field, Items, Limits, Row, Schema};
 use std::alloc::{AllocError, Global};
 use std::collections::BTreeMap;
-use std::rc::Rc;
+use std::sync::Arc;
 use std::test::Fail;
 
 pub(crate) const MOST: i64 = 2_147_483_647;
@@ -33,7 +33,7 @@ pub(crate) fn batch_under(
     field: Field,
     parts: Parts<'_>,
     body: &[u8],
-    dictionaries: &BTreeMap<i64, Rc<Batch>>,
+    dictionaries: &BTreeMap<i64, Arc<Batch>>,
 ) -> Result<Batch, Fault>
     requires { AreDictionaries dictionaries.now }
 {
@@ -48,7 +48,7 @@ fn checked(
     schema: &Schema,
     head: BatchHead,
     body: &[u8],
-    dictionaries: &BTreeMap<i64, Rc<Batch>>,
+    dictionaries: &BTreeMap<i64, Arc<Batch>>,
 ) -> Result<Batch, Fault>
     requires { AreDictionaries dictionaries.now }
 {
@@ -56,7 +56,7 @@ fn checked(
     schema.check(alloc, &limits)?;
     let body = Vec::from_slice(alloc, body)?;
     let fields = schema.fields.as_slice();
-    Batch::check_borrowed(alloc, &limits, fields, head, body, dictionaries)
+    Batch::check(alloc, &limits, fields, head, body, dictionaries)
 }
 
 pub(crate) fn head_of(alloc: Global, (nodes, buffers): Parts<'_>) -> Result<BatchHead, AllocError> {

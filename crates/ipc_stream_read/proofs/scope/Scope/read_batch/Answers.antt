@@ -7,18 +7,18 @@ use Rattle.ipc_stream_read.proofs.scope.Scope.read_batch.Goals as goal
 
 pub returns-clause-rows : goal.returns-clause-rows
 returns-clause-rows c =
-    subst (λ m. IfOk c.check_borrowed.result
+    subst (λ m. IfOk c.check.result
     (λ batch. Rows c.args.self.now.limits m c.args.self.now.schema.fields c.args.head c.args.body.items batch.rows))
     (shown_values c.current.result.now c.args.self.now.dictionaries.current c.current.ensures.current)
-    (subst (λ fs. IfOk c.check_borrowed.result
+    (subst (λ fs. IfOk c.check.result
     (λ batch. Rows c.args.self.now.limits (dictionaries_in c.current.result.now) fs c.args.head c.args.body.items batch.rows))
-    c.as_slice.ensures c.check_borrowed.ensures.rows)
+    c.as_slice.ensures c.check.ensures.rows)
 
 pub returns-clause-refused : goal.returns-clause-refused
 returns-clause-refused c =
-    subst (λ m. IfErr c.check_borrowed.result
+    subst (λ m. IfErr c.check.result
     (λ fault. RefusesParts c.args.self.now.limits fault m c.args.self.now.schema.fields c.args.head c.args.body.items))
     (shown_values c.current.result.now c.args.self.now.dictionaries.current c.current.ensures.current)
-    (subst (λ fs. IfErr c.check_borrowed.result
+    (subst (λ fs. IfErr c.check.result
     (λ fault. RefusesParts c.args.self.now.limits fault (dictionaries_in c.current.result.now) fs c.args.head c.args.body.items))
-    c.as_slice.ensures c.check_borrowed.ensures.refused)
+    c.as_slice.ensures c.check.ensures.refused)

@@ -20,15 +20,15 @@ found : (c : goal.After-none-1)
 found c =
     ap (columns_for c.args.self.now.dictionaries.columns) (sym (to_z-of_z w64 c.args.id c.ranges.id)) ∙ sym c.in-Some.ensures
 
-pub check_borrowed-requires-clause-few : goal.check_borrowed-requires-clause-few
-check_borrowed-requires-clause-few c =
+pub check-requires-clause-few : goal.check-requires-clause-few
+check-requires-clause-few c =
     rw c.as_slice.ensures
     (few_columns c.args.self.now.limits c.args.self.now.schema.fields c.args.id c.in-Some.columns.now c.args.self.now.few_fields
     (ap (λ ds. columns_for ds c.args.id) (sym c.args.self.now.columns) ∙ found c))
 
 pub returns-clause-dictionary : goal.returns-clause-dictionary
 returns-clause-dictionary c =
-    answers_dictionary c.check_borrowed.result c.args.self.now.dictionaries.columns c.args.id c.in-Some.columns.now
+    answers_dictionary c.check.result c.args.self.now.dictionaries.columns c.args.id c.in-Some.columns.now
     c.as_slice.result.now c.as_slice.ensures c.args.self.now.alone
     (ap (columns_for c.args.self.now.dictionaries.columns) (sym (to_z-of_z w64 c.args.id c.ranges.id)) ∙ sym c.in-Some.ensures)
-    c.check_borrowed.ensures.layouts
+    c.check.ensures.layouts

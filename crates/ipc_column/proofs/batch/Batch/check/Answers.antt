@@ -2,7 +2,7 @@ use Rattle.std.proofs.Common.{arith}
 use Rattle.ipc_column.specs.DictionaryBatches.{dictionaries_in}
 use Rattle.ipc_column.proofs.Entries.{nodes_are_entries}
 use Rattle.ipc_column.proofs.Laws.{ok_rows, err_refuses, only_rows}
-use Rattle.ipc_column.proofs.batch.Batch.check_borrowed.Goals as goal
+use Rattle.ipc_column.proofs.batch.Batch.check.Goals as goal
 
 pub read-requires : goal.read-requires
 read-requires c = record {
