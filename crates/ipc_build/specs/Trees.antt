@@ -19,7 +19,7 @@ pub data Content : Type 0 where
 
 -- the fields of a table in order: for each its number, its content, the tree below it, and the
 -- fields after it. The elements of a vector of tables are such a list too, each a field with number
--- 0 and content `table`
+-- 0 and content `table`, because the code writes both by the same walk
 pub data Tree : Type 0 where
   none : Tree
   field : ℕ → Content → Tree → Tree → Tree

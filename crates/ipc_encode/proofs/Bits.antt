@@ -1,15 +1,30 @@
--- The bits of packed flags.
+-- Packed bits: what they hold, whole bytes of them, and the nulls that they mark.
 use Rattle.std.proofs.Common.{◌≡◌, ◌∙◌, refl, ap, ℕ, zero, suc, ◌+◌, ◌*◌, ◌/◌, ◌%◌, ◌<◌, ◌≤◌, Bool, true, false, cond, List, [], ◌∷◌}
-use Rattle.std.proofs.Common.{length, take, drop, get_or, drop-cons, drop-drop, get_or-take, get_or-drop, arith}
-use Rattle.std.specs.Prelude.{◌==◌}
-use Rattle.std.specs.Int.{bit_at}
-use Rattle.std.proofs.lemmas.Nat.Bits.{bit_at-zero, bit_at_lowest, bit_at-suc}
+use Rattle.std.proofs.Common.{length, take, drop, get_or, drop-cons, drop-drop, get_or-take, get_or-drop, arith, sym, ◌-◌, ◌^◌, ◌++◌}
+use Rattle.std.proofs.Common.{take_all, length-append, length-take, replicate, inl, inr, length-drop, append_assoc, add-one}
+use Rattle.std.proofs.Math.ListN.{get_or-eq_default}
+use Rattle.std.proofs.Math.Pow.{pow_mono}
+use Rattle.std.proofs.Math.Seq.{take-add}
+use Rattle.std.proofs.lemmas.Bool.{and_parts, cases_lt, eqb-true, eqb-false, ne_eqb}
+use Rattle.std.proofs.lemmas.List.{take-append-le, length-replicate, drop-append-le, length-take-le, take_more}
+use Rattle.std.proofs.lemmas.List as lists
+use Rattle.std.proofs.lemmas.Nat.{one_shl, and_le_l}
+use Rattle.std.proofs.lemmas.Nat.Bits.{bit_at-zero, bit_at_lowest, bit_at-suc, bit_at-lt, bit_at_and}
+use Rattle.std.specs.Int.{bit_at, from_bool}
+use Rattle.std.specs.Int.Bits.{or_shifted_r}
+use Rattle.std.specs.Prelude.{◌==◌, slice_set, bit_or, ◌&&◌, bit_and, min, not}
 use Rattle.ipc_scalar.specs.Bytes.{bit, clear}
 use Rattle.ipc_model.specs.declared.value.Value.{Value}
-use Rattle.ipc_encode.specs.Pieces.{Flag}
-use Rattle.ipc_encode.specs.Pieces.{Valid}
+use Rattle.ipc_model.specs.declared.value.Value.TheVariants.{Null}
+use Rattle.ipc_column.specs.Values.{is_valid}
 use Rattle.ipc_encode.specs.Bitmaps.{flags_number, flags_bytes, bitmap}
 use Rattle.ipc_encode.specs.Cells.{is_set, flags, nulls}
+use Rattle.ipc_encode.specs.Marks.{MarksNulls}
+use Rattle.ipc_encode.specs.Pieces.{Flag, Valid}
+use Rattle.ipc_encode.proofs.Steps.{flags_push, nulls_push}
+use mir.Val.{bool_byte}
+
+-- ---- the bits of packed flags
 
 -- flags that are packed in n bytes have n bytes
 pub length_bytes : (n : ℕ) (fs : List Bool) → length (flags_bytes n fs) ≡ n
@@ -99,3 +114,462 @@ clear_is vs d =
     let all = clear_so_far vs (length vs) d (omega arith) in
     let rest = drop_rest vs in
     omega (arith, all, rest)
+
+-- ---- flags that are packed one at a time
+
+-- the number of some flags is below the power of two of their number
+pub flags_number-lt : (fs : List Bool) (n : ℕ) → length fs ≤ n → flags_number fs < 2 ^ n
+flags_number-lt [] n h = let g = pow_mono {i = 0} {j = n} (omega arith) in omega (arith, g)
+flags_number-lt (f ∷ fs) zero h = absurd (omega arith)
+flags_number-lt (true ∷ fs) (suc n) h = let g = flags_number-lt fs n (omega arith) in let e : 2 ^ suc n ≡ 2 * 2 ^ n =
+    omega arith in rw e (omega (arith, g))
+flags_number-lt (false ∷ fs) (suc n) h = let g = flags_number-lt fs n (omega arith) in let e : 2 ^ suc n ≡ 2 * 2 ^ n =
+    omega arith in rw e (omega (arith, g))
+
+-- one flag more is the bit above the others
+flags_number_push : (fs : List Bool) (f : Bool) → flags_number (fs ++ f ∷ []) ≡ flags_number fs + cond f (2 ^ length fs) 0
+flags_number_push [] true = refl
+flags_number_push [] false = refl
+flags_number_push (g ∷ fs) true =
+    let more = flags_number_push fs true in
+    let e : 2 ^ suc (length fs) ≡ 2 * 2 ^ length fs = omega arith in
+    rw e (omega (arith, more))
+flags_number_push (g ∷ fs) false = let more = flags_number_push fs false in omega (arith, more)
+
+take_front : (fs : List Bool) (f : Bool) → 8 ≤ length fs → take 8 (fs ++ f ∷ []) ≡ take 8 fs
+take_front fs f h = take-append-le 8 fs (f ∷ []) h
+
+drop_front : (n : ℕ) (fs : List Bool) (f : Bool) → n ≤ length fs → drop n (fs ++ f ∷ []) ≡ drop n fs ++ f ∷ []
+drop_front zero fs f h = refl
+drop_front (suc n) [] f h = absurd (omega arith)
+drop_front (suc n) (g ∷ fs) f h = drop_front n fs f (omega arith)
+
+drop_length : (n : ℕ) (fs : List Bool) (m : ℕ) → length fs ≡ n + m → length (drop n fs) ≡ m
+drop_length zero fs m h = h ∙ (omega arith)
+drop_length (suc n) [] m h = absurd (omega arith)
+drop_length (suc n) (g ∷ fs) m h = drop_length n fs m (omega arith)
+
+-- behind whole bytes one flag more is a byte more
+pub byte_more : (n : ℕ) (fs : List Bool) (f : Bool) → length fs ≡ 8 * n
+    → flags_bytes (suc n) (fs ++ f ∷ []) ≡ flags_bytes n fs ++ cond f 1 0 ∷ []
+byte_more zero [] true h = refl
+byte_more zero [] false h = refl
+byte_more zero (g ∷ fs) f h = absurd (omega arith)
+byte_more (suc n) fs f h =
+    let front = take_front fs f (omega arith) in
+    let rest = drop_front 8 fs f (omega arith) in
+    let more = byte_more n (drop 8 fs) f (drop_length 8 fs (8 * n) (omega arith)) in
+    rw (front, rest, more) refl
+
+-- within a byte it is a bit more in the last one
+pub bit_more : (n : ℕ) (fs : List Bool) (f : Bool) (r d : ℕ) → length fs ≡ 8 * n + r → r < 8 → (k : ℕ) → k ≡ n
+    → flags_bytes (suc n) (fs ++ f ∷ [])
+    ≡ slice_set (flags_bytes (suc n) fs) k (get_or (flags_bytes (suc n) fs) k d + cond f (2 ^ r) 0)
+bit_more zero fs f r d h l k e =
+    let whole : take 8 fs ≡ fs = take_all 8 fs (omega arith) in
+    let size = length-append fs (f ∷ []) in
+    let more : take 8 (fs ++ f ∷ []) ≡ fs ++ f ∷ [] = take_all 8 (fs ++ f ∷ []) (omega (arith, size)) in
+    let same : length fs ≡ r = omega arith in
+    rw (e, more, whole, flags_number_push fs f, same) refl
+bit_more (suc n) fs f r d h l k e =
+    let front = take_front fs f (omega arith) in
+    let rest = drop_front 8 fs f (omega arith) in
+    let more = bit_more n (drop 8 fs) f r d (drop_length 8 fs (8 * n + r) (omega arith)) l n refl in
+    rw (e, front, rest, more) refl
+
+-- the last byte has no bit set above the flags in it
+pub last_small : (n : ℕ) (fs : List Bool) (r d : ℕ) → length fs ≡ 8 * n + r → get_or (flags_bytes (suc n) fs) n d < 2 ^ r
+last_small zero fs r d h = last_one
+  where
+    last_one : flags_number (take 8 fs) < 2 ^ r
+    last_one = let small : length (take 8 fs) ≤ r = omega (arith, length-take 8 fs) in flags_number-lt (take 8 fs) r small
+last_small (suc n) fs r d h = last_small n (drop 8 fs) r d (drop_length 8 fs (8 * n + r) (omega arith))
+
+-- ---- a bit more
+
+-- a bit put above those of a byte
+or_bit : (bit : Bool) (byte r : ℕ) → byte < 2 ^ r → r < 8 → bit_or byte (bool_byte bit * 2 ^ r % 256) ≡ byte + cond bit (2 ^ r) 0
+or_bit true byte r small l =
+    let whole : 1 * 2 ^ r % 256 ≡ 2 ^ r = one_shl r 8 l in
+    let one : 1 * 2 ^ r ≡ 2 ^ r = omega arith in
+    rw (whole, ← one, or_shifted_r 1 r byte small) (omega arith)
+or_bit false byte r small l =
+    let none : 0 * 2 ^ r % 256 ≡ 0 * 2 ^ r = omega arith in
+    rw (none, or_shifted_r 0 r byte small) (omega arith)
+
+-- a bit more in the last byte
+pub put_bit : (flags : List Bool) (bits : ℕ) (bit : Bool) (items : List ℕ) (byte d : ℕ) → length flags ≡ bits → items ≡ bitmap flags
+    → bits / 8 < length items → byte ≡ get_or items (bits / 8) d
+    → slice_set items (bits / 8) (bit_or byte (bool_byte bit * 2 ^ (bits % 8) % 256)) ≡ bitmap (flags ++ bit ∷ [])
+put_bit flags bits bit items byte d size packed l e =
+    let r : bits % 8 < 8 = omega arith in
+    let old = length_bytes ((length flags + 7) / 8) flags in
+    let inside : bits / 8 < (length flags + 7) / 8 = omega (arith, old, ap (λ (bs : List ℕ). length bs) packed) in
+    let count : (length flags + 7) / 8 ≡ suc (bits / 8) = omega arith in
+    let more = length-append flags (bit ∷ []) in
+    let next : (length (flags ++ bit ∷ []) + 7) / 8 ≡ suc (bits / 8) = omega arith in
+    let split : length flags ≡ 8 * (bits / 8) + bits % 8 = omega arith in
+    let whole : items ≡ flags_bytes (suc (bits / 8)) flags = packed ∙ ap (λ (n : ℕ). flags_bytes n flags) count in
+    let here : byte ≡ get_or (flags_bytes (suc (bits / 8)) flags) (bits / 8) d = e ∙ ap (λ (bs : List ℕ). get_or bs (bits / 8) d) whole in
+    let small : byte < 2 ^ (bits % 8) = omega (arith, here, last_small (bits / 8) flags (bits % 8) d split) in
+    rw (next, bit_more (bits / 8) flags bit (bits % 8) d split r (bits / 8) refl, or_bit bit byte (bits % 8) small r, whole, here) refl
+
+-- a byte more
+pub new_byte : (flags : List Bool) (bits : ℕ) (bit : Bool) (items : List ℕ) → length flags ≡ bits → items ≡ bitmap flags
+    → length items ≤ bits / 8 → items ++ bool_byte bit ∷ [] ≡ bitmap (flags ++ bit ∷ [])
+new_byte flags bits bit items size packed l =
+    let old = length_bytes ((length flags + 7) / 8) flags in
+    let outside : (length flags + 7) / 8 ≤ bits / 8 = omega (arith, old, ap (λ (bs : List ℕ). length bs) packed) in
+    let count : (length flags + 7) / 8 ≡ bits / 8 = omega arith in
+    let more = length-append flags (bit ∷ []) in
+    let next : (length (flags ++ bit ∷ []) + 7) / 8 ≡ suc (bits / 8) = omega arith in
+    let split : length flags ≡ 8 * (bits / 8) = omega arith in
+    rw (next, byte_more (bits / 8) flags bit split, packed, count) (own bit)
+  where
+    own : (b : Bool) → flags_bytes (bits / 8) flags ++ bool_byte b ∷ [] ≡ flags_bytes (bits / 8) flags ++ cond b 1 0 ∷ []
+    own true = refl
+    own false = refl
+
+-- ---- bits that are all set
+
+-- whole bytes of them
+ones : (n r : ℕ) → flags_bytes n (replicate (8 * n + r) true) ≡ replicate n 255
+ones zero r = refl
+ones (suc n) r =
+    let e : 8 * suc n + r ≡ suc (suc (suc (suc (suc (suc (suc (suc (8 * n + r)))))))) = omega arith in
+    rw e (ap (λ (bs : List ℕ). 255 ∷ bs) (ones n r))
+
+few_ones : (r : ℕ) → flags_number (replicate r true) + 1 ≡ 2 ^ r
+few_ones zero = refl
+few_ones (suc r) =
+    let more = few_ones r in
+    let e : 2 ^ suc r ≡ 2 * 2 ^ r = omega arith in
+    rw e (omega (arith, more))
+
+last_ones : (n r : ℕ) → r < 8 → flags_bytes (suc n) (replicate (8 * n + r) true) ≡ replicate n 255 ++ flags_number (replicate r true) ∷ []
+last_ones zero r l =
+    let size = length-replicate {A = Bool} r true in
+    let e : 8 * 0 + r ≡ r = omega arith in
+    let whole : take 8 (replicate r true) ≡ replicate r true = take_all 8 (replicate r true) (omega (arith, size)) in
+    rw (e, whole) refl
+last_ones (suc n) r l =
+    let e : 8 * suc n + r ≡ suc (suc (suc (suc (suc (suc (suc (suc (8 * n + r)))))))) = omega arith in
+    rw e (ap (λ (bs : List ℕ). 255 ∷ bs) (last_ones n r l))
+
+-- so many bits that fill their bytes
+pub set_whole : (bits : ℕ) → bits % 8 ≡ 0 → replicate (bits / 8) 255 ≡ bitmap (replicate bits true)
+set_whole bits h =
+    let size = length-replicate {A = Bool} bits true in
+    let count : (length (replicate {A = Bool} bits true) + 7) / 8 ≡ bits / 8 = omega (arith, size) in
+    let split : bits ≡ 8 * (bits / 8) + 0 = omega arith in
+    sym (ap (λ (n : ℕ). flags_bytes n (replicate bits true)) count
+    ∙ (ap (λ (n : ℕ). flags_bytes (bits / 8) (replicate n true)) split ∙ ones (bits / 8) 0))
+
+-- the others, with a byte that they don't fill
+pub set_part : (bits last : ℕ) → (bits % 8 ≡ 0 → ⊥) → last ≡ 1 * 2 ^ (bits % 8) % 256 - 1
+    → replicate (bits / 8) 255 ++ last ∷ [] ≡ bitmap (replicate bits true)
+set_part bits last h e =
+    let size = length-replicate {A = Bool} bits true in
+    let r : bits % 8 < 8 = omega arith in
+    let some : 0 < bits % 8 = omega arith in
+    let count : (length (replicate {A = Bool} bits true) + 7) / 8 ≡ suc (bits / 8) = omega (arith, size, some) in
+    let split : bits ≡ 8 * (bits / 8) + bits % 8 = omega arith in
+    let shifted = one_shl (bits % 8) 8 r in
+    let ones_here = few_ones (bits % 8) in
+    let same : last ≡ flags_number (replicate (bits % 8) true) = omega (arith, shifted, ones_here, e) in
+    ap (λ (n : ℕ). replicate (bits / 8) 255 ++ n ∷ []) same
+    ∙ sym (ap (λ (n : ℕ). flags_bytes n (replicate bits true)) count
+    ∙ (ap (λ (n : ℕ). flags_bytes (suc (bits / 8)) (replicate n true)) split ∙ last_ones (bits / 8) (bits % 8) r))
+
+take_none : (n : ℕ) → take {A = ℕ} n [] ≡ []
+take_none zero = refl
+take_none (suc n) = refl
+
+-- a list that is filled where there was nothing
+pub filled : (old new : List ℕ) (n len : ℕ) → old ≡ [] → len ≡ length old → new ≡ take n old ++ replicate (n - len) 255
+    → new ≡ replicate n 255
+filled old new n len none size e =
+    let empty : len ≡ 0 = size ∙ ap (λ (bs : List ℕ). length bs) none in
+    let whole : n - len ≡ n = omega arith in
+    e ∙ (ap (λ (m : ℕ). take n old ++ replicate m 255) whole
+    ∙ ap (λ (bs : List ℕ). bs ++ replicate n 255) (ap (λ (bs : List ℕ). take n bs) none ∙ take_none n))
+
+-- ---- flags packed a byte at a time
+
+-- the bit below the others, and those above it
+odd : (x : ℕ) → (bit_at x 0 == 1) ≡ true → x % 2 ≡ 1
+odd x e = sym (bit_at_lowest x) ∙ eqb-true (bit_at x 0) 1 e
+
+even : (x : ℕ) → (bit_at x 0 == 1) ≡ false → x % 2 ≡ 0
+even x e =
+    let lowest = bit_at_lowest x in
+    let other : bit_at x 0 ≡ 1 → ⊥ = eqb-false (bit_at x 0) 1 e in
+    let rest : x % 2 < 2 = omega arith in
+    omega (arith, lowest, other, rest)
+
+-- the number below a power of two whose bits are these flags
+bits_tell : (w : ℕ) (fs : List Bool) (x : ℕ) → length fs ≤ w → x < 2 ^ w → ((r : ℕ) → r < w → (bit_at x r == 1) ≡ get_or fs r false)
+    → flags_number fs ≡ x
+bits_tell zero [] x l small e = omega arith
+bits_tell zero (f ∷ fs) x l small e = absurd (omega arith)
+bits_tell (suc w) [] x l small e =
+    let twice : 2 ^ suc w ≡ 2 * 2 ^ w = omega arith in
+    let above = bits_tell w [] (x / 2) (omega arith) (omega (arith, twice)) (λ r m.
+    ap (λ (b : ℕ). b == 1) (sym (bit_at-suc x r)) ∙ e (suc r) (omega arith)) in
+    let lowest = even x (e 0 (omega arith)) in
+    omega (arith, above, lowest)
+bits_tell (suc w) (true ∷ fs) x l small e =
+    let twice : 2 ^ suc w ≡ 2 * 2 ^ w = omega arith in
+    let above = bits_tell w fs (x / 2) (omega arith) (omega (arith, twice)) (λ r m.
+    ap (λ (b : ℕ). b == 1) (sym (bit_at-suc x r)) ∙ e (suc r) (omega arith)) in
+    let lowest = odd x (e 0 (omega arith)) in
+    omega (arith, above, lowest)
+bits_tell (suc w) (false ∷ fs) x l small e =
+    let twice : 2 ^ suc w ≡ 2 * 2 ^ w = omega arith in
+    let above = bits_tell w fs (x / 2) (omega arith) (omega (arith, twice)) (λ r m.
+    ap (λ (b : ℕ). b == 1) (sym (bit_at-suc x r)) ∙ e (suc r) (omega arith)) in
+    let lowest = even x (e 0 (omega arith)) in
+    omega (arith, above, lowest)
+
+-- a bit of the first byte, and one of those behind it
+pub bit_first : (b : ℕ) (bs : List ℕ) (r : ℕ) → r < 8 → bit (b ∷ bs) r ≡ (bit_at b r == 1)
+unfolding bit
+bit_first b bs r h =
+    let byte : r / 8 ≡ 0 = omega arith in
+    let place : r % 8 ≡ r = omega arith in
+    rw (byte, place) refl
+
+bit_behind : (b : ℕ) (bs : List ℕ) (i : ℕ) → bit (b ∷ bs) (8 + i) ≡ bit bs i
+unfolding bit
+bit_behind b bs i =
+    let byte : (8 + i) / 8 ≡ suc (i / 8) = omega arith in
+    let place : (8 + i) % 8 ≡ i % 8 = omega arith in
+    rw (byte, place) refl
+
+-- bits of the first bytes
+pub bit_in_front : (n : ℕ) (bs : List ℕ) (i : ℕ) → i < 8 * n → bit (take n bs) i ≡ bit bs i
+unfolding bit
+bit_in_front n bs i h =
+    let front : get_or (take n bs) (i / 8) 0 ≡ get_or bs (i / 8) 0 = get_or-take n bs (i / 8) 0 (omega arith) in
+    ap (λ (b : ℕ). bit_at b (i % 8) == 1) front
+
+-- the first bytes are bytes
+pub front_small : (n : ℕ) (bs : List ℕ) → ((k : ℕ) → get_or bs k 0 < 256) → n ≤ length bs → (k : ℕ) → get_or (take n bs) k 0 < 256
+front_small n bs small l k =
+    let front = length-take-le n bs l in
+    elim (cases_lt k n) as (λ _. get_or (take n bs) k 0 < 256) [
+      | inl h ↦ rw (get_or-take n bs k 0 h) (small k)
+      | inr h ↦ rw (get_or-eq_default (take n bs) 0 (let past : length (take n bs) ≤ k = omega (arith, front, h) in past)) (omega arith)
+    ]
+
+-- bytes whose bits are these flags
+bytes_tell : (bs : List ℕ) (fs : List Bool) → length fs ≡ 8 * length bs → ((k : ℕ) → get_or bs k 0 < 256)
+    → ((i : ℕ) → i < length fs → bit bs i ≡ get_or fs i false)
+    → flags_bytes (length bs) fs ≡ bs
+bytes_tell [] fs size small e = refl
+bytes_tell (b ∷ bs) fs size small e =
+    let front : length (take 8 fs) ≤ 8 = omega (arith, length-take 8 fs) in
+    let first : flags_number (take 8 fs) ≡ b =
+    bits_tell 8 (take 8 fs) b front (small 0) (λ r m.
+    sym (bit_first b bs r m) ∙ (e r (omega (arith, size)) ∙ sym (get_or-take 8 fs r false m))) in
+    let left : length (drop 8 fs) ≡ 8 * length bs = omega (arith, length-drop 8 fs, size) in
+    let rest : flags_bytes (length bs) (drop 8 fs) ≡ bs =
+    bytes_tell bs (drop 8 fs) left (λ k. small (suc k)) (λ i m.
+    sym (bit_behind b bs i) ∙ (e (8 + i) (omega (arith, length-drop 8 fs)) ∙ sym (get_or-drop 8 fs i false))) in
+    rw (first, rest) refl
+
+-- flags behind others that fill their bytes
+bytes_append : (n m : ℕ) (fs gs : List Bool) → length fs ≡ 8 * n → flags_bytes (n + m) (fs ++ gs) ≡ flags_bytes n fs ++ flags_bytes m gs
+bytes_append zero m [] gs size = ap (λ (k : ℕ). flags_bytes k gs) (let e : 0 + m ≡ m = omega arith in e)
+bytes_append zero m (f ∷ fs) gs size = absurd (omega arith)
+bytes_append (suc n) m fs gs size =
+    let more : suc n + m ≡ suc (n + m) = omega arith in
+    let front = take-append-le 8 fs gs (omega arith) in
+    let behind = drop-append-le 8 fs gs (omega arith) in
+    let rest = bytes_append n m (drop 8 fs) gs (omega (arith, length-drop 8 fs)) in
+    rw (more, front, behind, rest) refl
+
+-- bytes behind flags that fill theirs
+pub bytes_more : (fs gs : List Bool) (bs : List ℕ) → length fs % 8 ≡ 0 → length gs ≡ 8 * length bs → ((k : ℕ) → get_or bs k 0 < 256)
+    → ((i : ℕ) → i < length gs → bit bs i ≡ get_or gs i false)
+    → bitmap fs ++ bs ≡ bitmap (fs ++ gs)
+bytes_more fs gs bs full size small e =
+    let n = length fs / 8 in
+    let split : length fs ≡ 8 * n = omega arith in
+    let held : (length fs + 7) / 8 ≡ n = omega arith in
+    let all = length-append fs gs in
+    let count : (length (fs ++ gs) + 7) / 8 ≡ n + length bs = omega (arith, all, size, split) in
+    let told = bytes_tell bs gs size small e in
+    ap (λ (k : ℕ). flags_bytes k fs ++ bs) held
+    ∙ (ap (λ (b : List ℕ). flags_bytes n fs ++ b) (sym told)
+    ∙ (sym (bytes_append n (length bs) fs gs split) ∙ ap (λ (k : ℕ). flags_bytes k (fs ++ gs)) (sym count)))
+
+-- the flags of values and of others
+pub flags_append : (which : Flag) (vs ws : List Value) → flags which (vs ++ ws) ≡ flags which vs ++ flags which ws
+flags_append which [] ws = refl
+flags_append which (v ∷ vs) ws = ap (λ (fs : List Bool). is_set which v ∷ fs) (flags_append which vs ws)
+
+-- ---- bits of two bytes
+
+both_one : (a b : ℕ) → a < 2 → b < 2 → (min a b == 1) ≡ ((a == 1) && (b == 1))
+both_one zero zero h g = refl
+both_one zero (suc zero) h g = refl
+both_one (suc zero) zero h g = refl
+both_one (suc zero) (suc zero) h g = refl
+both_one a (suc (suc b)) h g = absurd (omega arith)
+both_one (suc (suc a)) b h g = absurd (omega arith)
+
+-- a bit that is set in both of two numbers
+both_set : (x y r : ℕ) → (bit_at (bit_and x y) r == 1) ≡ ((bit_at x r == 1) && (bit_at y r == 1))
+both_set x y r = ap (λ (n : ℕ). n == 1) (bit_at_and x y r) ∙ both_one (bit_at x r) (bit_at y r) (bit_at-lt x r) (bit_at-lt y r)
+
+-- a bit, by its byte
+bit_in_byte : (bs : List ℕ) (k r : ℕ) → r < 8 → bit bs (8 * k + r) ≡ (bit_at (get_or bs k 0) r == 1)
+unfolding bit
+bit_in_byte bs k r h =
+    let byte : (8 * k + r) / 8 ≡ k = omega arith in
+    let place : (8 * k + r) % 8 ≡ r = omega arith in
+    rw (byte, place) refl
+
+-- one byte more of flags that are set in both of two bitmaps
+pub both_more : (before more : List Bool) (xs ys : List ℕ) (x y k : ℕ) → length before % 8 ≡ 0 → 8 * (k + 1) ≤ length more
+    → ((i : ℕ) → i < length more → get_or more i false ≡ (bit xs i && bit ys i)) → x ≡ get_or xs k 0 → y ≡ get_or ys k 0 → x < 256
+    → bitmap (before ++ take (8 * k) more) ++ bit_and x y ∷ [] ≡ bitmap (before ++ take (8 * (k + 1)) more)
+both_more before more xs ys x y k full l e ex ey small =
+    let front = length-take-le (8 * k) more (omega (arith, l)) in
+    let held = length-append before (take (8 * k) more) in
+    let size : length (take 8 (drop (8 * k) more)) ≡ 8 =
+    length-take-le 8 (drop (8 * k) more) (omega (arith, length-drop (8 * k) more, l)) in
+    let under = and_le_l x y in
+    let next : take (8 * k) more ++ take 8 (drop (8 * k) more) ≡ take (8 * (k + 1)) more =
+    sym (take-add (8 * k) 8 more) ∙ ap (λ (n : ℕ). take n more) (let n : 8 * k + 8 ≡ 8 * (k + 1) = omega arith in n) in
+    bytes_more (before ++ take (8 * k) more) (take 8 (drop (8 * k) more)) (bit_and x y ∷ [])
+    (let whole : length (before ++ take (8 * k) more) % 8 ≡ 0 = omega (arith, held, front, full) in whole)
+    size (λ i. few i under small)
+    (λ i m.
+    let inside : i < 8 = omega (arith, m, size) in
+    bit_first (bit_and x y) [] i inside
+    ∙ (both_set x y i
+    ∙ (ap (λ (n : ℕ). (bit_at n i == 1) && (bit_at y i == 1)) ex
+    ∙ (ap (λ (n : ℕ). (bit_at (get_or xs k 0) i == 1) && (bit_at n i == 1)) ey
+    ∙ (ap (λ (f : Bool). f && (bit_at (get_or ys k 0) i == 1)) (sym (bit_in_byte xs k i inside))
+    ∙ (ap (λ (f : Bool). bit xs (8 * k + i) && f) (sym (bit_in_byte ys k i inside))
+    ∙ (sym (e (8 * k + i) (omega (arith, inside, l)))
+    ∙ (sym (get_or-drop (8 * k) more i false) ∙ sym (get_or-take 8 (drop (8 * k) more) i false inside)))))))))
+    ∙ ap bitmap (append_assoc before (take (8 * k) more) (take 8 (drop (8 * k) more)) ∙ ap (λ (fs : List Bool). before ++ fs) next)
+  where
+    few : (i : ℕ) → bit_and x y ≤ x → x < 256 → get_or (bit_and x y ∷ []) i 0 < 256
+    few zero under small = omega (arith, under, small)
+    few (suc i) under small = omega arith
+
+-- the bits of one byte more, all of which are set in that of another list too
+pub among_next : (xs ys : List ℕ) (k : ℕ) → bit_and (get_or xs k 0) (get_or ys k 0) ≡ get_or xs k 0
+    → ((i : ℕ) → i < 8 * k → bit xs i ≡ true → bit ys i ≡ true) → (i : ℕ) → i < 8 * (k + 1) → bit xs i ≡ true → bit ys i ≡ true
+among_next xs ys k same before i m set = elim (cases_lt i (8 * k)) as (λ _. bit ys i ≡ true) [
+  | inl under ↦ before i under set
+  | inr over ↦
+      let x = get_or xs k 0 in
+      let y = get_or ys k 0 in
+      let r : ℕ = i - 8 * k in
+      let inside : r < 8 = omega (arith, m, over) in
+      let place : 8 * k + r ≡ i = omega (arith, over) in
+      let own : (bit_at x r == 1) ≡ true =
+      sym (bit_in_byte xs k r inside) ∙ (ap (λ (n : ℕ). bit xs n) place ∙ set) in
+      let both = sym (both_set x y r) ∙ (ap (λ (n : ℕ). bit_at n r == 1) same ∙ own) in
+      ap (λ (n : ℕ). bit ys n) (sym place) ∙ (bit_in_byte ys k r inside ∙ (and_parts (bit_at x r == 1) (bit_at y r == 1) both).1)
+]
+
+-- ---- the nulls and the flags of values that a bitmap marks
+
+-- the nulls of values and of others
+pub nulls_append : (before values : List Value) → nulls (before ++ values) ≡ nulls before + nulls values
+nulls_append [] values = omega arith
+nulls_append (v ∷ before) values = let more = nulls_append before values in omega (arith, more)
+
+-- one value more
+more_nulls : (b : List ℕ) (vs : List Value) (k : ℕ) → MarksNulls b vs → k < length vs
+    → nulls (take (suc k) vs) ≡ nulls (take k vs) + cond (is_valid b k) 0 1
+more_nulls b vs k h l =
+    ap nulls (ap (λ (n : ℕ). take n vs) (sym (add-one k)) ∙ take_more vs k Null l)
+    ∙ (nulls_push (take k vs) (get_or vs k Null) ∙ ap (λ (v : Bool). nulls (take k vs) + cond {A = ℕ} v 0 1) (h.each k l))
+
+-- where there is no bitmap no value is null
+none_so_far : (b : List ℕ) (vs : List Value) (k : ℕ) → MarksNulls b vs → length b ≡ 0 → k ≤ length vs → nulls (take k vs) ≡ 0
+none_so_far b vs zero h e l = refl
+none_so_far b vs (suc k) h e l =
+    let before = none_so_far b vs k h e (omega arith) in
+    let step = more_nulls b vs k h (omega arith) in
+    let valid : is_valid b k ≡ true = rw e refl in
+    let one : cond {A = ℕ} (is_valid b k) 0 1 ≡ 0 = ap (λ (v : Bool). cond {A = ℕ} v 0 1) valid in
+    step ∙ omega (arith, before, one)
+
+pub unmarked : (b : List ℕ) (vs : List Value) → MarksNulls b vs → length b ≡ 0 → nulls vs ≡ 0
+unmarked b vs h e = ap nulls (sym (lists.take_all (length vs) vs (omega arith))) ∙ none_so_far b vs (length vs) h e (omega arith)
+
+-- the clear bits so far are the nulls so far
+clear_is_nulls : (b : List ℕ) (vs : List Value) (k : ℕ) → MarksNulls b vs → (length b ≡ 0 → ⊥) → k ≤ length vs
+    → clear b k ≡ nulls (take k vs)
+unfolding clear
+clear_is_nulls b vs zero h some l = refl
+clear_is_nulls b vs (suc k) h some l =
+    let before = clear_is_nulls b vs k h some (omega arith) in
+    let step = more_nulls b vs k h (omega arith) in
+    let marked : is_valid b k ≡ bit b k = rw (ne_eqb (length b) 0 some) refl in
+    let one : cond {A = ℕ} (is_valid b k) 0 1 ≡ cond {A = ℕ} (bit b k) 0 1 = ap (λ (v : Bool). cond {A = ℕ} v 0 1) marked in
+    let same : clear b (suc k) ≡ clear b k + cond (bit b k) 0 1 = refl in
+    omega (arith, same, step, before, one)
+
+pub clear_nulls : (b : List ℕ) (vs : List Value) → MarksNulls b vs → (length b ≡ 0 → ⊥) → clear b (length vs) ≡ nulls vs
+clear_nulls b vs h some =
+    clear_is_nulls b vs (length vs) h some (omega arith) ∙ ap nulls (lists.take_all (length vs) vs (omega arith))
+
+-- the flags of the values so far and of the next
+pub flags_next : (which : Flag) (vs : List Value) (i : ℕ) (flag : Bool) → i < length vs → flag ≡ is_set which (get_or vs i Null)
+    → flags which (take i vs) ++ flag ∷ [] ≡ flags which (take (i + 1) vs)
+flags_next which vs i flag l same =
+    ap (λ (f : Bool). flags which (take i vs) ++ f ∷ []) same
+    ∙ (sym (flags_push which (take i vs) (get_or vs i Null)) ∙ ap (flags which) (sym (take_more vs i Null l)))
+
+-- no more values are null than there are
+pub nulls_within : (vs : List Value) → nulls vs ≤ length vs
+nulls_within [] = omega arith
+nulls_within (v ∷ vs) = let rest = nulls_within vs in first (is_set Valid v) rest
+  where
+    first : (b : Bool) → nulls vs ≤ length vs → cond {A = ℕ} b 0 1 + nulls vs ≤ suc (length vs)
+    first true h = omega (arith, h)
+    first false h = omega (arith, h)
+
+-- ---- value by value
+
+-- the nulls so far and the next
+pub nulls_next : (vs : List Value) (i : ℕ) → i < length vs
+    → nulls (take (i + 1) vs) ≡ nulls (take i vs) + cond (is_set Valid (get_or vs i Null)) 0 1
+nulls_next vs i l = ap nulls (take_more vs i Null l) ∙ nulls_push (take i vs) (get_or vs i Null)
+
+-- a flag as a number
+pub flag_small : (flag : Bool) → from_bool flag < 2
+flag_small true = omega arith
+flag_small false = omega arith
+
+-- ---- a byte at a time
+
+-- bytes of a bitmap behind flags that fill theirs
+pub marked_bytes : (b : List ℕ) (before values : List Value) (n : ℕ) → MarksNulls b values → (length b ≡ 0 → ⊥)
+    → ((k : ℕ) → get_or b k 0 < 256) → length before % 8 ≡ 0 → 8 * n ≤ length values → n ≤ length b
+    → bitmap (flags Valid before) ++ take n b ≡ bitmap (flags Valid (before ++ take (n * 8) values))
+marked_bytes b before values n marks some small full l m =
+    let front = length-take-le n b m in
+    let many = length-take-le (n * 8) values (omega (arith, l)) in
+    let held = flags_length Valid before in
+    let more = flags_length Valid (take (n * 8) values) in
+    bytes_more (flags Valid before) (flags Valid (take (n * 8) values)) (take n b) (omega (arith, held, full))
+    (omega (arith, more, many, front))
+    (front_small n b small m)
+    (λ i h.
+    let inside : i < n * 8 = omega (arith, h, more, many) in
+    let marked : is_valid b i ≡ bit b i = rw (ne_eqb (length b) 0 some) refl in
+    bit_in_front n b i (omega (arith, inside))
+    ∙ (sym marked ∙ (sym (marks.each i (omega (arith, inside, l)))
+    ∙ (ap (is_set Valid) (sym (lists.get_or-take (n * 8) values i Null inside)) ∙ sym (flag_at Valid (take (n * 8) values) i Null
+    (omega (arith, inside, many)))))))
+    ∙ ap bitmap (sym (flags_append Valid before (take (n * 8) values)))

@@ -35,14 +35,7 @@ slots_written m known P (field l children rest) given h = (h 0, slots_written m 
 -- as many buffers are written for a column as its layout has
 pub own_length : (l : Layout) (vs : List Value) → length (column_buffers l vs) ≡ own_buffers l
 own_length l.Null vs = refl
-own_length l.Bits vs = refl
-own_length (l.Numbers bits signed) vs = refl
-own_length (l.FixedBytes width) vs = refl
-own_length (l.VariableBytes utf8) vs = refl
-own_length l.Lists vs = refl
-own_length l.Structs vs = refl
-own_length (l.FixedLists size) vs = refl
-own_length (l.Indices bits signed id) vs = refl
+own_length _ vs = refl
 
 -- a node is written for each field, children included
 pub nodes_length : (s : Shape) (given : ℕ → List Value) → length (nodes_of s given) ≡ node_count s

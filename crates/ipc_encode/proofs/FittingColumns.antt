@@ -1,10 +1,11 @@
--- Columns whose values fit a field.
-use Rattle.std.proofs.Common.{◌≡◌, ◌∙◌, refl, sym, ap, subst, ℕ, zero, suc, ◌+◌, ◌-◌, ◌<◌, Bool, true, false}
-use Rattle.std.proofs.Common.{List, [], ◌∷◌, ◌++◌, length, get_or, take, arith, Result, Err}
-use Rattle.std.specs.Prelude.{IsTrue, IsOk, not, ◌⊎◌, slice_get, Some}
-use Rattle.std.specs.List.{AllByRecursion}
+-- Columns whose values fit their fields.
+use Rattle.std.proofs.Common.{◌≡◌, ◌∙◌, sym, subst, ℕ, suc, ◌+◌, ◌≤◌, Bool, true, false, List, [], ◌∷◌, ◌++◌, length, get_or, arith, zero}
+use Rattle.std.proofs.Common.{ℤ, cond, ap, ◌<◌, take, refl, ◌-◌, Result, Err}
 use Rattle.std.proofs.lemmas.List.{take_more}
-use Rattle.ipc_model.specs.Fits.{EachFits, Fits, InnerFit, IsOfKind, FitsOwnType, RowFits}
+use Rattle.std.specs.List.{AllByRecursion}
+use Rattle.std.specs.Prelude.{Option, pos, negsuc, IsTrue, IsOk, not, ◌⊎◌, slice_get, Some}
+use Rattle.ipc_model.specs.Fits.{Fits, IsOfKind, RowFits, EachFits, InnerFit, FitsOwnType}
+use Rattle.ipc_model.specs.Layouts.{type_layout}
 use Rattle.ipc_model.specs.Refusals.{refusal_of}
 use Rattle.ipc_model.specs.RowFaults.{row_faults, verdict}
 use Rattle.ipc_model.specs.declared.fault.WriteFault.{WriteFault}
@@ -13,29 +14,194 @@ use Rattle.ipc_model.specs.declared.layout.Layout.TheVariants as l
 use Rattle.ipc_model.specs.declared.rows.RowFault.{RowFault}
 use Rattle.ipc_model.specs.declared.schema.DataType.{DataType}
 use Rattle.ipc_model.specs.declared.schema.DataType.TheVariants as t
+use Rattle.ipc_model.specs.declared.schema.DateUnit.TheVariants.{Day, Millisecond}
 use Rattle.ipc_model.specs.declared.schema.Field.{Field, out-Field}
+use Rattle.ipc_model.specs.declared.schema.IntBits.{IntBits}
+use Rattle.ipc_model.specs.declared.schema.IntBits.TheVariants.{B32, B64}
+use Rattle.ipc_model.specs.declared.schema.TimeUnit.{TimeUnit}
 use Rattle.ipc_model.specs.declared.value.Value.{Value, out-Value}
-use Rattle.ipc_model.specs.declared.value.Value.TheOpen as o
 use Rattle.ipc_model.specs.declared.value.Value.TheOpen.{Value-F}
-use Rattle.ipc_model.specs.declared.value.Value.TheVariants as v
+use Rattle.ipc_model.specs.declared.value.Value.TheOpen as o
 use Rattle.ipc_model.specs.declared.value.Value.TheVariants.{Null}
-use Rattle.ipc_column.specs.declared.ranges.ColumnRanges.{ColumnRanges}
+use Rattle.ipc_model.specs.declared.value.Value.TheVariants as v
+use Rattle.ipc_column.proofs.Plain.{items_each, null_shown}
 use Rattle.ipc_column.specs.Nested.{Nested, child_columns, slot_values}
 use Rattle.ipc_column.specs.Plain.{IsShownBy}
 use Rattle.ipc_column.specs.Slots.{is_null, nested_in}
-use Rattle.ipc_column.specs.Values.{first_of, is_valid, items, offset_position, row}
+use Rattle.ipc_column.specs.Values.{is_valid, own_value, row, value_at, value_of, first_of, items, offset_position}
 use Rattle.ipc_column.specs.Views.{part_columns}
+use Rattle.ipc_column.specs.declared.ranges.ColumnRanges.{ColumnRanges}
+use Rattle.ipc_encode.specs.Cells.{cell, cells, all_items, is_set, items_in}
 use Rattle.ipc_encode.specs.Cells as c
-use Rattle.ipc_encode.specs.Cells.{all_items, cell, is_set, items_in}
+use Rattle.ipc_encode.specs.Columns.{data_in}
 use Rattle.ipc_encode.specs.Mismatches.{AreMismatches}
 use Rattle.ipc_encode.specs.Pieces.{Valid}
+use Rattle.ipc_encode.specs.PlainColumns.{layout_implies_type}
 use Rattle.ipc_encode.proofs.LentBuffers.{list_out, slot_is, struct_out}
-use Rattle.ipc_encode.proofs.NestedFits.{all_behind, all_front}
 use Rattle.ipc_encode.proofs.NestedSlots.{cell_value, null_only}
 use Rattle.ipc_encode.proofs.NumberSlots.{null_out}
-use Rattle.ipc_encode.proofs.SureColumns.{ShowsKind}
-use Rattle.ipc_encode.proofs.SurelyFit.{own_fits}
+use Rattle.ipc_encode.proofs.Sizes.{FirstFit, first_fit_all, first_fit_next, own_fits}
 use Rattle.ipc_encode.proofs.Weights.{list_fits, null_fits, struct_fits}
+
+-- ---- columns whose values fit a type because of their layout, and rows that fit column by column
+
+-- ---- what plain slots show
+
+-- the slots of the layout show values of the type alone, or null: nothing in a value has to be
+-- looked at
+abbrev pub ShowsKind : Layout → DataType → Type 0
+ShowsKind layout kind = (children : ℕ) (value : Value) → IsShownBy layout value → is_null value ≡ false
+    → IsOfKind kind children (out-Value value)
+
+bool_shows : ShowsKind l.Bits t.Bool
+unfolding out-Value denote.Hole.Carrier.out
+bool_shows children v.Null shown some = absurd (cc)
+bool_shows children (v.Bool truth) shown some = tt
+bool_shows children value shown some = absurd shown
+
+int_shows : (bits : IntBits) (signed : Bool) → ShowsKind (l.Numbers bits signed) (t.Int bits signed)
+unfolding out-Value denote.Hole.Carrier.out
+int_shows bits signed children v.Null shown some = absurd (cc)
+int_shows bits true children (v.Int number) shown some = shown
+int_shows bits false children (v.UInt number) shown some = shown
+int_shows bits true children value shown some = absurd shown
+int_shows bits false children value shown some = absurd shown
+
+binary_shows : ShowsKind (l.VariableBytes false) t.Binary
+unfolding out-Value denote.Hole.Carrier.out
+binary_shows children v.Null shown some = absurd (cc)
+binary_shows children (v.Bytes bytes) shown some = tt
+binary_shows children value shown some = absurd shown
+
+text_shows : ShowsKind (l.VariableBytes true) t.Utf8
+unfolding out-Value denote.Hole.Carrier.out
+text_shows children v.Null shown some = absurd (cc)
+text_shows children (v.Text text) shown some = tt
+text_shows children value shown some = absurd shown
+
+fixed_shows : (size : ℕ) → ShowsKind (l.FixedBytes size) (t.FixedSizeBinary size)
+unfolding out-Value denote.Hole.Carrier.out
+fixed_shows size children v.Null shown some = absurd (cc)
+fixed_shows size children (v.Bytes bytes) shown some = shown
+fixed_shows size children value shown some = absurd shown
+
+day_shows : ShowsKind (l.Numbers B32 true) (t.Date Day)
+unfolding out-Value denote.Hole.Carrier.out
+day_shows children v.Null shown some = absurd (cc)
+day_shows children (v.Int number) shown some = shown
+day_shows children value shown some = absurd shown
+
+stamp_shows : (unit : TimeUnit) (timezone : Option (List ℕ)) → ShowsKind (l.Numbers B64 true) (t.Timestamp unit timezone)
+unfolding out-Value denote.Hole.Carrier.out
+stamp_shows unit timezone children v.Null shown some = absurd (cc)
+stamp_shows unit timezone children (v.Int number) shown some = shown
+stamp_shows unit timezone children value shown some = absurd shown
+
+length_shows : (unit : TimeUnit) → ShowsKind (l.Numbers B64 true) (t.Duration unit)
+unfolding out-Value denote.Hole.Carrier.out
+length_shows unit children v.Null shown some = absurd (cc)
+length_shows unit children (v.Int number) shown some = shown
+length_shows unit children value shown some = absurd shown
+
+-- slots of a plain type's layout show its values
+pub plain_shows : (kind : DataType) → layout_implies_type kind ≡ true → ShowsKind (type_layout kind) kind
+plain_shows t.Bool plain = bool_shows
+plain_shows (t.Int bits signed) plain = int_shows bits signed
+plain_shows t.Binary plain = binary_shows
+plain_shows t.Utf8 plain = text_shows
+plain_shows (t.FixedSizeBinary size) plain = fixed_shows size
+plain_shows (t.Date Day) plain = day_shows
+plain_shows (t.Timestamp unit timezone) plain = stamp_shows unit timezone
+plain_shows (t.Duration unit) plain = length_shows unit
+plain_shows (t.Date Millisecond) plain = absurd (cc)
+plain_shows (t.Time unit) plain = absurd (cc)
+plain_shows t.Null plain = absurd (cc)
+plain_shows t.List plain = absurd (cc)
+plain_shows (t.FixedSizeList size) plain = absurd (cc)
+plain_shows t.Struct plain = absurd (cc)
+
+-- ---- data
+
+-- the data of some values and then others
+pub data_append : (layout : Layout) (vs ws : List Value) → data_in layout (vs ++ ws) ≡ data_in layout vs + data_in layout ws
+data_append layout [] ws = omega arith
+data_append layout (v ∷ vs) ws = let more = data_append layout vs ws in omega (arith, more)
+
+-- ---- columns of rows
+
+-- none of the fields is asked first
+pub none_fit : (fields : List Field) (rows : List (List Value)) → AllByRecursion (FirstFit 0 fields) rows
+none_fit fields [] = tt
+none_fit fields (row ∷ rows) = (tt, none_fit fields rows)
+
+-- one column more fits
+pub rows_fit_next : (i : ℕ) (fields : List Field) (f : Field) (rows : List (List Value)) → get_or fields i f ≡ f
+    → AllByRecursion (FirstFit i fields) rows → AllByRecursion (Fits f) (cells i rows) → AllByRecursion (FirstFit (suc i) fields) rows
+rows_fit_next i fields f [] e h own = tt
+rows_fit_next i fields f (row ∷ rows) e h own = (
+  first_fit_next i fields row f v.Null h.0 (subst (λ (g : Field). Fits g (cell i row)) (sym e) own.0),
+  rows_fit_next i fields f rows e h.1 own.1,
+)
+
+-- and all do where each was asked
+pub rows_fit : (i : ℕ) (fields : List Field) (rows : List (List Value)) (n : ℕ) → length fields ≤ i → n ≡ length fields
+    → AllByRecursion (λ row. length row ≡ n) rows → AllByRecursion (FirstFit i fields) rows → AllByRecursion (RowFits fields) rows
+rows_fit i fields [] n all e wide h = tt
+rows_fit i fields (row ∷ rows) n all e wide h =
+    ((wide.0 ∙ e, first_fit_all i fields row all h.0), rows_fit i fields rows n all e wide.1 h.1)
+
+-- ---- columns of indices that surely fit, by how the values of their dictionary lie
+
+-- a value of the dictionary, or null
+value_shown : (layout : Layout) (dictionary : List Value) (z : ℤ) → AllByRecursion (IsShownBy layout) dictionary
+    → IsShownBy layout (value_at dictionary z)
+value_shown layout dictionary (negsuc n) h = null_shown layout
+value_shown layout dictionary (pos n) h = at dictionary n h
+  where
+    at : (vs : List Value) (i : ℕ) → AllByRecursion (IsShownBy layout) vs → IsShownBy layout (get_or vs i v.Null)
+    at [] i h = null_shown layout
+    at (x ∷ vs) zero h = h.0
+    at (x ∷ vs) (suc i) h = at vs i h.1
+
+-- slots of indices show what the dictionary does, or null
+pub indexed_shown : (n : Nested) (layout : Layout) (bits : IntBits) (signed : Bool) (id : ℤ) → n.column.layout ≡ l.Indices bits signed id
+    → AllByRecursion (IsShownBy layout) n.column.dictionary → AllByRecursion (IsShownBy layout) (slot_values n)
+indexed_shown n layout bits signed id e h =
+    items_each (IsShownBy layout) (value_of (row (child_columns n)) n.column) 0 n.column.slots (λ k from to. either k
+    (is_valid n.column.validity k))
+  where
+    either : (k : ℕ) (valid : Bool) → IsShownBy layout
+        (cond valid (own_value n.column.layout n.column.dictionary (row (child_columns n)) n.column.offsets n.column.values k) v.Null)
+    either k true = rw e (value_shown layout n.column.dictionary _ h)
+    either k false = null_shown layout
+
+-- ---- the data of lists and structs that are taken slot by slot
+
+-- the data of the first values
+pub data_front : (layout : Layout) (k : ℕ) (vs : List Value) → data_in layout (take k vs) ≤ data_in layout vs
+data_front layout zero vs = omega arith
+data_front layout (suc k) [] = omega arith
+data_front layout (suc k) (v ∷ vs) = let rest = data_front layout k vs in omega (arith, rest)
+
+-- the data of one list more
+pub items_next : (vs : List Value) (i : ℕ) → i < length vs
+    → data_in l.Lists (take (i + 1) vs) ≡ data_in l.Lists (take i vs) + length (c.items (get_or vs i Null))
+items_next vs i m =
+    let all = data_append l.Lists (take i vs) (get_or vs i Null ∷ []) in
+    let same = ap (data_in l.Lists) (take_more vs i Null m) in
+    omega (arith, all, same)
+
+-- ---- a fact of the values of two lists holds for each list
+
+pub all_front : (P : Value → Type 0) (vs ws : List Value) → AllByRecursion P (vs ++ ws) → AllByRecursion P vs
+all_front P [] ws h = tt
+all_front P (v ∷ vs) ws h = (h.0, all_front P vs ws h.1)
+
+pub all_behind : (P : Value → Type 0) (vs ws : List Value) → AllByRecursion P (vs ++ ws) → AllByRecursion P ws
+all_behind P [] ws h = h
+all_behind P (v ∷ vs) ws h = all_behind P vs ws h.1
+
+-- ---- columns whose values fit a field
 
 -- null fits the field
 abbrev pub MayBeNull : Field → Type 0

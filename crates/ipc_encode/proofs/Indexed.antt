@@ -15,7 +15,7 @@ use Rattle.ipc_model.specs.declared.layout.Layout.TheVariants as l
 use Rattle.ipc_model.specs.Layouts.{number_bytes}
 use Rattle.ipc_column.specs.Shapes.{Shape, bare, field, shape_of}
 use Rattle.ipc_encode.specs.declared.column_builder.ColumnBuilder.{ColumnBuilder}
-use Rattle.ipc_encode.specs.declared.node.Node.{Node}
+use Rattle.ipc_encode.specs.declared.tree.Node.{Node}
 use Rattle.ipc_encode.specs.Pieces.{Valid, Number}
 use Rattle.ipc_encode.specs.Pieces as p
 use Rattle.ipc_encode.specs.Bitmaps.{bitmap}
@@ -29,9 +29,8 @@ use Rattle.ipc_encode.specs.Numbers.{new_index}
 use Rattle.ipc_encode.specs.Indices.{InColumn, InColumns}
 use Rattle.ipc_encode.specs.Limits.{IsWithin}
 use Rattle.ipc_encode.specs.Built.{HoldColumns, IsColumn}
-use Rattle.ipc_encode.proofs.Adding.{joined_append}
+use Rattle.ipc_encode.proofs.Growing.{joined_append, IsAt, first}
 use Rattle.ipc_encode.proofs.Steps.{slots_push}
-use Rattle.ipc_encode.proofs.Siblings.{IsAt, first}
 use Rattle.ipc_encode.proofs.Sizes.{column_size}
 
 -- ---- the number of one value
@@ -51,13 +50,7 @@ flag_number f value = by (out-Value value)
 
     by : (w : Value-F Value) → is_set Valid (as_number (index_unless_null (f value) w)) ≡ not (is_null w)
     by Value-F.Null = rw null_out refl
-    by (Value-F.Bool truth) = some
-    by (Value-F.Int z) = some
-    by (Value-F.UInt n) = some
-    by (Value-F.Bytes bytes) = some
-    by (Value-F.Text text) = some
-    by (Value-F.List values) = some
-    by (Value-F.Struct values) = some
+    by _ = some
 
 -- ---- the numbers of values
 
@@ -100,14 +93,6 @@ validity_same f vs =
 -- the buffers of a column are as long as those of its values
 stored_size : (known : Numbering) (lay : Layout) (vs : List Value)
     → length (padded_bytes (column_buffers lay (written_values known lay vs))) ≡ length (padded_bytes (column_buffers lay vs))
-stored_size known l.Null vs = refl
-stored_size known l.Bits vs = refl
-stored_size known (l.Numbers bits signed) vs = refl
-stored_size known (l.FixedBytes width) vs = refl
-stored_size known (l.VariableBytes utf8) vs = refl
-stored_size known l.Lists vs = refl
-stored_size known l.Structs vs = refl
-stored_size known (l.FixedLists size) vs = refl
 stored_size known (l.Indices bits signed id) vs =
     let lay = l.Indices bits signed id in
     let ns = numbers_of (known id) vs in
@@ -116,6 +101,7 @@ stored_size known (l.Indices bits signed id) vs =
     ∙ (ap (λ (n : ℕ). column_length lay (length vs) n (values_length lay (length vs) (data_in lay ns))) (nulls_same (known id) vs)
     ∙ (ap (λ (n : ℕ). column_length lay (length vs) (nulls vs) (values_length lay (length vs) n)) (data_same bits signed id (known id) vs)
     ∙ sym (column_size lay vs))))
+stored_size known _ vs = refl
 
 three : (a b c : List (List ℕ)) → length (padded_bytes (a ++ (b ++ c))) ≡ length (padded_bytes a)
     + (length (padded_bytes b) + length (padded_bytes c))
@@ -174,13 +160,7 @@ one_agrees : (known others : Numbering) (id : ℤ) (value : Value) (w : Value-F 
     → (is_set Valid value ≡ true → known id value ≡ others id value) → index_unless_null (known id value) w
     ≡ index_unless_null (others id value) w
 one_agrees known others id value Value-F.Null e same = refl
-one_agrees known others id value (Value-F.Bool truth) e same = ap (λ (i : ℕ). Some i) (same (rw e refl))
-one_agrees known others id value (Value-F.Int z) e same = ap (λ (i : ℕ). Some i) (same (rw e refl))
-one_agrees known others id value (Value-F.UInt n) e same = ap (λ (i : ℕ). Some i) (same (rw e refl))
-one_agrees known others id value (Value-F.Bytes bytes) e same = ap (λ (i : ℕ). Some i) (same (rw e refl))
-one_agrees known others id value (Value-F.Text text) e same = ap (λ (i : ℕ). Some i) (same (rw e refl))
-one_agrees known others id value (Value-F.List values) e same = ap (λ (i : ℕ). Some i) (same (rw e refl))
-one_agrees known others id value (Value-F.Struct values) e same = ap (λ (i : ℕ). Some i) (same (rw e refl))
+one_agrees known others id value _ e same = ap (λ (i : ℕ). Some i) (same (rw e refl))
 
 module _ (known others : Numbering) where
   abbrev Same : IntBits → Bool → ℤ → Value → Type 0
@@ -196,14 +176,7 @@ module _ (known others : Numbering) where
 
   indices_agree : (lay : Layout) (vs : List Value) → InColumn Same lay vs → indices_in known lay vs ≡ indices_in others lay vs
   indices_agree (l.Indices bits signed id) vs h = values_agree id vs h
-  indices_agree l.Null vs h = refl
-  indices_agree l.Bits vs h = refl
-  indices_agree (l.Numbers bits signed) vs h = refl
-  indices_agree (l.FixedBytes width) vs h = refl
-  indices_agree (l.VariableBytes utf8) vs h = refl
-  indices_agree l.Lists vs h = refl
-  indices_agree l.Structs vs h = refl
-  indices_agree (l.FixedLists size) vs h = refl
+  indices_agree _ vs h = refl
 
   column_agrees : (limits : Limits) (lay : Layout) (vs : List Value) (column : ColumnBuilder) → InColumn Same lay vs
       → IsColumn known limits lay vs column → IsColumn others limits lay vs column

@@ -1,37 +1,46 @@
--- The slots of the children of a column that was read, where they are those that its slots lead to.
-use Rattle.std.proofs.Common.{◌≡◌, ◌∙◌, refl, sym, ap, subst, ℕ, zero, suc, ◌+◌, ◌-◌, ◌*◌, ◌<◌, ◌≤◌, Bool, true, false, cond}
-use Rattle.std.proofs.Common.{List, [], ◌∷◌, ◌++◌, length, map, get_or, Option, Some, None, arith}
-use Rattle.std.specs.Prelude.{slice_get, ◌&&◌}
-use Rattle.std.proofs.lemmas.Bool.{and_parts, false≢true}
+-- Lists and structs that use all slots of their children.
+use Rattle.std.proofs.Common.{◌≡◌, ◌∙◌, refl, sym, ap, subst, ℕ, zero, suc, ◌+◌, ◌-◌, ◌*◌, ◌<◌, ◌≤◌, Bool, true, false, cond, List, []}
+use Rattle.std.proofs.Common.{◌∷◌, ◌++◌, length, map, get_or, Option, Some, None, arith, inl, inr}
+use Rattle.std.proofs.lemmas.Bool.{and_parts, false≢true, cases_lt}
 use Rattle.std.proofs.lemmas.List.{append-nil}
 use Rattle.std.proofs.lemmas.Option.{none-some}
-use Rattle.ipc_model.specs.declared.value.Value.{Value, out-Value}
-use Rattle.ipc_model.specs.declared.value.Value.TheVariants as v
-use Rattle.ipc_model.specs.declared.value.Value.TheVariants.{Null}
+use Rattle.std.specs.Prelude.{slice_get, ◌&&◌, not}
 use Rattle.ipc_model.specs.declared.layout.Layout.{Layout}
 use Rattle.ipc_model.specs.declared.layout.Layout.TheVariants as l
-use Rattle.ipc_column.proofs.Lendings.{lent_offsets, lent_order}
-use Rattle.ipc_column.specs.declared.buffers.Buffers.{Buffers}
-use Rattle.ipc_column.specs.declared.ranges.ColumnRanges.{ColumnRanges}
-use Rattle.ipc_column.specs.Checks.{are_ascending, have_slots}
-use Rattle.ipc_column.specs.Columns.{Columns}
-use Rattle.ipc_column.specs.Lending.{AreBuffers}
-use Rattle.ipc_column.specs.Nested.{Nested, child_columns, slot_values}
-use Rattle.ipc_column.specs.Slots.{is_null, nested, nested_in}
-use Rattle.ipc_column.specs.Values.{first_of, is_valid, items, own_value, offset_position, row, value_of}
-use Rattle.ipc_column.specs.Views.{part_columns, column_of, children_of}
+use Rattle.ipc_model.specs.declared.value.Value.{Value, out-Value}
+use Rattle.ipc_model.specs.declared.value.Value.TheOpen.{Value-F}
+use Rattle.ipc_model.specs.declared.value.Value.TheVariants.{Null}
+use Rattle.ipc_model.specs.declared.value.Value.TheVariants as v
 use Rattle.ipc_column.proofs.Cells.{items_more}
+use Rattle.ipc_column.proofs.Lendings.{lent_offsets, lent_order}
 use Rattle.ipc_column.proofs.Parts.{children_out}
 use Rattle.ipc_column.proofs.Slices.{places}
 use Rattle.ipc_column.proofs.Slots.{bytes_from, order_from}
+use Rattle.ipc_column.specs.Checks.{are_ascending, have_slots}
+use Rattle.ipc_column.specs.Columns.{Columns}
+use Rattle.ipc_column.specs.Lending.{AreBuffers}
+use Rattle.ipc_column.specs.Nested.{Nested, child_columns, slot_values, only_column}
+use Rattle.ipc_column.specs.Rules.{IsText, SpellsTexts}
+use Rattle.ipc_column.specs.Shapes.{Shape, bare, field}
+use Rattle.ipc_column.specs.Slots.{is_null, nested, nested_in}
+use Rattle.ipc_column.specs.Values.{first_of, is_valid, items, own_value, offset_position, row, value_of}
+use Rattle.ipc_column.specs.Views.{part_columns, column_of, children_of}
+use Rattle.ipc_column.specs.declared.buffers.Buffers.{Buffers}
+use Rattle.ipc_column.specs.declared.ranges.ColumnRanges.{ColumnRanges}
+use Rattle.ipc_encode.specs.Built.{AreNodes, IsNode}
 use Rattle.ipc_encode.specs.Cells.{all_items, all_parts, cell, is_set, items_in, struct_member, part_in}
+use Rattle.ipc_encode.specs.Cells as cells
 use Rattle.ipc_encode.specs.Marks.{MarksNulls}
 use Rattle.ipc_encode.specs.Pieces.{Valid}
-use Rattle.ipc_encode.specs.Cells as c
-use Rattle.ipc_encode.proofs.LentBuffers.{buffers_at, list_out, slot_count, slot_is, struct_out}
-use Rattle.ipc_encode.proofs.LentContents.{place_is, start_of}
+use Rattle.ipc_encode.specs.WholeColumns.{AreFullColumns, IsFullColumn}
+use Rattle.ipc_encode.specs.declared.column_builder.ColumnBuilder.{ColumnBuilder}
+use Rattle.ipc_encode.specs.declared.tree.Node.{Node}
+use Rattle.ipc_encode.proofs.Growing.{IsAt}
+use Rattle.ipc_encode.proofs.LentBuffers.{buffers_at, list_out, slot_count, slot_is, struct_out, place_is, start_of, own_set}
 use Rattle.ipc_encode.proofs.NumberSlots.{null_out}
 use Rattle.ipc_encode.proofs.Steps.{below_append}
+
+-- ---- the slots of the children of a column that was read, where they are those that its slots lead to
 
 -- ---- children
 
@@ -91,7 +100,7 @@ items_join f a (suc m) n =
     rw (size, offset_position) (ap (λ (vs : List Value). f a ∷ vs) (items_join f (a + 1) m n))
 
 -- lists whose items are runs one behind another have the items of one run
-runs_join : (f g : ℕ → Value) (at : ℕ → ℕ) (n : ℕ) → ((i : ℕ) → i < n → c.items (f i) ≡ items g (at i) (at (i + 1) - at i))
+runs_join : (f g : ℕ → Value) (at : ℕ → ℕ) (n : ℕ) → ((i : ℕ) → i < n → cells.items (f i) ≡ items g (at i) (at (i + 1) - at i))
     → ((i : ℕ) → i < n → at i ≤ at (i + 1))
     → (at 0 ≤ at n) × (all_items (items f 0 n) ≡ items g (at 0) (at n - at 0))
 runs_join f g at zero each rise = (
@@ -103,7 +112,7 @@ runs_join f g at (suc n) each rise =
     let more : n + 1 ≡ suc n = omega arith in
     let step : at n ≤ at (suc n) = subst (λ (k : ℕ). at n ≤ at k) more (rise n (omega arith)) in
     let here : 0 + n ≡ n = omega arith in
-    let next : c.items (f n) ≡ items g (at n) (at (suc n) - at n) =
+    let next : cells.items (f n) ≡ items g (at n) (at (suc n) - at n) =
     each n (omega arith) ∙ ap (λ (k : ℕ). items g (at n) (at k - at n)) more in
     let size : at n - at 0 + (at (suc n) - at n) ≡ at (suc n) - at 0 = omega (arith, before.0, step) in
     let offset_position : at 0 + (at n - at 0) ≡ at n = omega (arith, before.0) in (
@@ -111,8 +120,8 @@ runs_join f g at (suc n) each rise =
       ap (λ (k : ℕ). all_items (items f 0 k)) (sym more)
           ∙ (ap all_items (items_more f 0 n ∙ ap (λ (k : ℕ). items f 0 n ++ f k ∷ []) here)
           ∙ (below_append l.Lists (items f 0 n) (f n ∷ []) 0
-          ∙ (ap (λ (vs : List Value). all_items (items f 0 n) ++ vs) (append-nil (c.items (f n)))
-          ∙ (ap (λ (vs : List Value). vs ++ c.items (f n)) before.1
+          ∙ (ap (λ (vs : List Value). all_items (items f 0 n) ++ vs) (append-nil (cells.items (f n)))
+          ∙ (ap (λ (vs : List Value). vs ++ cells.items (f n)) before.1
           ∙ (ap (λ (vs : List Value). items g (at 0) (at n - at 0) ++ vs)
           (next ∙ ap (λ (k : ℕ). items g k (at (suc n) - at n)) (sym offset_position))
           ∙ (sym (items_join g (at 0) (at n - at 0) (at (suc n) - at n))
@@ -159,10 +168,10 @@ module _ (s : Nested) (b : Buffers) (h : AreBuffers s b) (e : b.layout ≡ l.Lis
 
     -- the items of a slot are a run of the first child's
     list_at : (i : ℕ) → i < length (slot_values s)
-        → c.items (value_of (row (child_columns s)) s.column i)
+        → cells.items (value_of (row (child_columns s)) s.column i)
         ≡ items (λ j. first_of (row (child_columns s) j)) (offset_position b.offsets.now i)
         (offset_position b.offsets.now (i + 1) - offset_position b.offsets.now i)
-    list_at i m = ap c.items (sym (slot_is s i m) ∙ buffers_at s b h i m) ∙ either (is_valid b.validity.now i) refl
+    list_at i m = ap cells.items (sym (slot_is s i m) ∙ buffers_at s b h i m) ∙ either (is_valid b.validity.now i) refl
       where
         g : ℕ → Value
         g j = first_of (row (child_columns s) j)
@@ -172,7 +181,7 @@ module _ (s : Nested) (b : Buffers) (h : AreBuffers s b) (e : b.layout ≡ l.Lis
         none e = ap (λ (k : ℕ). items g (offset_position b.offsets.now i) k) e
 
         own : (layout : Layout) → layout ≡ l.Lists
-            → c.items (own_value layout s.column.dictionary (row (child_columns s)) b.offsets.now b.values.now i)
+            → cells.items (own_value layout s.column.dictionary (row (child_columns s)) b.offsets.now b.values.now i)
             ≡ items (λ j. first_of (row (child_columns s) j)) (offset_position b.offsets.now i)
             (offset_position b.offsets.now (i + 1) - offset_position b.offsets.now i)
         own layout e =
@@ -181,7 +190,7 @@ module _ (s : Nested) (b : Buffers) (h : AreBuffers s b) (e : b.layout ≡ l.Lis
             rw e (ap items_in (list_out run))
 
         either : (valid : Bool) → is_valid b.validity.now i ≡ valid
-            → c.items (cond valid (own_value b.layout s.column.dictionary (row (child_columns s)) b.offsets.now b.values.now i) v.Null)
+            → cells.items (cond valid (own_value b.layout s.column.dictionary (row (child_columns s)) b.offsets.now b.values.now i) v.Null)
             ≡ items (λ j. first_of (row (child_columns s) j)) (offset_position b.offsets.now i)
             (offset_position b.offsets.now (i + 1) - offset_position b.offsets.now i)
         either true e' = own b.layout e
@@ -277,3 +286,190 @@ shared_null own marks vs i m marked among null = either (is_valid own i) refl
     either : (valid : Bool) → is_valid own i ≡ valid → get_or vs i Null ≡ Null
     either true e = absurd (false≢true (sym null ∙ among e))
     either false e = clear_only (get_or vs i Null) (marked.each i m ∙ e)
+
+-- ---- the texts of children whose slots are those that the slots of their column lead to
+
+-- a slot of a column that spells its texts does so in child k
+pub child_spells : (s child : Nested) (k j : ℕ) → slice_get (nested_in s) k ≡ Some child → SpellsTexts (child_columns s) j → SpellsTexts
+    (only_column child) j
+child_spells s child k j e h = at s.children k e h
+  where
+    one : (p : ColumnRanges)
+        → (is_valid (column_of s.body p).validity j ≡ true
+        → IsText (column_of s.body p).layout (SpellsTexts (children_of s.body p)) (column_of s.body p).offsets
+        (column_of s.body p).values j)
+        → SpellsTexts (only_column (nested s.body p)) j
+    one p h = (
+      λ valid. subst (λ (cs : Columns). IsText (column_of s.body p).layout (SpellsTexts cs) (column_of s.body p).offsets
+          (column_of s.body p).values j)
+          (children_out s.body p) (h valid),
+      tt,
+    )
+
+    at : (ps : List ColumnRanges) (k : ℕ) → slice_get (map (nested s.body) ps) k ≡ Some child → SpellsTexts (part_columns s.body ps) j
+        → SpellsTexts (only_column child) j
+    at [] k e h = absurd (none-some child e)
+    at (p ∷ ps) zero e h = subst (λ (n : Nested). SpellsTexts (only_column n) j) (some_same (nested s.body p) child e) (one p h.0)
+    at (p ∷ ps) (suc k) e h = at ps k e h.1
+
+-- the step of a stair on which a number stands
+pub record Stands (at : ℕ → ℕ) (n j : ℕ) : Type 0 where
+  pub step : ℕ
+  pub within : step < n
+  pub from : at step ≤ j
+  pub to : j < at (step + 1)
+
+pub stands : (at : ℕ → ℕ) (n j : ℕ) → at 0 ≤ j → j < at n → Stands at n j
+stands at zero j low high = absurd (omega arith)
+stands at (suc n) j low high = elim (cases_lt j (at n)) as (λ _. Stands at (suc n) j) [
+  | inl under ↦ let s = stands at n j low under in record {
+    step = s.step;
+    within = let m = s.within in omega
+        (arith, m);
+    from = s.from;
+    to = s.to;
+  }
+  | inr over ↦ record {
+    step = n;
+    within = omega arith;
+    from = over;
+    to = subst (λ (k : ℕ). j < at k) (let k : suc n ≡ n + 1 = omega arith in k) high;
+  }
+]
+
+-- the slots of the child of lists that have all of them
+pub list_texts : (s child : Nested) (n j : ℕ) → slice_get (nested_in s) 0 ≡ Some child → s.column.layout ≡ l.Lists
+    → ((i : ℕ) → i < n → SpellsTexts (only_column s) i)
+    → ((i : ℕ) → i < n → (is_valid s.column.validity i ≡ true → ⊥) → offset_position s.column.offsets (i + 1)
+    ≡ offset_position s.column.offsets i)
+    → offset_position s.column.offsets 0 ≡ 0 → j < offset_position s.column.offsets n → SpellsTexts (only_column child) j
+list_texts s child n j is laid spelled empty first last =
+    let o = s.column.offsets in
+    let at = stands (offset_position o) n j (omega (arith, first)) last in
+    either at (is_valid s.column.validity at.step) refl
+  where
+    either : (at : Stands (offset_position s.column.offsets) n j) (valid : Bool) → is_valid s.column.validity at.step ≡ valid → SpellsTexts
+        (only_column child) j
+    either at true e = child_spells s child 0 j is ((rw laid at ((spelled at.step at.within).0 e)) j at.from at.to)
+    either at false e =
+        let same = empty at.step at.within (λ valid. absurd (cc)) in
+        let from = at.from in
+        let to = at.to in
+        absurd (omega (arith, same, from, to))
+
+not_true : (b : Bool) → (b ≡ true → ⊥) → b ≡ false
+not_true true h = absurd (h refl)
+not_true false h = refl
+
+-- the same by the buffers
+module _ (s : Nested) (b : Buffers) (h : AreBuffers s b) (e : b.layout ≡ l.Lists) (some : 0 < length (slot_values s))
+    (small : (k : ℕ) → get_or b.offsets.now k 0 < 256)
+    (empty : (i : ℕ) → i < length (slot_values s) → is_valid b.validity.now i ≡ false
+    → start_of b.offsets.now (i + 1) ≡ start_of b.offsets.now i) where
+  own_place : (i : ℕ) → i ≤ length (slot_values s) → offset_position s.column.offsets i ≡ start_of b.offsets.now i
+  own_place i m = ap (λ (o : List ℕ). offset_position o i) (sym h.offsets) ∙ list_place s b h e some small empty i m
+
+  pub list_spells : (child : Nested) → slice_get (nested_in s) 0 ≡ Some child → start_of b.offsets.now 0 ≡ 0
+      → start_of b.offsets.now (length (slot_values s)) ≡ length (slot_values child)
+      → ((i : ℕ) → i < length (slot_values s) → SpellsTexts (only_column s) i)
+      → (j : ℕ) → j < length (slot_values child) → SpellsTexts (only_column child) j
+  list_spells child is first last spelled j m =
+      let end = own_place (length (slot_values s)) (omega arith) in
+      list_texts s child (length (slot_values s)) j is (list_laid s b h e some) spelled
+      (λ i k null. own_place (i + 1) (omega (arith, k))
+      ∙ (empty i k (ap (λ (v : List ℕ). is_valid v i) h.validity ∙ not_true (is_valid s.column.validity i) null)
+      ∙ sym (own_place i (omega (arith, k)))))
+      (own_place 0 (omega arith) ∙ first) (omega (arith, end, last, m))
+
+-- nothing is asked of a slot that shows null
+nothing_spelled : (layout : Layout) (d : List Value) (under : ℕ → List Value) (child_columns : ℕ → Type 0) (o w : List ℕ) (i : ℕ)
+    → is_set Valid (own_value layout d under o w i) ≡ false → IsText layout child_columns o w i
+nothing_spelled (l.VariableBytes utf8) d under child_columns o w i h =
+    absurd (false≢true (sym h ∙ own_set (l.VariableBytes utf8) d under o w i (λ e. absurd (cc), λ bits signed id e. absurd (cc))))
+nothing_spelled l.Lists d under child_columns o w i h =
+    absurd (false≢true (sym h ∙ own_set l.Lists d under o w i (λ e. absurd (cc), λ bits signed id e. absurd (cc))))
+nothing_spelled (l.FixedLists size) d under child_columns o w i h =
+    absurd (false≢true (sym h ∙ own_set (l.FixedLists size) d under o w i (λ e. absurd (cc), λ bits signed id e. absurd (cc))))
+nothing_spelled l.Structs d under child_columns o w i h =
+    absurd (false≢true (sym h ∙ own_set l.Structs d under o w i (λ e. absurd (cc), λ bits signed id e. absurd (cc))))
+nothing_spelled _ d under child_columns o w i h = tt
+
+pub null_spells : (child : Nested) (j : ℕ) → j < length (slot_values child) → get_or (slot_values child) j Null ≡ Null
+    → SpellsTexts (only_column child) j
+null_spells child j m null = (
+  λ valid. nothing_spelled child.column.layout child.column.dictionary (row (child_columns child)) (SpellsTexts (child_columns child))
+      child.column.offsets
+      child.column.values j
+      (ap (is_set Valid) (sym (slot_is child j m ∙ rw valid refl) ∙ null) ∙ ap (λ (f : Value-F Value). not (cells.is_null f)) null_out),
+  tt,
+)
+
+-- the slots of a child of structs, which are null where these are
+pub struct_texts : (s child : Nested) (k j : ℕ) → slice_get (nested_in s) k ≡ Some child → s.column.layout ≡ l.Structs
+    → SpellsTexts (only_column s) j → j < length (slot_values child)
+    → ((is_valid s.column.validity j ≡ true → ⊥) → get_or (slot_values child) j Null ≡ Null) → SpellsTexts (only_column child) j
+struct_texts s child k j is laid spelled m null = either (is_valid s.column.validity j) refl
+  where
+    either : (valid : Bool) → is_valid s.column.validity j ≡ valid → SpellsTexts (only_column child) j
+    either true e = child_spells s child k j is (rw laid at (spelled.0 e))
+    either false e = null_spells child j m (null (λ valid. absurd (cc)))
+
+-- the same by the buffers
+pub struct_spells : (s child : Nested) (b : Buffers) (k : ℕ) → AreBuffers s b → b.layout ≡ l.Structs → slice_get
+    (nested_in s) k ≡ Some child
+    → length (slot_values s) ≡ length (slot_values child)
+    → ((i : ℕ) → i < length (slot_values s) → is_valid b.validity.now i ≡ false → get_or (slot_values child) i Null ≡ Null)
+    → ((i : ℕ) → i < length (slot_values s) → SpellsTexts (only_column s) i)
+    → (j : ℕ) → j < length (slot_values child) → SpellsTexts (only_column child) j
+struct_spells s child b k h e is size empty spelled j m =
+    let here : j < length (slot_values s) = omega (arith, size, m) in
+    struct_texts s child k j is (sym h.layout ∙ e) (spelled j here) m
+    (λ null. empty j here (ap (λ (v : List ℕ). is_valid v j) h.validity ∙ not_true (is_valid s.column.validity j) null))
+
+-- ---- columns that lie whole, one by one
+
+-- the node of a field
+pub node_at : (P : Layout → List Value → ColumnBuilder → Type 0) (i : ℕ) (shape : Shape) (nodes : List Node) (given : ℕ → List Value)
+    (d : Node)
+    (l : Layout) (c : Shape)
+    → IsAt i shape l c → AreNodes P shape nodes given → IsNode P l c (get_or nodes i d) (given i)
+node_at P i bare nodes given d l c at h = absurd at
+node_at P i (field k e rest) [] given d l c at h = absurd h
+node_at P zero (field k e rest) (m ∷ ms) given d l c at h =
+    subst (λ (s : Shape). IsNode P l s m (given 0)) at.1 (subst (λ (x : Layout). IsNode P x e m (given 0)) at.0 h.0)
+node_at P (suc i) (field k e rest) (m ∷ ms) given d l c at h = node_at P i rest ms (λ j. given (suc j)) d l c at h.1
+
+-- the column that was read for a field
+pub whole_at : (i : ℕ) (shape : Shape) (views : List Nested) (given : ℕ → List Value) (l : Layout) (c : Shape) (v : Nested)
+    → IsAt i shape l c → slice_get views i ≡ Some v → AreFullColumns shape views given → IsFullColumn l c v (given i)
+whole_at i bare views given l c v at is h = absurd at
+whole_at i (field k e rest) [] given l c v at is h = absurd h
+whole_at zero (field k e rest) (w ∷ ws) given l c v at is h =
+    subst (λ (n : Nested). IsFullColumn l c n (given 0)) (some_same w v is)
+    (subst (λ (s : Shape). IsFullColumn l s w (given 0)) at.1 (subst (λ (x : Layout). IsFullColumn x e w (given 0)) at.0 h.0))
+whole_at (suc i) (field k e rest) (w ∷ ws) given l c v at is h = whole_at i rest ws (λ j. given (suc j)) l c v at is h.1
+
+-- columns are whole where each of them is, and there is one for each node
+pub whole_all : (P : Layout → List Value → ColumnBuilder → Type 0) (shape : Shape) (nodes : List Node) (views : List Nested)
+    (before given : ℕ → List Value)
+    → AreNodes P shape nodes before → length nodes ≡ length views
+    → ((i : ℕ) → i < length nodes → (l : Layout) (c : Shape) (v : Nested) → IsAt i shape l c → slice_get views i ≡ Some v
+    → IsFullColumn l c v (given i))
+    → AreFullColumns shape views given
+whole_all P bare [] [] before given h size each = tt
+whole_all P bare [] (v ∷ vs) before given h size each = absurd (omega arith)
+whole_all P bare (m ∷ ms) views before given h size each = absurd h
+whole_all P (field l c rest) [] views before given h size each = absurd h
+whole_all P (field l c rest) (m ∷ ms) [] before given h size each = absurd (omega arith)
+whole_all P (field l c rest) (m ∷ ms) (v ∷ vs) before given h size each = (
+  each 0 (omega arith) l c v (refl, refl) refl,
+  whole_all P rest ms vs (λ j. before (suc j)) (λ j. given (suc j)) h.1 (omega arith)
+      (λ i m k e w at is. each (suc i) (omega arith) k e w at is),
+)
+
+-- what holds of the first numbers and of the next
+pub first_and_next : (Q : ℕ → Type 0) (i : ℕ) → ((j : ℕ) → j < i → Q j) → Q i → (j : ℕ) → j < i + 1 → Q j
+first_and_next Q i before next j m = elim (cases_lt j i) as (λ _. Q j) [
+  | inl under ↦ before j under
+  | inr over ↦ subst Q (let same : i ≡ j = omega (arith, m, over) in same) next
+]

@@ -1,55 +1,56 @@
--- What is read back of the buffers of a column, buffer by buffer.
-use Rattle.std.proofs.Common.{◌≡◌, ◌∙◌, refl, sym, ap, subst, ℕ, zero, suc, ◌+◌, ◌-◌, ◌*◌, ◌/◌, ◌%◌, ◌^◌, ◌<◌, ◌≤◌, Bool, true, false, cond}
-use Rattle.std.proofs.Common.{List, [], ◌∷◌, ◌++◌, length, take, take_all, drop, get_or, append_assoc, length-append, arith}
-use Rattle.std.specs.Prelude.{◌==◌, ℤ, pos, unsigned_abs, ◌≤ℤ◌, slice_range, ⊤}
-use Rattle.std.specs.Int.{w32, cast_signed, bytes_low_first}
-use Rattle.std.specs.List.{AllByRecursion}
-use Rattle.std.specs.Str.{IsUtf8}
+-- The parts of a column that is read back: its bits, lengths and indices.
+use Rattle.std.proofs.Common.{◌≡◌, ◌∙◌, refl, sym, ap, subst, ℕ, zero, suc, ◌+◌, ◌-◌, ◌*◌, ◌/◌, ◌%◌, ◌^◌, ◌<◌, ◌≤◌, Bool, true, false}
+use Rattle.std.proofs.Common.{cond, List, [], ◌∷◌, ◌++◌, length, take, take_all, drop, get_or, append_assoc, length-append, arith}
 use Rattle.std.proofs.Math.Nat.{mod-eq_of_lt}
 use Rattle.std.proofs.lemmas.Bool.{eqb-true, ne_eqb}
-use Rattle.std.proofs.lemmas.Int.{ints, to_z_pos}
+use Rattle.std.proofs.lemmas.Int.{ints, to_z_pos, to_z-of_z}
 use Rattle.std.proofs.lemmas.List.{length-replicate}
-use Rattle.ipc_scalar.specs.Bytes.{num}
+use Rattle.std.proofs.lemmas.Option.{get_or_from_slice_get}
+use Rattle.std.specs.Int.{w32, cast_signed, bytes_low_first, w8, w16, w64, cast_unsigned}
+use Rattle.std.specs.List.{AllByRecursion}
+use Rattle.std.specs.Prelude.{◌==◌, ℤ, pos, unsigned_abs, ◌≤ℤ◌, slice_range, ⊤, negsuc, not}
+use Rattle.std.specs.Str.{IsUtf8}
 use Rattle.ipc_scalar.proofs.Places.{length_low_bytes, num_low}
+use Rattle.ipc_scalar.specs.Bytes.{num, clear}
+use Rattle.ipc_model.specs.Layouts.{number_bytes, has_validity}
 use Rattle.ipc_model.specs.Ranges.{width, IsSignedWithin, IsUnsignedWithin}
+use Rattle.ipc_model.specs.declared.layout.Layout.{Layout}
+use Rattle.ipc_model.specs.declared.layout.Layout.TheVariants as l
 use Rattle.ipc_model.specs.declared.schema.IntBits.{IntBits}
+use Rattle.ipc_model.specs.declared.schema.IntBits.TheVariants.{B8, B16, B32, B64}
 use Rattle.ipc_model.specs.declared.value.Value.{Value, out-Value}
 use Rattle.ipc_model.specs.declared.value.Value.TheOpen.{Value-F}
 use Rattle.ipc_model.specs.declared.value.Value.TheVariants as v
-use Rattle.ipc_model.specs.declared.layout.Layout.{Layout}
-use Rattle.ipc_model.specs.declared.layout.Layout.TheVariants as l
-use Rattle.ipc_model.specs.Layouts.{number_bytes}
 use Rattle.ipc_column.specs.Columns.{Column}
-use Rattle.ipc_column.specs.Dictionaries.{Dictionaries}
+use Rattle.ipc_column.specs.Dictionaries.{Dictionaries, values_for}
+use Rattle.ipc_column.specs.Rules.{AreOffsets, HoldValues, HoldOffsets, IsLongEnough, HasWholeBitmap, CountsNulls}
 use Rattle.ipc_column.specs.Shapes.{dictionary_at}
-use Rattle.ipc_column.specs.Rules.{AreOffsets}
-use Rattle.ipc_column.specs.Values.{is_valid, offset, offset_position, between}
-use Rattle.ipc_encode.specs.Pieces.{Valid, True}
-use Rattle.ipc_encode.specs.Pieces.{Run, ValueSlot}
-use Rattle.ipc_encode.specs.Pieces.{Number, Fixed, Content}
-use Rattle.ipc_encode.specs.Pieces as p
+use Rattle.ipc_column.specs.Values.{is_valid, offset, offset_position, between, signed_at, value_at, number_in}
 use Rattle.ipc_encode.specs.Bitmaps.{bitmap}
-use Rattle.ipc_encode.specs.Cells.{is_set, flags, nulls, number_bits, content, fixed_bytes, SpellsOut}
-use Rattle.ipc_encode.specs.Cells.{slot_bytes, slots, extent, ends, offsets, items, all_items}
 use Rattle.ipc_encode.specs.Buffers.{piece_bytes}
+use Rattle.ipc_encode.specs.Cells.{is_set, flags, nulls, number_bits, content, fixed_bytes, SpellsOut, slot_bytes, slots, extent, ends}
+use Rattle.ipc_encode.specs.Cells.{offsets, items, all_items, is_null}
 use Rattle.ipc_encode.specs.Columns.{validity_bytes, validity_in, offsets_in}
-use Rattle.ipc_encode.specs.Numbers.{Numbering, numbers_of}
-use Rattle.ipc_encode.proofs.Bits.{length_bytes, bit_of, flags_length}
+use Rattle.ipc_encode.specs.Indices.{InColumn, FindsIndex, IsIndexWithin}
+use Rattle.ipc_encode.specs.Numbers.{Numbering, numbers_of, index_unless_null, as_number}
+use Rattle.ipc_encode.specs.Pieces.{Valid, True, Run, ValueSlot, Number, Fixed, Content}
+use Rattle.ipc_encode.specs.Pieces as p
+use Rattle.ipc_encode.proofs.Bits.{length_bytes, bit_of, flags_length, clear_is}
+use Rattle.ipc_encode.proofs.Indexed.{numbers_length, number_out, number_at}
 use Rattle.ipc_encode.proofs.Ranges.{cut_behind}
+
+-- ---- what is read back of the buffers of a column, buffer by buffer
 
 -- ---- a column as it is written
 
 -- the bytes of the values in a column as it is written: a column of indices has their numbers
 abbrev pub written_values : Numbering → Layout → List Value → List ℕ
 written_values known (l.Indices bits signed id) vs = slots (Number bits) (numbers_of (known id) vs)
-written_values known l.Null vs = []
 written_values known l.Bits vs = bitmap (flags True vs)
 written_values known (l.Numbers bits signed) vs = slots (Number bits) vs
 written_values known (l.FixedBytes width) vs = slots (Fixed width) vs
 written_values known (l.VariableBytes utf8) vs = slots Content vs
-written_values known l.Lists vs = []
-written_values known l.Structs vs = []
-written_values known (l.FixedLists size) vs = []
+written_values known _ vs = []
 
 -- the column of this layout that is written for these values, under the dictionaries in force
 abbrev pub column_of : Dictionaries → Numbering → Layout → List Value → Column
@@ -339,3 +340,156 @@ pub spelled : (n : ℕ) (w : Value-F Value) (v : Value) → out-Value v ≡ w �
 spelled n Value-F.Null v e h text s = absurd (let f : is_set Valid v ≡ false = rw e refl in cc)
 spelled n (Value-F.Text bytes) v e h text s = rw e text
 spelled n _ v e h text s = absurd h
+
+-- ---- how long the buffers of a column are, and how many nulls they count
+
+-- ---- the facts of a column
+
+-- the buffers that are written are long enough for their slots
+pub long_enough : (m : Dictionaries) (known : Numbering) (l : Layout) (n : ℕ) (vs : List Value) → AllHeld l n vs
+    → IsLongEnough (column_of m known l vs)
+long_enough m known lay n vs h = record { bitmap = bitmap_there lay; values = values_there lay h; offsets = offsets_there lay }
+  where
+    some : 0 < length (validity_bytes vs) → (length vs + 7) / 8 ≤ length (validity_bytes vs)
+    some = validity_cases (λ bytes. 0 < length bytes → (length vs + 7) / 8 ≤ length bytes) vs (λ none h. absurd (omega arith))
+        (λ h. let e = bitmap_length vs in omega (arith, e))
+
+    bitmap_there : (l : Layout) → 0 < length (validity_in l vs) → (length vs + 7) / 8 ≤ length (validity_in l vs)
+    bitmap_there l.Null h = absurd (omega arith)
+    bitmap_there _ h = some h
+
+    values_there : (l : Layout) → AllHeld l n vs → HoldValues l (length vs) (length (written_values known l vs))
+    values_there l.Bits h = let e = length_bytes ((length (flags True vs) + 7) / 8) (flags True vs) in let f =
+        flags_length True vs in omega (arith, e, f)
+    values_there (l.Numbers bits signed) h = let e =
+        wide_length (Number bits) (number_bytes bits) vs (numbers_wide bits vs) in omega (arith, e)
+    values_there (l.Indices bits signed id) h = let e : length (slots (Number bits) (numbers_of (known id) vs)) ≡ number_bytes bits *
+        length vs =
+        wide_length (Number bits) (number_bytes bits) (numbers_of (known id) vs) (numbers_wide bits (numbers_of (known id) vs))
+        ∙ ap (λ (n : ℕ). number_bytes bits * n) (numbers_length (known id) vs) in omega (arith, e)
+    values_there (l.FixedBytes width) h = let e = wide_length (Fixed width) width vs (fixed_wide width n vs h) in omega (arith, e)
+    values_there _ h = tt
+
+    offsets_there : (l : Layout) → HoldOffsets l (length vs) (length (offsets_in l vs))
+    offsets_there l.Lists = λ some. let e = ends_length p.Items 0 vs in omega (arith, e)
+    offsets_there (l.VariableBytes utf8) = λ some. let e = ends_length p.Bytes 0 vs in omega (arith, e)
+    offsets_there _ = tt
+
+-- the null count that is written is the number of the bitmap's clear bits
+pub counts_nulls : (m : Dictionaries) (known : Numbering) (l : Layout) (n : ℕ) (vs : List Value) → AllHeld l n vs
+    → CountsNulls (column_of m known l vs)
+counts_nulls m known lay n vs h = record { with_bitmap = there lay; without_bitmap = absent lay h }
+  where
+    some : 0 < length (validity_bytes vs) → nulls vs ≡ clear (validity_bytes vs) (length vs)
+    some = validity_cases (λ bytes. 0 < length bytes → nulls vs ≡ clear bytes (length vs)) vs (λ none h. absurd (omega arith))
+        (λ h. sym (clear_is vs v.Null))
+
+    none : length (validity_bytes vs) ≡ 0 → nulls vs ≡ 0
+    none = validity_cases (λ bytes. length bytes ≡ 0 → nulls vs ≡ 0) vs (λ none h. none)
+        (λ h. let e = bitmap_length vs in let m = nulls_most vs in omega (arith, e, h, m))
+
+    there : (l : Layout) → has_validity l ≡ true → 0 < length (validity_in l vs) → HasWholeBitmap (column_of m known l vs)
+        → nulls vs ≡ clear (validity_in l vs) (length vs)
+    there l.Null e h b = absurd (omega arith)
+    there _ e h b = some h
+
+    absent : (l : Layout) → AllHeld l n vs → has_validity l ≡ true → length (validity_in l vs) ≡ 0 → nulls vs ≡ 0
+    absent l.Null h e z = absurd (cc)
+    absent _ h e z = none z
+
+-- ---- what is read back of numbers, and of the numbers of a column of indices
+
+-- a number in its range is what its low bytes say
+pub number_is : (bits : IntBits) (n : ℕ) → IsUnsignedWithin (width bits) n → n % 256 ^ number_bytes bits ≡ n
+number_is B8 n h = mod-eq_of_lt h
+number_is _ n h = mod-eq_of_lt h
+
+-- the low bits of a number in two's complement
+pub signed_is : (bits : IntBits) (b : List ℕ) (p : ℕ) (z : ℤ) → IsSignedWithin (width bits) z
+    → num b p (number_bytes bits) ≡ cast_unsigned w64 z % 256 ^ number_bytes bits → signed_at bits b p ≡ z
+signed_is B8 b p (pos n) h e =
+    let small : n < 128 = omega (arith, ints, h.1) in
+    let low : n % 256 ≡ n = mod-eq_of_lt (omega (arith, small)) in
+    ap (cast_signed w8) (e ∙ low) ∙ to_z-of_z w8 (pos n) (omega (arith, ints, small))
+signed_is B8 b p (negsuc n) h e =
+    let small : n < 128 = omega (arith, ints, h.0) in
+    let low : (18446744073709551616 - suc n) % 256 ≡ 256 - suc n = omega (arith, small) in
+    ap (cast_signed w8) (e ∙ low) ∙ to_z-of_z w8 (negsuc n) (omega (arith, ints, small))
+signed_is B16 b p (pos n) h e =
+    let small : n < 32768 = omega (arith, ints, h.1) in
+    let low : n % 65536 ≡ n = mod-eq_of_lt (omega (arith, small)) in
+    ap (cast_signed w16) (e ∙ low) ∙ to_z-of_z w16 (pos n) (omega (arith, ints, small))
+signed_is B16 b p (negsuc n) h e =
+    let small : n < 32768 = omega (arith, ints, h.0) in
+    let low : (18446744073709551616 - suc n) % 65536 ≡ 65536 - suc n = omega (arith, small) in
+    ap (cast_signed w16) (e ∙ low) ∙ to_z-of_z w16 (negsuc n) (omega (arith, ints, small))
+signed_is B32 b p (pos n) h e =
+    let small : n < 2147483648 = omega (arith, ints, h.1) in
+    let low : n % 4294967296 ≡ n = mod-eq_of_lt (omega (arith, small)) in
+    ap (cast_signed w32) (e ∙ low) ∙ to_z-of_z w32 (pos n) (omega (arith, ints, small))
+signed_is B32 b p (negsuc n) h e =
+    let small : n < 2147483648 = omega (arith, ints, h.0) in
+    let low : (18446744073709551616 - suc n) % 4294967296 ≡ 4294967296 - suc n = omega (arith, small) in
+    ap (cast_signed w32) (e ∙ low) ∙ to_z-of_z w32 (negsuc n) (omega (arith, ints, small))
+signed_is B64 b p (pos n) h e =
+    let small : n < 9223372036854775808 = omega (arith, ints, h.1) in
+    let low : n % 18446744073709551616 ≡ n = mod-eq_of_lt (omega (arith, small)) in
+    ap (cast_signed w64) (e ∙ low) ∙ to_z-of_z w64 (pos n) (omega (arith, ints, small))
+signed_is B64 b p (negsuc n) h e =
+    let small : n < 9223372036854775808 = omega (arith, ints, h.0) in
+    let low : (18446744073709551616 - suc n) % 18446744073709551616 ≡ 18446744073709551616 - suc n = omega (arith, small) in
+    ap (cast_signed w64) (e ∙ low) ∙ to_z-of_z w64 (negsuc n) (omega (arith, ints, small))
+
+-- what is asked of each value in a column of indices is true of the i-th
+pub found_at : (Asked : IntBits → Bool → ℤ → Value → Type 0) (bits : IntBits) (signed : Bool) (id : ℤ) (vs : List Value) (i : ℕ)
+    → i < length vs → InColumn Asked (l.Indices bits signed id) vs
+    → is_set Valid (get_or vs i v.Null) ≡ true → Asked bits signed id (get_or vs i v.Null)
+found_at Asked bits signed id vs i k h =
+    each_at (λ value. is_set Valid value ≡ true → Asked bits signed id value) vs i v.Null h k
+
+-- the number in the slot of a value that isn't null is its index
+pub number_of_slot : (f : Value → ℕ) (vs : List Value) (i : ℕ) (w : Value-F Value) → i < length vs
+    → out-Value (get_or vs i v.Null) ≡ w → is_null w ≡ false
+    → number_bits (get_or (numbers_of f vs) i v.Null) ≡ f (get_or vs i v.Null)
+number_of_slot f vs i w k e valid =
+    ap number_bits (number_at f vs i k ∙ ap (λ (x : Value-F Value). as_number (index_unless_null (f (get_or vs i v.Null)) x)) e)
+    ∙ by w valid
+  where
+    some : number_bits (v.UInt (f (get_or vs i v.Null))) ≡ f (get_or vs i v.Null)
+    some = rw (number_out (f (get_or vs i v.Null))) refl
+
+    by : (x : Value-F Value) → is_null x ≡ false
+        → number_bits (as_number (index_unless_null (f (get_or vs i v.Null)) x)) ≡ f (get_or vs i v.Null)
+    by Value-F.Null h = absurd (cc)
+    by _ h = some
+
+-- an index that fits its type is read back
+pub index_number : (f : Value → ℕ) (bits : IntBits) (signed : Bool) (vs : List Value) (i : ℕ) (w : Value-F Value) → i < length vs
+    → out-Value (get_or vs i v.Null) ≡ w → is_null w ≡ false → IsIndexWithin bits signed (f (get_or vs i v.Null))
+    → number_in bits signed (slots (Number bits) (numbers_of f vs)) i ≡ pos (f (get_or vs i v.Null))
+index_number f bits signed vs i w k e valid within = by signed within
+  where
+    back : num (slots (Number bits) (numbers_of f vs)) (number_bytes bits * i) (number_bytes bits)
+        ≡ f (get_or vs i v.Null) % 256 ^ number_bytes bits
+    back = let size = numbers_length f vs in
+        number_back bits (numbers_of f vs) i v.Null (omega (arith, size, k))
+        ∙ ap (λ (n : ℕ). n % 256 ^ number_bytes bits) (number_of_slot f vs i w k e valid)
+
+    by : (sign : Bool) → IsIndexWithin bits sign (f (get_or vs i v.Null))
+        → number_in bits sign (slots (Number bits) (numbers_of f vs)) i ≡ pos (f (get_or vs i v.Null))
+    by true h = signed_is bits (slots (Number bits) (numbers_of f vs)) (number_bytes bits * i) (pos (f (get_or vs i v.Null))) h back
+    by false h = ap (λ (n : ℕ). pos n) (back ∙ number_is bits (f (get_or vs i v.Null)) h)
+
+-- a value that isn't null has its flag set
+pub flag_from : (value : Value) (w : Value-F Value) → out-Value value ≡ w → is_null w ≡ false → is_set Valid value ≡ true
+flag_from value w e h = ap (λ (x : Value-F Value). not (is_null x)) e ∙ ap not h
+
+-- the index in a slot finds the value
+pub index_back : (ds : Dictionaries) (known : Numbering) (bits : IntBits) (signed : Bool) (id : ℤ) (vs : List Value) (i : ℕ)
+    (w : Value-F Value) → i < length vs → out-Value (get_or vs i v.Null) ≡ w → is_null w ≡ false
+    → (is_set Valid (get_or vs i v.Null) ≡ true → FindsIndex ds known bits signed id (get_or vs i v.Null))
+    → value_at (values_for ds id) (number_in bits signed (slots (Number bits) (numbers_of (known id) vs)) i) ≡ get_or vs i v.Null
+index_back ds known bits signed id vs i w k e valid found =
+    let here = found (flag_from (get_or vs i v.Null) w e valid) in
+    ap (λ (z : ℤ). value_at (values_for ds id) z) (index_number (known id) bits signed vs i w k e valid here.within)
+    ∙ get_or_from_slice_get (values_for ds id) (known id (get_or vs i v.Null)) (get_or vs i v.Null) v.Null here.found

@@ -1,9 +1,11 @@
 -- Columns that are added one after another to a list of segments.
-use Rattle.std.proofs.Common.{◌≡◌, ◌∙◌, refl, sym, ap, subst, ℕ, zero, suc, ◌+◌, ◌<◌, ◌≤◌, List, [], ◌∷◌, ◌++◌, length, get_or}
-use Rattle.std.proofs.Common.{append_assoc, arith, inl, inr, ◌⊎◌, Some, slice_get}
-use Rattle.std.proofs.Common.{ℤ, pos}
-use Rattle.std.proofs.lemmas.List.{append-nil}
+use Rattle.std.proofs.Common.{◌≡◌, ◌∙◌, refl, sym, ap, ℕ, zero, suc, ◌+◌, ◌<◌, ◌≤◌, List, [], ◌∷◌, ◌++◌, length, take, get_or}
+use Rattle.std.proofs.Common.{append_assoc, arith, Some, slice_get, length-append, ℤ, pos, ◌+ℤ◌, subst, ◌-◌, ◌%◌, replicate, inl, inr}
+use Rattle.std.proofs.Common.{◌⊎◌, true}
+use Rattle.std.proofs.lemmas.Bool.{false≢true}
+use Rattle.std.proofs.lemmas.List.{take_more, append-nil, length-replicate}
 use Rattle.std.proofs.lemmas.Option.{get_or_from_slice_get}
+use Rattle.ipc_model.specs.Layouts.{layout}
 use Rattle.ipc_model.specs.Limits.{max_data}
 use Rattle.ipc_model.specs.declared.layout.Layout.{Layout}
 use Rattle.ipc_model.specs.declared.layout.Layout.TheVariants as l
@@ -11,31 +13,201 @@ use Rattle.ipc_model.specs.declared.limits.Limits.{Limits}
 use Rattle.ipc_model.specs.declared.schema.Field.{Field, out-Field}
 use Rattle.ipc_model.specs.declared.schema.Field.TheFolds.{fold_out-Field}
 use Rattle.ipc_model.specs.declared.value.Value.{Value}
-use Rattle.ipc_model.specs.Layouts.{layout}
 use Rattle.ipc_column.specs.Nested.{Nested}
 use Rattle.ipc_column.specs.Shapes.{Shape, bare, field, field_children, field_layout, field_shape, field_step, shape_of}
+use Rattle.ipc_encode.specs.Buffers.{padded_bytes, padded_buffer, ranges_from, child_values, buffers_with, column_buffers, data_buffers}
+use Rattle.ipc_encode.specs.Buffers.{row_columns, nodes_of, written_values}
+use Rattle.ipc_encode.specs.Built.{ArePushesRefused, IsColumn, IsNode}
+use Rattle.ipc_encode.specs.Cells.{nulls}
+use Rattle.ipc_encode.specs.Columns.{data_in, validity_bytes}
+use Rattle.ipc_encode.specs.Faults.{write_fault}
+use Rattle.ipc_encode.specs.Limits.{HasLongData, HasLongItems, HasLongNode, HasExcessData, AreRowsRefused, IsWithin, SomeExcessData}
+use Rattle.ipc_encode.specs.Numbers.{Numbering}
+use Rattle.ipc_encode.specs.Segments.{AddsBuffers, IsBodyRefused, bytes_of_segments, segment_bytes, AddsColumns, AreRefusedAfter}
+use Rattle.ipc_encode.specs.Segments.{IsDataRefused}
+use Rattle.ipc_encode.specs.WholeColumns.{AreFullColumns, is_taken_whole}
+use Rattle.ipc_encode.specs.Writing.{AllStored, AreStored}
 use Rattle.ipc_encode.specs.declared.column_builder.Purpose.TheVariants as purpose
 use Rattle.ipc_encode.specs.declared.fault.PushFault.{PushFault}
 use Rattle.ipc_encode.specs.declared.fault.PushFault.TheVariants as push
-use Rattle.ipc_encode.specs.declared.node.Node.{Node}
+use Rattle.ipc_encode.specs.declared.tree.Node.{Node}
+use Rattle.ipc_encode.specs.declared.segments.Segment.{Segment}
 use Rattle.ipc_encode.specs.declared.segments.SegmentedDraft.{SegmentedDraft}
-use Rattle.ipc_encode.specs.Buffers.{child_values, buffers_with, column_buffers, row_columns, nodes_of, padded_bytes, written_values}
-use Rattle.ipc_encode.specs.Built.{ArePushesRefused, IsColumn, IsNode}
-use Rattle.ipc_encode.specs.Cells.{nulls}
-use Rattle.ipc_encode.specs.Columns.{data_in}
-use Rattle.ipc_encode.specs.Faults.{write_fault}
-use Rattle.ipc_encode.specs.Limits.{HasLongData, HasLongItems, HasLongNode, HasExcessData, AreRowsRefused, IsWithin, SomeExcessData}
-use Rattle.ipc_encode.specs.WholeColumns.{AreFullColumns}
-use Rattle.ipc_encode.specs.Numbers.{Numbering}
-use Rattle.ipc_encode.specs.Segments.{AddsBuffers, AddsColumns, AreRefusedAfter, IsBodyRefused}
-use Rattle.ipc_encode.specs.Writing.{AllStored, AreStored}
-use Rattle.ipc_encode.proofs.Growing.{parts_length}
+use Rattle.ipc_encode.proofs.Growing.{joined_append, ranges_append, parts_length, IsAt, bytes_next, few_next, first, first_within}
+use Rattle.ipc_encode.proofs.Growing.{long_node_at, nodes_next, short_next, some_at, few_leaf, short_leaf, taken_few, taken_short}
 use Rattle.ipc_encode.proofs.Held.{all_stored, rows_within}
 use Rattle.ipc_encode.proofs.Indexed.{buffers_size, buffers_with_next}
-use Rattle.ipc_encode.proofs.SegmentBuffers.{adds_as, adds_both, adds_none}
-use Rattle.ipc_encode.proofs.Siblings.{IsAt, bytes_next, few_next, first, first_within, long_node_at, nodes_next, short_next, some_at}
-use Rattle.ipc_encode.proofs.Siblings.{few_leaf, short_leaf, taken_few, taken_short}
+use Rattle.ipc_encode.proofs.Ranges.{ranges_length}
 use Rattle.ipc_encode.proofs.Sizes.{long_is}
+
+-- ---- the ranges of buffers that follow others in a body
+
+-- a range of buffers that begin `base` bytes later
+shifted_at : (bs : List (List ℕ)) (s base i : ℕ) (d : ℤ × ℤ) → i < length bs
+    → get_or (ranges_from (s + base) bs) i d ≡ ((get_or (ranges_from s bs) i d).0 +ℤ pos base, (get_or (ranges_from s bs) i d).1)
+shifted_at [] s base i d m = absurd (omega (arith, m))
+shifted_at (b ∷ bs) s base zero d m = refl
+shifted_at (b ∷ bs) s base (suc i) d m =
+    let e : s + base + length (padded_buffer b) ≡ s + length (padded_buffer b) + base = omega arith in
+    ap (λ (k : ℕ). get_or (ranges_from k bs) i d) e ∙ shifted_at bs (s + length (padded_buffer b)) base i d (omega (arith, m))
+
+-- a range begins within the buffers
+start_at : (bs : List (List ℕ)) (s i : ℕ) (d : ℤ × ℤ) → i < length bs
+    → (n : ℕ) × ((get_or (ranges_from s bs) i d).0 ≡ pos n) × (n ≤ s + length (padded_bytes bs))
+start_at [] s i d m = absurd (omega (arith, m))
+start_at (b ∷ bs) s zero d m = (s, refl, omega arith)
+start_at (b ∷ bs) s (suc i) d m =
+    let size = length-append (padded_buffer b) (padded_bytes bs) in
+    let more = start_at bs (s + length (padded_buffer b)) i d (omega (arith, m)) in
+    let within = more.2 in
+    (more.0, more.1, omega (arith, size, within))
+
+pub range_start : (bs : List (List ℕ)) (ranges : List (ℤ × ℤ)) (i : ℕ) (range : ℤ × ℤ) → ranges ≡ ranges_from 0 bs
+    → i < length ranges → slice_get ranges i ≡ Some range → (n : ℕ) × (range.0 ≡ pos n) × (n ≤ length (padded_bytes bs))
+range_start bs ranges i range e m at =
+    let d : ℤ × ℤ = (pos 0, pos 0) in
+    let size = ap (λ (rs : List (ℤ × ℤ)). length rs) e ∙ ranges_length bs 0 in
+    let found : range ≡ get_or (ranges_from 0 bs) i d =
+    sym (get_or_from_slice_get ranges i range d at) ∙ ap (λ (rs : List (ℤ × ℤ)). get_or rs i d) e in
+    let start = start_at bs 0 i d (omega (arith, size, m)) in
+    let within = start.2 in
+    (start.0, ap (λ (r : ℤ × ℤ). r.0) found ∙ start.1, omega (arith, within))
+
+-- one range more
+pub ranges_more : (bs : List (List ℕ)) (more old now new : List (ℤ × ℤ)) (i base : ℕ) (range moved : ℤ × ℤ)
+    → more ≡ ranges_from 0 bs → i < length more → slice_get more i ≡ Some range → moved ≡ (range.0 +ℤ pos base, range.1)
+    → now ≡ old ++ take i (ranges_from base bs) → new ≡ now ++ moved ∷ [] → new ≡ old ++ take (i + 1) (ranges_from base bs)
+ranges_more bs more old now new i base range moved e m at is before after =
+    let d : ℤ × ℤ = (pos 0, pos 0) in
+    let size = ap (λ (rs : List (ℤ × ℤ)). length rs) e ∙ ranges_length bs 0 in
+    let many = ranges_length bs base in
+    let found : get_or (ranges_from 0 bs) i d ≡ range =
+    ap (λ (rs : List (ℤ × ℤ)). get_or rs i d) (sym e) ∙ get_or_from_slice_get more i range d at in
+    let zero_first : 0 + base ≡ base = omega arith in
+    let moved_by : ◌≡◌ {A = ℤ × ℤ} ((get_or (ranges_from 0 bs) i d).0 +ℤ pos base, (get_or (ranges_from 0 bs) i d).1)
+    (range.0 +ℤ pos base, range.1) =
+    λ t. ((found t).0 +ℤ pos base, (found t).1) in
+    let next : get_or (ranges_from base bs) i d ≡ moved =
+    ap (λ (k : ℕ). get_or (ranges_from k bs) i d) (sym zero_first)
+    ∙ (shifted_at bs 0 base i d (omega (arith, size, m))
+    ∙ (moved_by ∙ sym is)) in
+    after ∙ (ap (λ (rs : List (ℤ × ℤ)). rs ++ moved ∷ []) before
+    ∙ (append_assoc old (take i (ranges_from base bs)) (moved ∷ [])
+    ∙ ap (λ (rs : List (ℤ × ℤ)). old ++ rs)
+    (ap (λ (r : ℤ × ℤ). take i (ranges_from base bs) ++ r ∷ []) (sym next)
+    ∙ sym (take_more (ranges_from base bs) i d (omega (arith, size, many, m))))))
+
+-- ---- buffers that are added one after another to a list of segments
+
+-- the bytes of some segments and then of others
+pub joined_both : (xs ys : List Segment) → bytes_of_segments (xs ++ ys) ≡ bytes_of_segments xs ++ bytes_of_segments ys
+joined_both [] ys = refl
+joined_both (x ∷ xs) ys = ap (λ (bs : List ℕ). segment_bytes x ++ bs) (joined_both xs ys)
+    ∙ sym (append_assoc (segment_bytes x) (bytes_of_segments xs) (bytes_of_segments ys))
+
+-- the bytes of one segment more
+pub joined_push : (xs new : List Segment) (x : Segment) → new ≡ xs ++ x ∷ [] → bytes_of_segments new ≡ bytes_of_segments xs
+    ++ segment_bytes x
+joined_push xs new x e = ap bytes_of_segments e ∙ (joined_both xs (x ∷ [])
+    ∙ ap (λ (bs : List ℕ). bytes_of_segments xs ++ bs) (append-nil (segment_bytes x)))
+
+-- no buffer more
+pub adds_none : (d : SegmentedDraft) → AddsBuffers d d []
+adds_none d = record {
+  buffers = sym (append-nil d.buffers.items);
+  body = sym (append-nil (bytes_of_segments d.segments.items));
+  len = omega arith;
+}
+
+-- the bytes of some buffers and then of others
+pub padded_both : (xs ys : List (List ℕ)) → length (padded_bytes (xs ++ ys)) ≡ length (padded_bytes xs) + length (padded_bytes ys)
+padded_both xs ys = ap (λ (bs : List ℕ). length bs) (joined_append xs ys) ∙ length-append (padded_bytes xs) (padded_bytes ys)
+
+-- some buffers and then others
+pub adds_both : (d e f : SegmentedDraft) (xs ys : List (List ℕ)) → AddsBuffers d e xs → AddsBuffers e f ys → AddsBuffers d f (xs ++ ys)
+adds_both d e f xs ys a b =
+    let size = padded_both xs ys in
+    let first = a.len in
+    let second = b.len in
+    record {
+      buffers = b.buffers ∙ (ap (λ (n : ℕ). e.buffers.items ++ ranges_from n ys) a.len
+          ∙ (ap (λ (rs : List (ℤ × ℤ)). rs ++ ranges_from (d.len + length (padded_bytes xs)) ys) a.buffers
+          ∙ (append_assoc d.buffers.items (ranges_from d.len xs) (ranges_from (d.len + length (padded_bytes xs)) ys)
+          ∙ ap (λ (rs : List (ℤ × ℤ)). d.buffers.items ++ rs) (sym (ranges_append xs ys d.len)))));
+      body = b.body ∙ (ap (λ (bs : List ℕ). bs ++ padded_bytes ys) a.body
+          ∙ (append_assoc (bytes_of_segments d.segments.items) (padded_bytes xs) (padded_bytes ys)
+          ∙ ap (λ (bs : List ℕ). bytes_of_segments d.segments.items ++ bs) (sym (joined_append xs ys))));
+      len = omega (arith, size, first, second);
+    }
+
+-- buffers may be written in another way
+pub adds_as : (d e : SegmentedDraft) (xs ys : List (List ℕ)) → xs ≡ ys → AddsBuffers d e xs → AddsBuffers d e ys
+adds_as d e xs ys same a = subst (λ (bs : List (List ℕ)). AddsBuffers d e bs) same a
+
+-- the bytes of one buffer
+pub padded_one : (bs : List ℕ) → length (padded_bytes (bs ∷ [])) ≡ length bs + (8 - length bs % 8) % 8
+padded_one bs =
+    let zeros = replicate {A = ℕ} ((8 - length bs % 8) % 8) 0 in
+    let pad : length zeros ≡ (8 - length bs % 8) % 8 = length-replicate ((8 - length bs % 8) % 8) 0 in
+    ap (λ (xs : List ℕ). length xs) (append-nil (bs ++ zeros)) ∙ (length-append bs zeros ∙ ap (λ (n : ℕ). length bs + n) pad)
+
+-- ---- refusals
+
+-- what is refused of a body is refused of a longer one
+pub refused_longer : (limits : Limits) (m n : ℕ) (e : PushFault) → m ≤ n → IsBodyRefused limits m e → IsBodyRefused limits n e
+refused_longer limits m n push.TooLong le h = omega (arith, le, h)
+refused_longer limits m n _ le h = h
+
+-- a buffer that is refused before it ends
+pub refused_begun : (limits : Limits) (len : ℕ) (bs : List ℕ) (e : PushFault) → IsBodyRefused limits (len + length bs) e
+    → IsBodyRefused limits (len + length (padded_bytes (bs ∷ []))) e
+refused_begun limits len bs e h =
+    let size = padded_one bs in
+    refused_longer limits (len + length bs) (len + length (padded_bytes (bs ∷ []))) e (omega (arith, size)) h
+
+-- a buffer whose end is refused
+pub refused_ended : (limits : Limits) (start len : ℕ) (bs : List ℕ) (e : PushFault) → len ≡ start + length bs
+    → IsBodyRefused limits (len + (8 - (len - start) % 8) % 8) e → IsBodyRefused limits (start + length (padded_bytes (bs ∷ []))) e
+refused_ended limits start len bs e size h =
+    let own : len - start ≡ length bs = omega (arith, size) in
+    let whole = padded_one bs in
+    let end : len + (8 - (len - start) % 8) % 8 ≡ len + (8 - length bs % 8) % 8 = ap (λ (k : ℕ). len + (8 - k % 8) % 8) own in
+    refused_longer limits (len + (8 - (len - start) % 8) % 8) (start + length (padded_bytes (bs ∷ []))) e
+    (omega (arith, size, whole, end)) h
+
+-- the first part of a buffer is refused
+pub refused_part : (limits : Limits) (len : ℕ) (xs ys : List ℕ) (e : PushFault) → IsBodyRefused limits (len + length xs) e
+    → IsBodyRefused limits (len + length (padded_bytes ((xs ++ ys) ∷ []))) e
+refused_part limits len xs ys e h =
+    let whole = length-append xs ys in
+    refused_begun limits len (xs ++ ys) e
+    (refused_longer limits (len + length xs) (len + length (xs ++ ys)) e (omega (arith, whole)) h)
+
+-- the second part of a buffer is refused
+pub refused_rest : (limits : Limits) (len mid : ℕ) (xs ys : List ℕ) (e : PushFault) → mid ≡ len + length xs
+    → IsBodyRefused limits (mid + length ys) e → IsBodyRefused limits (len + length (padded_bytes ((xs ++ ys) ∷ []))) e
+refused_rest limits len mid xs ys e first h =
+    let whole = length-append xs ys in
+    refused_begun limits len (xs ++ ys) e
+    (refused_longer limits (mid + length ys) (len + length (xs ++ ys)) e (omega (arith, whole, first)) h)
+
+-- the first of several buffers is refused
+pub refused_first : (limits : Limits) (len : ℕ) (xs ys : List (List ℕ)) (e : PushFault)
+    → IsBodyRefused limits (len + length (padded_bytes xs)) e
+    → IsBodyRefused limits (len + length (padded_bytes (xs ++ ys))) e
+refused_first limits len xs ys e h =
+    let size = padded_both xs ys in
+    refused_longer limits (len + length (padded_bytes xs)) (len + length (padded_bytes (xs ++ ys))) e (omega (arith, size)) h
+
+-- a later one of them is refused
+pub refused_later : (limits : Limits) (d mid : SegmentedDraft) (xs ys : List (List ℕ)) (e : PushFault) → AddsBuffers d mid xs
+    → IsBodyRefused limits (mid.len + length (padded_bytes ys)) e → IsBodyRefused limits (d.len + length (padded_bytes (xs ++ ys))) e
+refused_later limits d mid xs ys e a h =
+    let size = padded_both xs ys in
+    let first = a.len in
+    refused_longer limits (mid.len + length (padded_bytes ys)) (d.len + length (padded_bytes (xs ++ ys))) e (omega (arith, size, first)) h
+
+-- ---- columns that are added one after another to a list of segments
 
 -- ---- a column without children
 
@@ -55,16 +227,19 @@ leaf_added limits known lay vs bs count none d e size nil same nodes adds few sh
   body = within;
 }
 
--- its layout, its children and its values may be written in another way
-pub leaf_adds_as : (limits : Limits) (known : Numbering) (own lay : Layout) (ch : Shape) (vs ws : List Value) (d e : SegmentedDraft)
-    → lay ≡ own → ch ≡ bare → vs ≡ ws → AddsColumns limits known (field own bare bare) (λ j. ws) d e
-    → AddsColumns limits known (field lay ch bare) (λ j. vs) d e
-leaf_adds_as limits known own lay ch vs ws d e k c v h = rw (k, c, v) h
+-- its bitmap is the first buffer, where it has one
+bitmap_first : (lay : Layout) (vs : List Value) → (lay ≡ l.Null → ⊥) → column_buffers lay vs ≡ validity_bytes vs ∷ data_buffers lay vs
+bitmap_first l.Null vs h = absurd (h refl)
+bitmap_first _ vs h = refl
 
-pub leaf_refused_as : (limits : Limits) (len : ℕ) (own lay : Layout) (ch : Shape) (vs ws : List Value) (fault : PushFault)
-    → lay ≡ own → ch ≡ bare → vs ≡ ws → AreRefusedAfter limits len (field own bare bare) (λ j. ws) fault
-    → AreRefusedAfter limits len (field lay ch bare) (λ j. vs) fault
-leaf_refused_as limits len own lay ch vs ws fault k c v h = rw (k, c, v) h
+-- its values are written as they are, unless they are indices
+written_plain : (known : Numbering) (lay : Layout) (vs : List Value) → is_taken_whole lay ≡ true → written_values known lay vs ≡ vs
+written_plain known (l.Indices bits signed id) vs h = absurd (false≢true h)
+written_plain known _ vs h = refl
+
+pub bitmap_and_data : (known : Numbering) (lay : Layout) (vs : List Value) → is_taken_whole lay ≡ true → (lay ≡ l.Null → ⊥)
+    → column_buffers lay (written_values known lay vs) ≡ validity_bytes vs ∷ data_buffers lay vs
+bitmap_and_data known lay vs whole some = ap (column_buffers lay) (written_plain known lay vs whole) ∙ bitmap_first lay vs some
 
 -- its buffers are refused
 pub leaf_refused : (limits : Limits) (len : ℕ) (lay : Layout) (vs : List Value) (bs : List (List ℕ)) (fault : PushFault)
@@ -75,19 +250,41 @@ leaf_refused limits len lay vs bs push.TooLong same h =
     let size = ap (λ (xs : List (List ℕ)). length (padded_bytes xs)) same in
     inr (omega (arith, whole, size, h))
 leaf_refused limits len lay vs bs push.TooMany same h = absurd h
-leaf_refused limits len lay vs bs push.OutOfMemory same h = h
-leaf_refused limits len lay vs bs push.DictionaryFull same h = h
-leaf_refused limits len lay vs bs push.Failed same h = h
+leaf_refused limits len lay vs bs _ same h = h
 
--- its lists have too many items
-pub lists_refused : (limits : Limits) (len : ℕ) (vs : List Value) (fault : PushFault)
+-- its bitmap, in the draft after its node
+pub begun : (d mid e : SegmentedDraft) (bs : List ℕ) (vs : List Value) → bs ≡ validity_bytes vs → AddsBuffers d mid []
+    → AddsBuffers mid e (bs ∷ []) → AddsBuffers d e (validity_bytes vs ∷ [])
+begun d mid e bs vs same none one =
+    adds_as d e (bs ∷ []) (validity_bytes vs ∷ []) (ap (λ (b : List ℕ). b ∷ []) same) (adds_both d mid e [] (bs ∷ []) none one)
+
+-- its bitmap is refused
+pub bitmap_refused : (limits : Limits) (d mid : SegmentedDraft) (lay : Layout) (vs : List Value) (bs : List ℕ) (fault : PushFault)
+    → (lay ≡ l.Null → ⊥) → bs ≡ validity_bytes vs → AddsBuffers d mid []
+    → IsBodyRefused limits (mid.len + length (padded_bytes (bs ∷ []))) fault
+    → AreRefusedAfter limits d.len (field lay bare bare) (λ j. vs) fault
+bitmap_refused limits d mid lay vs bs fault some same none h =
+    leaf_refused limits d.len lay vs (bs ∷ data_buffers lay vs) fault
+    (bitmap_first lay vs some ∙ ap (λ (b : List ℕ). b ∷ data_buffers lay vs) (sym same))
+    (refused_first limits d.len (bs ∷ []) (data_buffers lay vs) fault (refused_later limits d mid [] (bs ∷ []) fault none h))
+
+-- its other buffers are refused
+pub data_refused : (limits : Limits) (d mid : SegmentedDraft) (lay : Layout) (vs : List Value) (fault : PushFault)
+    → (lay ≡ l.Null → ⊥) → AddsBuffers d mid (validity_bytes vs ∷ []) → IsDataRefused limits mid.len lay vs fault
+    → AreRefusedAfter limits d.len (field lay bare bare) (λ j. vs) fault
+data_refused limits d mid lay vs push.TooLong some adds (inl long) = inl (inl long)
+data_refused limits d mid lay vs push.TooLong some adds (inr more) =
+    leaf_refused limits d.len lay vs (validity_bytes vs ∷ data_buffers lay vs) push.TooLong (bitmap_first lay vs some)
+    (refused_later limits d mid (validity_bytes vs ∷ []) (data_buffers lay vs) push.TooLong adds more)
+data_refused limits d mid lay vs push.TooMany some adds items = inr (inl items)
+data_refused limits d mid lay vs _ some adds h = h
+
+-- lists have too many items
+pub items_refused : (limits : Limits) (len : ℕ) (vs : List Value) (fault : PushFault)
     → (fault ≡ push.OutOfMemory) ⊎ ((fault ≡ push.TooMany) × (max_data < data_in l.Lists vs))
-    → AreRefusedAfter limits len (field l.Lists bare bare) (λ j. vs) fault
-lists_refused limits len vs fault (inl memory) =
-    subst (λ (e : PushFault). AreRefusedAfter limits len (field l.Lists bare bare) (λ j. vs) e) (sym memory) tt
-lists_refused limits len vs fault (inr many) =
-    subst (λ (e : PushFault). AreRefusedAfter limits len (field l.Lists bare bare) (λ j. vs) e) (sym many.0)
-    (inr (inl (long_is l.Lists vs many.1)))
+    → IsDataRefused limits len l.Lists vs fault
+items_refused limits len vs fault (inl memory) = rw memory tt
+items_refused limits len vs fault (inr many) = rw many.0 (long_is l.Lists vs many.1)
 
 -- ---- a column and those of its children
 
@@ -141,9 +338,7 @@ own_refused_after limits len lay c vs push.TooMany (inl (inr (inr none))) = absu
 own_refused_after limits len lay c vs push.TooMany (inr (inl own)) = inr (inl own)
 own_refused_after limits len lay c vs push.TooMany (inr (inr (inl none))) = absurd none
 own_refused_after limits len lay c vs push.TooMany (inr (inr (inr none))) = absurd none
-own_refused_after limits len lay c vs push.OutOfMemory h = h
-own_refused_after limits len lay c vs push.DictionaryFull h = h
-own_refused_after limits len lay c vs push.Failed h = h
+own_refused_after limits len lay c vs _ h = h
 
 -- its children are refused
 pub children_refused : (limits : Limits) (known : Numbering) (lay : Layout) (c : Shape) (vs : List Value) (d mid : SegmentedDraft)
@@ -159,9 +354,7 @@ children_refused limits known lay c vs d mid push.TooLong own (inr more) =
     inr (omega (arith, len, size, first, all, more))
 children_refused limits known lay c vs d mid push.TooMany own (inl slots) = inl (inr (inl slots))
 children_refused limits known lay c vs d mid push.TooMany own (inr items) = inr (inr (inl items))
-children_refused limits known lay c vs d mid push.OutOfMemory own h = h
-children_refused limits known lay c vs d mid push.DictionaryFull own h = h
-children_refused limits known lay c vs d mid push.Failed own h = h
+children_refused limits known lay c vs d mid _ own h = h
 
 -- ---- a column that is encoded in a node
 
@@ -184,10 +377,7 @@ pub pushes_refused : (limits : Limits) (len : ℕ) (shape : Shape) (given : ℕ 
     → ArePushesRefused limits shape given fault → AreRefusedAfter limits len shape given fault
 pushes_refused limits len shape given push.TooLong (inl long) = inl long
 pushes_refused limits len shape given push.TooLong (inr body) = inr (omega (arith, body))
-pushes_refused limits len shape given push.TooMany h = h
-pushes_refused limits len shape given push.OutOfMemory h = h
-pushes_refused limits len shape given push.DictionaryFull h = h
-pushes_refused limits len shape given push.Failed h = h
+pushes_refused limits len shape given _ h = h
 
 -- the buffers of columns are refused
 pub buffers_refused : (limits : Limits) (known : Numbering) (len : ℕ) (shape : Shape) (given : ℕ → List Value) (fault : PushFault)
@@ -195,9 +385,7 @@ pub buffers_refused : (limits : Limits) (known : Numbering) (len : ℕ) (shape :
     → AreRefusedAfter limits len shape given fault
 buffers_refused limits known len shape given push.TooLong h = let size = buffers_size known shape given in inr (omega (arith, size, h))
 buffers_refused limits known len shape given push.TooMany h = absurd h
-buffers_refused limits known len shape given push.OutOfMemory h = h
-buffers_refused limits known len shape given push.DictionaryFull h = h
-buffers_refused limits known len shape given push.Failed h = h
+buffers_refused limits known len shape given _ h = h
 
 -- ---- one field more
 
@@ -253,9 +441,7 @@ columns_refused limits known i shape given lay c d mid push.TooMany at so (inl s
     (long_node_at limits.slots i shape given lay c at slots)
 columns_refused limits known i shape given lay c d mid push.TooMany at so (inr items) = inr
     (some_at HasLongItems i shape given lay c at items)
-columns_refused limits known i shape given lay c d mid push.OutOfMemory at so h = h
-columns_refused limits known i shape given lay c d mid push.DictionaryFull at so h = h
-columns_refused limits known i shape given lay c d mid push.Failed at so h = h
+columns_refused limits known i shape given lay c d mid _ at so h = h
 
 -- ---- all fields
 
@@ -313,5 +499,4 @@ rows_refused_after limits fields rows len push.TooLong none (inl long) = inl lon
 rows_refused_after limits fields rows len push.TooLong none (inr more) = inr (omega (arith, none, more))
 rows_refused_after limits fields rows len push.TooMany none h = inr h
 rows_refused_after limits fields rows len push.OutOfMemory none h = h
-rows_refused_after limits fields rows len push.DictionaryFull none h = absurd h
-rows_refused_after limits fields rows len push.Failed none h = absurd h
+rows_refused_after limits fields rows len _ none h = absurd h

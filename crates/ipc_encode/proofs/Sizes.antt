@@ -1,28 +1,39 @@
--- How long the buffers of a column are.
-use Rattle.std.proofs.Common.{◌≡◌, ◌∙◌, refl, sym, ap, ℕ, ◌+◌, ◌-◌, ◌*◌, ◌/◌, ◌%◌, ◌≤◌, Bool, true, false, cond}
-use Rattle.std.proofs.Common.{List, [], ◌∷◌, ◌++◌, length, length-append, replicate, arith}
-use Rattle.std.specs.Prelude.{◌==◌, ℤ}
-use Rattle.std.specs.Int.{bytes_low_first}
+-- How long the buffers of a column are, and what surely fits.
+use Rattle.std.proofs.Common.{◌≡◌, ◌∙◌, refl, sym, ap, ℕ, ◌+◌, ◌-◌, ◌*◌, ◌/◌, ◌%◌, ◌≤◌, Bool, true, false, cond, List, [], ◌∷◌, ◌++◌}
+use Rattle.std.proofs.Common.{length, length-append, replicate, arith, subst, zero, suc, get_or, ◌<◌, inl, inr}
 use Rattle.std.proofs.lemmas.List.{length-replicate}
+use Rattle.std.specs.Int.{bytes_low_first}
+use Rattle.std.specs.Prelude.{◌==◌, ℤ, ⊤}
 use Rattle.ipc_scalar.proofs.Places.{length_low_bytes}
-use Rattle.ipc_model.specs.declared.limits.Limits.{Limits}
-use Rattle.ipc_model.specs.declared.schema.IntBits.{IntBits}
+use Rattle.ipc_model.proofs.FitsLemmas.{fits_parts}
+use Rattle.ipc_model.specs.Fits.{Fits, EachFits, InnerFit, FitsOwnType}
 use Rattle.ipc_model.specs.Layouts.{number_bytes}
-use Rattle.ipc_model.specs.declared.value.Value.{Value}
 use Rattle.ipc_model.specs.declared.layout.Layout.{Layout}
 use Rattle.ipc_model.specs.declared.layout.Layout.TheVariants as l
-use Rattle.ipc_encode.specs.declared.counts.ColumnCounts.{ColumnCounts}
-use Rattle.ipc_encode.specs.Pieces.{Valid, True, Number, Fixed, Content}
-use Rattle.ipc_encode.specs.Pieces as p
+use Rattle.ipc_model.specs.declared.limits.Limits.{Limits}
+use Rattle.ipc_model.specs.declared.schema.DataType.{DataType}
+use Rattle.ipc_model.specs.declared.schema.DataType.TheVariants as t
+use Rattle.ipc_model.specs.declared.schema.Field.{Field, out-Field}
+use Rattle.ipc_model.specs.declared.schema.IntBits.{IntBits}
+use Rattle.ipc_model.specs.declared.value.Value.{Value, out-Value}
+use Rattle.ipc_model.specs.declared.value.Value.TheOpen.{Value-F}
+use Rattle.ipc_column.specs.Shapes.{Shape, bare, field}
 use Rattle.ipc_encode.specs.Bitmaps.{bitmap}
+use Rattle.ipc_encode.specs.Buffers.{padded_buffer, padded_bytes, piece_bytes, column_buffers, child_values}
+use Rattle.ipc_encode.specs.Built.{AreCountsOf, AreColumnsWithin, TakeAtMost, IsPushRefused}
 use Rattle.ipc_encode.specs.Cells.{flags, nulls, content, fixed_bytes, items, slot_bytes, slots, ends, offsets, extent, number_bits}
 use Rattle.ipc_encode.specs.Cells.{all_items}
-use Rattle.ipc_encode.specs.Buffers.{padded_buffer, padded_bytes, piece_bytes, column_buffers}
-use Rattle.ipc_encode.specs.Columns.{validity_bytes, values_in, bits_length, padded_length, data_in, values_length}
-use Rattle.ipc_encode.specs.Columns.{column_length, ExceedsOffsets}
-use Rattle.ipc_encode.specs.Limits.{HasExcessData}
-use Rattle.ipc_encode.specs.Built.{AreCountsOf}
+use Rattle.ipc_encode.specs.Columns.{validity_bytes, values_in, bits_length, padded_length, data_in, values_length, column_length}
+use Rattle.ipc_encode.specs.Columns.{ExceedsOffsets, offsets_length, validity_length}
+use Rattle.ipc_encode.specs.Limits.{HasExcessData, HasLongData, HasLongItems, SomeColumn, SomeExcessData}
+use Rattle.ipc_encode.specs.Pieces.{Valid, True, Number, Fixed, Content}
+use Rattle.ipc_encode.specs.Pieces as p
+use Rattle.ipc_encode.specs.declared.counts.ColumnCounts.{ColumnCounts}
+use Rattle.ipc_encode.specs.declared.fault.PushFault.{PushFault}
+use Rattle.ipc_encode.specs.declared.fault.PushFault.TheVariants as push
 use Rattle.ipc_encode.proofs.Bits.{length_bytes, flags_length}
+
+-- ---- how long the buffers of a column are
 
 pub padded_is : (b : List ℕ) → length (padded_buffer b) ≡ padded_length (length b)
 padded_is b = length-append b (replicate {A = ℕ} ((8 - length b % 8) % 8) 0)
@@ -125,10 +136,6 @@ column_size l.Lists vs = joined_run (validity_bytes vs) (offsets p.Items vs)
     ∙ (ap (λ (n : ℕ). padded_length n + padded_length (length (offsets p.Items vs)) + padded_length 0) (validity_is vs)
     ∙ ap (λ (n : ℕ). padded_length (cond (nulls vs == 0) 0 (bits_length (length vs))) + padded_length n + padded_length 0)
     (offsets_size p.Items vs))
-column_size l.Structs vs = joined_one (validity_bytes vs)
-    ∙ ap (λ (n : ℕ). padded_length n + padded_length 0 + padded_length 0) (validity_is vs)
-column_size (l.FixedLists size) vs = joined_one (validity_bytes vs)
-    ∙ ap (λ (n : ℕ). padded_length n + padded_length 0 + padded_length 0) (validity_is vs)
 column_size l.Bits vs = joined_two (validity_bytes vs) (values_in l.Bits vs)
     ∙ (ap (λ (n : ℕ). padded_length n + padded_length 0 + padded_length (length (values_in l.Bits vs))) (validity_is vs)
     ∙ ap (λ (n : ℕ). padded_length (cond (nulls vs == 0) 0 (bits_length (length vs))) + padded_length 0 + padded_length n)
@@ -154,6 +161,8 @@ column_size (l.VariableBytes utf8) vs =
     ∙ ap (λ (n : ℕ). padded_length (cond (nulls vs == 0) 0 (bits_length (length vs))) + padded_length (4 *
     (length vs + 1)) + padded_length n)
     (content_data utf8 vs)))
+column_size _ vs = joined_one (validity_bytes vs)
+    ∙ ap (λ (n : ℕ). padded_length n + padded_length 0 + padded_length 0) (validity_is vs)
 
 -- a buffer of values is among the others
 last_within : (layout : Layout) (vs : List Value) → values_length layout (length vs) (data_in layout vs) ≡ data_in layout vs
@@ -175,29 +184,156 @@ data_within (l.VariableBytes utf8) vs other = last_within (l.VariableBytes utf8)
 
 -- data is long exactly where it passes its offsets
 pub long_is : (layout : Layout) (vs : List Value) → ExceedsOffsets layout (data_in layout vs) → HasExcessData layout vs
-long_is l.Null vs h = h
-long_is (l.Indices bits signed id) vs h = h
 long_is l.Lists vs h = let size = items_data vs in omega (arith, size, h)
-long_is l.Structs vs h = h
-long_is (l.FixedLists size) vs h = h
-long_is l.Bits vs h = h
-long_is (l.Numbers bits signed) vs h = h
-long_is (l.FixedBytes width) vs h = h
 long_is (l.VariableBytes utf8) vs h = let size = content_data utf8 vs in omega (arith, size, h)
+long_is _ vs h = h
 
 pub long_from : (layout : Layout) (vs : List Value) → HasExcessData layout vs → ExceedsOffsets layout (data_in layout vs)
-long_from l.Null vs h = h
-long_from (l.Indices bits signed id) vs h = h
 long_from l.Lists vs h = let size = items_data vs in omega (arith, size, h)
-long_from l.Structs vs h = h
-long_from (l.FixedLists size) vs h = h
-long_from l.Bits vs h = h
-long_from (l.Numbers bits signed) vs h = h
-long_from (l.FixedBytes width) vs h = h
 long_from (l.VariableBytes utf8) vs h = let size = content_data utf8 vs in omega (arith, size, h)
+long_from _ vs h = h
 
 -- the numbers of a column give the length of its buffers
 pub counted_size : (limits : Limits) (layout : Layout) (vs : List Value) (counts : ColumnCounts) → AreCountsOf limits layout vs counts
     → column_length layout counts.slots counts.nulls (values_length layout counts.slots counts.amount)
     ≡ length (padded_bytes (column_buffers layout vs))
 counted_size limits layout vs counts h = rw (h.slots_are, h.nulls_are, h.amount_is) (sym (column_size layout vs))
+
+-- ---- columns whose values are surely within the limits
+
+-- ---- buffers
+
+padded_few : (n : ℕ) → padded_length n ≤ n + 7
+padded_few n = omega arith
+
+flags_few : (n : ℕ) (none : Bool) → cond none 0 (bits_length n) ≤ n
+flags_few n true = omega arith
+flags_few n false = omega arith
+
+validity_few : (layout : Layout) (n nulls : ℕ) → validity_length layout n nulls ≤ n
+validity_few l.Null n nulls = omega arith
+validity_few _ n nulls = flags_few n (nulls == 0)
+
+offsets_few : (layout : Layout) (n : ℕ) → offsets_length layout n ≤ 4 * n + 4
+offsets_few l.Null n = omega arith
+offsets_few _ n = omega arith
+
+values_few : (layout : Layout) (n amount : ℕ) → values_length layout n amount ≤ n + amount
+values_few l.Null n amount = omega arith
+values_few _ n amount = omega arith
+
+-- the buffers of a column take no more than so much for each slot, and their data
+pub buffers_few : (layout : Layout) (vs : List Value)
+    → length (padded_bytes (column_buffers layout vs)) ≤ 6 * length vs + 25 + data_in layout vs
+buffers_few layout vs =
+    let size = column_size layout vs in
+    let v = validity_few layout (length vs) (nulls vs) in
+    let o = offsets_few layout (length vs) in
+    let w = values_few layout (length vs) (data_in layout vs) in
+    let a = padded_few (validity_length layout (length vs) (nulls vs)) in
+    let b = padded_few (offsets_length layout (length vs)) in
+    let c = padded_few (values_length layout (length vs) (data_in layout vs)) in
+    omega (arith, size, v, o, w, a, b, c)
+
+-- columns that take no more than a body has are within the limits
+pub takes_within : (limits : Limits) (shape : Shape) (given : ℕ → List Value) (all : ℕ) → TakeAtMost limits all shape given
+    → all ≤ limits.body → AreColumnsWithin limits shape given
+takes_within limits shape given all h most =
+    record { few = h.few; short = h.short; body = let bytes = h.bytes in omega (arith, bytes, most) }
+
+-- ---- what fits
+
+pub nothing_inside : (kind : DataType) (v : Value-F Value) → InnerFit Fits kind [] v
+nothing_inside t.List v = tt
+nothing_inside (t.FixedSizeList size) v = tt
+nothing_inside t.Struct (Value-F.Struct vs) = tt
+nothing_inside t.Struct v = tt
+nothing_inside t.Null v = tt
+nothing_inside t.Bool v = tt
+nothing_inside (t.Int bits signed) v = tt
+nothing_inside t.Binary v = tt
+nothing_inside t.Utf8 v = tt
+nothing_inside (t.FixedSizeBinary size) v = tt
+nothing_inside (t.Date unit) v = tt
+nothing_inside (t.Timestamp unit timezone) v = tt
+nothing_inside (t.Time unit) v = tt
+nothing_inside (t.Duration unit) v = tt
+
+-- one of the field's own fits a field without children
+pub own_fits : (f : Field) (v : Value) → length (out-Field f).children ≡ 0
+    → FitsOwnType (out-Field f).kind (out-Field f).nullable (length (out-Field f).children) (out-Value v) → Fits f v
+own_fits f v none own =
+    subst (λ (T : Type 0). T) (sym (fits_parts f v)) (own, inside (out-Field f).children none)
+  where
+    inside : (fs : List Field) → length fs ≡ 0 → InnerFit Fits (out-Field f).kind fs (out-Value v)
+    inside [] e = nothing_inside (out-Field f).kind (out-Value v)
+    inside (g ∷ gs) e = absurd (omega (arith, e))
+
+-- each of the first values fits the field beside it
+abbrev pub FirstFit : ℕ → List Field → List Value → Type 0
+FirstFit zero fields row = ⊤
+FirstFit (suc i) [] row = ⊤
+FirstFit (suc i) (f ∷ fields) [] = ⊤
+FirstFit (suc i) (f ∷ fields) (v ∷ row) = Fits f v × FirstFit i fields row
+
+pub first_fit_next : (i : ℕ) (fields : List Field) (row : List Value) (f : Field) (v : Value) → FirstFit i fields row
+    → Fits (get_or fields i f) (get_or row i v) → FirstFit (suc i) fields row
+first_fit_next i [] row f v so one = tt
+first_fit_next i (g ∷ fields) [] f v so one = tt
+first_fit_next zero (g ∷ fields) (w ∷ row) f v so one = (one, tt)
+first_fit_next (suc i) (g ∷ fields) (w ∷ row) f v so one = (so.0, first_fit_next i fields row f v so.1 one)
+
+pub first_fit_all : (i : ℕ) (fields : List Field) (row : List Value) → length fields ≤ i → FirstFit i fields row
+    → EachFits Fits fields row
+first_fit_all i [] row all h = tt
+first_fit_all i (f ∷ fields) [] all h = tt
+first_fit_all zero (f ∷ fields) (v ∷ row) all h = absurd (omega (arith, all))
+first_fit_all (suc i) (f ∷ fields) (v ∷ row) all h = (h.0, first_fit_all i fields row (omega (arith, all)) h.1)
+
+-- ---- data that passes its offsets is long data of bytes, or long lists
+
+data_past : (layout : Layout) (vs : List Value) → HasLongData layout vs → HasExcessData layout vs
+data_past (l.VariableBytes utf8) vs h = h
+data_past _ vs h = absurd h
+
+items_past : (layout : Layout) (vs : List Value) → HasLongItems layout vs → HasExcessData layout vs
+items_past l.Lists vs h = h
+items_past _ vs h = absurd h
+
+some_past : (P : Layout → List Value → Type 0) → ((layout : Layout) (vs : List Value) → P layout vs → HasExcessData layout vs)
+    → (shape : Shape) (given : ℕ → List Value) → SomeColumn P shape given → SomeExcessData shape given
+some_past P past bare given h = h
+some_past P past (field k c rest) given (inl own) = inl (past k (given 0) own)
+some_past P past (field k c rest) given (inr (inl child)) = inr (inl (some_past P past c (child_values k (given 0)) child))
+some_past P past (field k c rest) given (inr (inr later)) = inr (inr (some_past P past rest (λ j. given (suc j)) later))
+
+-- long data of one of the columns passes its offsets, and so do long lists
+pub data_some : (shape : Shape) (given : ℕ → List Value) → SomeColumn HasLongData shape given → SomeExcessData shape given
+data_some shape given h = some_past HasLongData data_past shape given h
+
+pub items_some : (shape : Shape) (given : ℕ → List Value) → SomeColumn HasLongItems shape given → SomeExcessData shape given
+items_some shape given h = some_past HasLongItems items_past shape given h
+
+-- the fault of data that passes its offsets: too many items of lists, or too many bytes
+pub past_refused : (limits : Limits) (layout : Layout) (vs : List Value) (e : PushFault) → (layout ≡ l.Lists → e ≡ push.TooMany)
+    → (¬ (layout ≡ l.Lists) → e ≡ push.TooLong) → HasExcessData layout vs → IsPushRefused limits layout vs e
+past_refused limits (l.VariableBytes utf8) vs e lists bytes h =
+    subst (λ (x : PushFault). IsPushRefused limits (l.VariableBytes utf8) vs x) (sym (bytes (λ same. absurd cc))) (inl h)
+past_refused limits l.Lists vs e lists bytes h =
+    subst (λ (x : PushFault). IsPushRefused limits l.Lists vs x) (sym (lists refl_lists)) (inr h)
+  where
+    refl_lists : l.Lists ≡ l.Lists
+    refl_lists = cc
+past_refused limits l.Null vs e lists bytes h = absurd h
+past_refused limits l.Bits vs e lists bytes h = absurd h
+past_refused limits (l.Numbers bits signed) vs e lists bytes h = absurd h
+past_refused limits (l.FixedBytes width) vs e lists bytes h = absurd h
+past_refused limits l.Structs vs e lists bytes h = absurd h
+past_refused limits (l.FixedLists size) vs e lists bytes h = absurd h
+past_refused limits (l.Indices bits signed id) vs e lists bytes h = absurd h
+
+-- more bytes than a body may have
+pub body_refused : (limits : Limits) (layout : Layout) (vs : List Value) (e : PushFault) → (¬ (layout ≡ l.Lists) → e ≡ push.TooLong)
+    → ¬ (layout ≡ l.Lists) → limits.body < length (padded_bytes (column_buffers layout vs)) → IsPushRefused limits layout vs e
+body_refused limits layout vs e bytes other h =
+    subst (λ (x : PushFault). IsPushRefused limits layout vs x) (sym (bytes other)) (inr h)

@@ -1,20 +1,35 @@
--- What one more value, or one more row, gives.
-use Rattle.std.proofs.Common.{◌≡◌, ◌∙◌, refl, sym, ap, ℕ, suc, ◌+◌, Bool, cond, List, [], ◌∷◌, ◌++◌, length, append_assoc}
-use Rattle.std.proofs.Common.{arith, inl, inr}
-use Rattle.std.specs.Prelude.{◌⊎◌}
+-- One value more in a column, and what it gives to the columns below.
+use Rattle.std.proofs.Common.{◌≡◌, ◌∙◌, refl, sym, ap, ℕ, suc, ◌+◌, Bool, cond, List, [], ◌∷◌, ◌++◌, length, append_assoc, arith, inl}
+use Rattle.std.proofs.Common.{inr, zero, ◌*◌, ◌≤◌, replicate, take, subst, true, false}
+use Rattle.std.proofs.Math.Nat.{suc-mul}
+use Rattle.std.proofs.lemmas.Bool.{ne_eqb}
+use Rattle.std.proofs.lemmas.List.{append-nil, replicate-append-replicate, take-replicate}
 use Rattle.std.specs.Int.{bytes_low_first}
-use Rattle.std.proofs.lemmas.List.{append-nil}
-use Rattle.ipc_model.specs.declared.value.Value.{Value}
+use Rattle.std.specs.Prelude.{◌⊎◌}
+use denote.Hole.Carrier
+use Rattle.ipc_model.specs.Layouts.{own_buffers}
 use Rattle.ipc_model.specs.declared.layout.Layout.{Layout}
 use Rattle.ipc_model.specs.declared.layout.Layout.TheVariants as l
+use Rattle.ipc_model.specs.declared.limits.Limits.{Limits}
+use Rattle.ipc_model.specs.declared.value.Value.{Value}
+use Rattle.ipc_model.specs.declared.value.Value as V
+use Rattle.ipc_model.specs.declared.value.Value.TheOpen.{Value-F}
+use Rattle.ipc_model.specs.declared.value.Value.TheOpen as o
+use Rattle.ipc_model.specs.declared.value.Value.TheVariants as v
+use Rattle.ipc_model.specs.declared.value.Value.TheViews.{out-Value, roll-Value, out-roll-Value, roll-out-Value}
+use Rattle.ipc_encode.specs.Bitmaps.{bitmap}
+use Rattle.ipc_encode.specs.Buffers.{child_values, nulls_below}
+use Rattle.ipc_encode.specs.Built.{IsColumn}
+use Rattle.ipc_encode.specs.Cells.{cell, cells, is_set, flags, nulls, content, slot_bytes, slots, extent, ends, offsets, items}
+use Rattle.ipc_encode.specs.Cells.{struct_member, fixed_items, all_fixed_items, all_items, all_parts, fixed_items_in, part_in}
+use Rattle.ipc_encode.specs.Columns.{value_len, data_in, offsets_in, validity_bytes, validity_in, values_in, indices_in}
+use Rattle.ipc_encode.specs.Numbers.{Numbering}
 use Rattle.ipc_encode.specs.Pieces.{Flag, Run, Valid, ValueSlot}
 use Rattle.ipc_encode.specs.Pieces as p
-use Rattle.ipc_encode.specs.Cells.{cell, cells, is_set, flags, nulls, content, slot_bytes, slots, extent, ends, offsets, items}
-use Rattle.ipc_encode.specs.Cells.{struct_member}
-use Rattle.ipc_encode.specs.Cells.{fixed_items, all_fixed_items}
-use Rattle.ipc_encode.specs.Cells.{all_items, all_parts}
-use Rattle.ipc_encode.specs.Buffers.{child_values}
-use Rattle.ipc_encode.specs.Columns.{value_len, data_in, offsets_in}
+use Rattle.ipc_encode.specs.Writing.{AreStored}
+use Rattle.ipc_encode.specs.declared.column_builder.ColumnBuilder.{ColumnBuilder}
+
+-- ---- what one more value, or one more row, gives
 
 -- a column has a cell for each row
 pub cells_length : (j : ℕ) (rows : List (List Value)) → length (cells j rows) ≡ length rows
@@ -108,24 +123,12 @@ pub below_append : (layout : Layout) (vs ws : List Value) (j : ℕ) → child_va
 below_append l.Lists vs ws j = items_append vs ws
 below_append (l.FixedLists size) vs ws j = fixed_append size vs ws
 below_append l.Structs vs ws j = parts_append j vs ws
-below_append l.Null vs ws j = refl
-below_append l.Bits vs ws j = refl
-below_append (l.Numbers bits signed) vs ws j = refl
-below_append (l.FixedBytes width) vs ws j = refl
-below_append (l.VariableBytes utf8) vs ws j = refl
-below_append (l.Indices bits signed id) vs ws j = refl
+below_append _ vs ws j = refl
 
 -- no values give none
 pub below_none : (layout : Layout) (j : ℕ) → child_values layout [] j ≡ []
-below_none l.Lists j = refl
-below_none l.Structs j = refl
-below_none (l.FixedLists size) j = refl
 below_none l.Null j = refl
-below_none l.Bits j = refl
-below_none (l.Numbers bits signed) j = refl
-below_none (l.FixedBytes width) j = refl
-below_none (l.VariableBytes utf8) j = refl
-below_none (l.Indices bits signed id) j = refl
+below_none _ j = refl
 
 -- ---- the offsets of a column
 
@@ -149,3 +152,201 @@ pub offsets_in_none : (layout : Layout) (old new : List ℕ)
     → old ≡ [] → new ≡ old ++ bytes_low_first 0 4 0 → new ≡ offsets_in layout []
 offsets_in_none layout old new (inl e) o n = rw (e.1, n, o) refl
 offsets_in_none layout old new (inr e) o n = rw (e, n, o) refl
+
+-- ---- what one value gives to the columns below its own
+
+-- ---- a null
+
+null_part : (j : ℕ) → struct_member j v.Null ≡ v.Null
+unfolding V.out-Value denote.Hole.Carrier.out
+null_part j = refl
+
+null_items : items v.Null ≡ []
+unfolding V.out-Value denote.Hole.Carrier.out
+null_items = refl
+
+null_fixed : (size : ℕ) → fixed_items size v.Null ≡ replicate size v.Null
+unfolding V.out-Value denote.Hole.Carrier.out
+null_fixed size = refl
+
+-- what a null gives to each child
+pub null_gives : (layout : Layout) (j : ℕ) → child_values layout (v.Null ∷ []) j ≡ replicate (nulls_below layout) v.Null
+null_gives l.Structs j = ap (λ (w : Value). w ∷ []) (null_part j)
+null_gives (l.FixedLists size) j = append-nil (fixed_items size v.Null) ∙ null_fixed size
+null_gives l.Lists j = append-nil (items v.Null) ∙ null_items
+null_gives _ j = refl
+
+-- what so many nulls give to it
+pub nulls_give : (layout : Layout) (count j : ℕ)
+    → child_values layout (replicate count v.Null) j ≡ replicate (count * nulls_below layout) v.Null
+nulls_give layout zero j =
+    below_none layout j ∙ ap (λ (n : ℕ). replicate n v.Null) (let e : 0 ≡ 0 * nulls_below layout = omega arith in e)
+nulls_give layout (suc n) j =
+    below_append layout (v.Null ∷ []) (replicate n v.Null) j
+    ∙ (ap (λ (vs : List Value). vs ++ child_values layout (replicate n v.Null) j) (null_gives layout j)
+    ∙ (ap (λ (vs : List Value). replicate (nulls_below layout) v.Null ++ vs) (nulls_give layout n j)
+    ∙ (replicate-append-replicate (nulls_below layout) (n * nulls_below layout) v.Null
+    ∙ ap (λ (k : ℕ). replicate k v.Null)
+    (let e : nulls_below layout + n * nulls_below layout ≡ suc n * nulls_below layout =
+    omega (arith, suc-mul n (nulls_below layout)) in e))))
+
+-- one null more behind so many
+pub null_next : (values : List Value) (n : ℕ) → (values ++ replicate n v.Null) ++ v.Null ∷ [] ≡ values ++ replicate (n + 1) v.Null
+null_next values n =
+    append_assoc values (replicate n v.Null) (v.Null ∷ [])
+    ∙ ap (λ (vs : List Value). values ++ vs) (replicate-append-replicate n 1 v.Null)
+
+-- so many nulls are the first of more
+pub nulls_first : (values : List Value) (n count : ℕ) → n ≤ count
+    → values ++ replicate n v.Null ≡ values ++ take n (replicate count v.Null)
+nulls_first values n count few = ap (λ (vs : List Value). values ++ vs) (sym (take-replicate n count v.Null few))
+
+-- ---- a list, a struct, and another value
+
+pub parts_are : (value : Value) (values : List Value) → value ≡ v.Struct values → (j : ℕ) → struct_member j value ≡ cell j values
+unfolding out-Value roll-Value Carrier.roll
+parts_are value values e j = ap (λ (w : Value). struct_member j w) e ∙ ap (λ (w : Value-F Value). part_in j w)
+    (out-roll-Value (o.Struct values))
+
+pub fixed_are : (size : ℕ) (value : Value) (values : List Value) → value ≡ v.List values → fixed_items size value ≡ values
+unfolding out-Value roll-Value Carrier.roll
+fixed_are size value values e = ap (λ (w : Value). fixed_items size w) e ∙ ap (fixed_items_in size) (out-roll-Value (o.List values))
+
+no_fixed_in : (size : ℕ) (f : Value-F Value) → ((values : List Value) → f ≡ o.List values → ⊥)
+    → fixed_items_in size f ≡ replicate size v.Null
+no_fixed_in size (o.List values) other = absurd (other values refl)
+no_fixed_in size _ other = refl
+
+no_parts_in : (j : ℕ) (f : Value-F Value) → ((values : List Value) → f ≡ o.Struct values → ⊥) → part_in j f ≡ v.Null
+no_parts_in j (o.Struct values) other = absurd (other values refl)
+no_parts_in j _ other = refl
+
+no_fixed : (size : ℕ) (value : Value) → ((values : List Value) → value ≡ v.List values → ⊥)
+    → fixed_items size value ≡ replicate size v.Null
+unfolding roll-Value Carrier.roll
+no_fixed size value other = no_fixed_in size (out-Value value) (λ values e. other values (sym (roll-out-Value value) ∙ ap roll-Value e))
+
+no_struct : (value : Value) → ((values : List Value) → value ≡ v.Struct values → ⊥) → (j : ℕ) → struct_member j value ≡ v.Null
+unfolding roll-Value Carrier.roll
+no_struct value other j = no_parts_in j (out-Value value) (λ values e. other values (sym (roll-out-Value value) ∙ ap roll-Value e))
+
+-- what is no list gives as many nulls to the child of a column of lists of a fixed size
+pub fixed_gives : (layout : Layout) (size : ℕ) (value : Value) → layout ≡ l.FixedLists size
+    → ((values : List Value) → value ≡ v.List values → ⊥) → (j : ℕ)
+    → child_values layout (value ∷ []) j ≡ replicate (nulls_below layout) v.Null
+fixed_gives layout size value e other j = rw e (append-nil (fixed_items size value) ∙ no_fixed size value other)
+
+-- what is no struct gives a null to each child of a column of structs
+pub struct_gives : (layout : Layout) (value : Value) → layout ≡ l.Structs → ((values : List Value) → value ≡ v.Struct values → ⊥)
+    → (j : ℕ) → child_values layout (value ∷ []) j ≡ replicate (nulls_below layout) v.Null
+struct_gives layout value e other j = rw e (ap (λ (w : Value). w ∷ []) (no_struct value other j))
+
+-- what values give, behind the others
+pub more_below : (layout : Layout) (vs ws : List Value) (more : ℕ → List Value) → ((j : ℕ) → child_values layout ws j ≡ more j)
+    → ◌≡◌ {A = ℕ → List Value} (λ j. child_values layout vs j ++ more j) (child_values layout (vs ++ ws))
+more_below layout vs ws more gives = λ d j. sym (below_append layout vs ws j
+    ∙ ap (λ (given : List Value). child_values layout vs j ++ given) (gives j)) d
+
+-- the items of a list behind the others
+pub lists_more : (layout : Layout) (vs : List Value) (value : Value) (values : List Value) → layout ≡ l.Lists → items value ≡ values
+    → ◌≡◌ {A = ℕ → List Value} (λ j. child_values layout vs j ++ values) (child_values layout (vs ++ value ∷ []))
+lists_more layout vs value values e is =
+    more_below layout vs (value ∷ []) (λ j. values) (λ j. rw e (append-nil (items value) ∙ is))
+
+-- the same of a list of a fixed size
+pub fixed_more : (layout : Layout) (size : ℕ) (vs : List Value) (value : Value) (values : List Value) → layout ≡ l.FixedLists size
+    → fixed_items size value ≡ values
+    → ◌≡◌ {A = ℕ → List Value} (λ j. child_values layout vs j ++ values) (child_values layout (vs ++ value ∷ []))
+fixed_more layout size vs value values e is =
+    more_below layout vs (value ∷ []) (λ j. values) (λ j. rw e (append-nil (fixed_items size value) ∙ is))
+
+-- a part of a struct behind the others
+pub structs_more : (layout : Layout) (vs : List Value) (value : Value) (next : ℕ → Value) → layout ≡ l.Structs
+    → ((j : ℕ) → struct_member j value ≡ next j)
+    → ◌≡◌ {A = ℕ → List Value} (λ j. child_values layout vs j ++ next j ∷ []) (child_values layout (vs ++ value ∷ []))
+structs_more layout vs value next e is =
+    more_below layout vs (value ∷ []) (λ j. next j ∷ []) (λ j. rw e (ap (λ (w : Value). w ∷ []) (is j)))
+
+-- so many nulls behind the others
+pub nulls_more : (layout : Layout) (vs : List Value) (value : Value) (count : ℕ) → count ≡ nulls_below layout
+    → ((j : ℕ) → child_values layout (value ∷ []) j ≡ replicate (nulls_below layout) v.Null)
+    → ◌≡◌ {A = ℕ → List Value} (λ j. child_values layout vs j ++ replicate count v.Null) (child_values layout (vs ++ value ∷ []))
+nulls_more layout vs value count e gives =
+    more_below layout vs (value ∷ []) (λ j. replicate count v.Null) (λ j. gives j ∙ ap (λ (n : ℕ). replicate n v.Null) (sym e))
+
+-- ---- one value more in the buffers of a column
+
+-- where no value is null each flag is set
+pub all_valid : (vs : List Value) → nulls vs ≡ 0 → flags Valid vs ≡ replicate (length vs) true
+all_valid [] none = refl
+all_valid (v ∷ vs) none = first (is_set Valid v) none (λ e. all_valid vs e)
+  where
+    first : (b : Bool) → cond b 0 1 + nulls vs ≡ 0 → (nulls vs ≡ 0 → flags Valid vs ≡ replicate (length vs) true)
+        → b ∷ flags Valid vs ≡ true ∷ replicate (length vs) true
+    first true e more = ap (λ (fs : List Bool). true ∷ fs) (more (omega (arith, e)))
+    first false e more = absurd (omega arith)
+
+-- a bitmap is there where a value is null
+pub some_null : (vs : List Value) → (nulls vs ≡ 0 → ⊥) → validity_bytes vs ≡ bitmap (flags Valid vs)
+some_null vs some = rw (ne_eqb (nulls vs) 0 some) refl
+
+pub no_nulls : (vs : List Value) → nulls vs ≡ 0 → validity_bytes vs ≡ []
+no_nulls vs none = rw none refl
+
+-- a valid value more where none is null
+pub still_none : (vs : List Value) (v : Value) → nulls vs ≡ 0 → is_set Valid v ≡ true → validity_bytes (vs ++ v ∷ []) ≡ validity_bytes vs
+still_none vs v none valid =
+    let more : nulls (vs ++ v ∷ []) ≡ 0 = nulls_push vs v ∙ rw (none, valid) refl in
+    no_nulls (vs ++ v ∷ []) more ∙ sym (no_nulls vs none)
+
+pub bits_then : (vs : List Value) (v : Value) (new : List ℕ) (b : Bool) → b ≡ is_set Valid v → (nulls (vs ++ v ∷ []) ≡ 0 → ⊥)
+    → new ≡ bitmap (flags Valid vs ++ b ∷ []) → new ≡ validity_bytes (vs ++ v ∷ [])
+bits_then vs v new b same some e =
+    e ∙ (ap (λ (f : Bool). bitmap (flags Valid vs ++ f ∷ [])) same
+    ∙ (ap bitmap (sym (flags_push Valid vs v)) ∙ sym (some_null (vs ++ v ∷ []) some)))
+
+-- a null more
+pub null_more : (vs : List Value) (v : Value) → is_set Valid v ≡ false → nulls (vs ++ v ∷ []) ≡ 0 → ⊥
+null_more vs v e none =
+    let more = nulls_push vs v in
+    let one : cond {A = ℕ} (is_set Valid v) 0 1 ≡ 1 = ap (λ (b : Bool). cond {A = ℕ} b 0 1) e in
+    omega (arith, more, one, none)
+
+-- as many nulls as before at least
+pub nulls_stay : (vs : List Value) (v : Value) → (nulls vs ≡ 0 → ⊥) → nulls (vs ++ v ∷ []) ≡ 0 → ⊥
+nulls_stay vs v some none = let more = nulls_push vs v in some (omega (arith, more, none))
+
+-- ---- layouts with a bitmap
+
+pub has_bitmap : (layout : Layout) (vs : List Value) → (own_buffers layout ≡ 0 → ⊥) → validity_in layout vs ≡ validity_bytes vs
+has_bitmap l.Null vs some = absurd (some refl)
+has_bitmap _ vs some = refl
+
+pub no_bitmap : (layout : Layout) (vs : List Value) → own_buffers layout ≡ 0 → validity_in layout vs ≡ []
+no_bitmap l.Null vs none = refl
+no_bitmap _ vs none = absurd (omega arith)
+
+-- a column of one layout is one of the same layout
+pub laid_as : {column : ColumnBuilder} → (known : Numbering) (limits : Limits) (lay layout : Layout) (vs : List Value) → lay ≡ layout
+    → IsColumn known limits lay vs column
+    → IsColumn known limits layout vs column
+laid_as {column} known limits lay layout vs e h = subst (λ (x : Layout). IsColumn known limits x vs column) e h
+
+-- ---- a column without values
+
+pub validity_none : (layout : Layout) → validity_in layout [] ≡ []
+validity_none l.Null = refl
+validity_none _ = refl
+
+pub values_none : (layout : Layout) → values_in layout [] ≡ []
+values_none l.Null = refl
+values_none _ = refl
+
+pub stored_none : (layout : Layout) → AreStored layout []
+stored_none (l.VariableBytes false) = tt
+stored_none (l.VariableBytes true) = tt
+stored_none _ = tt
+
+pub indices_none : (known : Numbering) (layout : Layout) → indices_in known layout [] ≡ []
+indices_none known l.Null = refl
+indices_none known _ = refl

@@ -1,7 +1,7 @@
 -- The nodes, the buffers and the body that are written for rows (Arrow Columnar Format,
 -- "RecordBatch message").
 use Rattle.std.specs.Prelude.{◌≡◌, ℕ, suc, ◌+◌, ◌-◌, ◌%◌, ◌==◌, ℤ, pos, List, [], ◌∷◌, ◌++◌, length}
-use Rattle.std.specs.Prelude.{replicate, if◌then◌else◌}
+use Rattle.std.specs.Prelude.{drop, replicate, if◌then◌else◌}
 use Rattle.ipc_model.specs.declared.schema.Field.{Field}
 use Rattle.ipc_model.specs.declared.value.Value.{Value}
 use Rattle.ipc_model.specs.declared.layout.Layout.{Layout}
@@ -50,6 +50,10 @@ buffer_bytes (piece ∷ more) values = piece_bytes piece values ∷ buffer_bytes
 -- indices, the values are the numbers of the indices
 abbrev pub column_buffers : Layout → List Value → List (List ℕ)
 column_buffers layout values = buffer_bytes (pieces layout (nulls values)) values
+
+-- the buffers of a column that follow its validity bitmap
+abbrev pub data_buffers : Layout → List Value → List (List ℕ)
+data_buffers layout values = drop 1 (column_buffers layout values)
 
 -- the values of child j of a column (Arrow Columnar Format, "Variable-size List Layout",
 -- "Fixed-Size List Layout", "Struct Layout"). The child of lists has their items; a null list has

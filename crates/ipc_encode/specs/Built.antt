@@ -10,7 +10,7 @@ use Rattle.ipc_encode.specs.declared.column_builder.ColumnBuilder.{ColumnBuilder
 use Rattle.ipc_encode.specs.declared.counts.ColumnCounts.{ColumnCounts}
 use Rattle.ipc_encode.specs.declared.fault.PushFault.{PushFault}
 use Rattle.ipc_encode.specs.declared.fault.PushFault.TheVariants as fault
-use Rattle.ipc_encode.specs.declared.node.Node.{Node, out-Node}
+use Rattle.ipc_encode.specs.declared.tree.Node.{Node, out-Node}
 use Rattle.ipc_encode.specs.declared.column_builder.Purpose.{Purpose}
 use Rattle.ipc_encode.specs.declared.column_builder.Purpose.TheVariants as purpose
 use Rattle.ipc_column.specs.Shapes.{Shape, bare, field, shape_of}

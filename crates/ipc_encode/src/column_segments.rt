@@ -1,31 +1,113 @@
 //! The buffers of a column, borrowed from the batch where they lie as they are written.
-ghost use Rattle.std.specs.Prelude.{◌≡◌, ◌<◌, ◌≤◌, ◌+◌, ◌*◌, ℕ, false, List, []};
-ghost use Rattle.std.specs.Prelude.{◌⊎◌, length, take, drop, replicate, IfErr, IfOk, IsTrue, OnOk};
+ghost use Rattle.std.specs.List.{AllByRecursion};
+ghost use Rattle.std.specs.Prelude.{◌≡◌, ◌≤◌, ◌<◌, ◌+◌, ◌*◌, ℕ, false, length, IfSome, IsTrue};
+ghost use Rattle.std.specs.Prelude.{slice_index, take, List, [], ◌⊎◌, drop, replicate, IfErr};
+ghost use Rattle.std.specs.Prelude.{IfOk, OnOk};
 ghost use Rattle.ipc_scalar.specs.Bytes.{num};
 ghost use Rattle.ipc_model.specs.Limits.{max_data};
-ghost use Rattle.ipc_model.specs.declared.layout.Layout.TheVariants.{Lists};
+ghost use Rattle.ipc_model.specs.declared.layout.Layout.TheVariants.{Bits, FixedBytes, Lists};
 ghost use Rattle.ipc_model.specs.declared.value.Value.{Value};
 ghost use Rattle.ipc_column.specs.Lending.{AreNumbers};
-ghost use Rattle.ipc_column.specs.Nested.{slot_values};
+ghost use Rattle.ipc_column.specs.Nested.{only_column, slot_values};
+ghost use Rattle.ipc_column.specs.Rules.{SpellsTexts};
 ghost use Rattle.ipc_column.specs.Values.{is_valid};
 ghost use Rattle.ipc_encode.specs.Bitmaps.{bitmap};
-ghost use Rattle.ipc_encode.specs.Cells.{ends, flags, nulls, offsets, slots};
+ghost use Rattle.ipc_encode.specs.Cells.{HasUtf8, ends, slots, flags, nulls, offsets};
 ghost use Rattle.ipc_encode.specs.Columns.{data_in, validity_bytes};
 ghost use Rattle.ipc_encode.specs.Marks.{HasBits, MarksNulls};
 ghost use Rattle.ipc_encode.specs.Pieces.{Bytes, Content, Fixed, Items, Number, True};
 ghost use Rattle.ipc_encode.specs.Segments.{segment_bytes};
 
-use crate::bitmap_pushing::is_valid_in_bitmap;
-use crate::buffers::{BorrowedContents, borrowed_bitmap, borrowed_contents, borrowed_fixed_values};
+use crate::bitmaps::{is_valid_in_bitmap, push_bitmap};
 use crate::column_builder::MAX_DATA;
 use crate::fault::PushFault;
-use crate::nested_slots::push_list_ends;
-use crate::numbers::push_some;
 use crate::segments::Segment;
-use crate::slot_pushing::{push_bools, push_each_content, push_ends, push_widths};
-use crate::{bitmap_pushing, slot_pushing};
+use crate::slot_pushing::{
+    push_bools, push_each_content, push_ends, push_fixed_slots, push_list_ends, push_numbers,
+};
 use ipc_column::{Numbers, SlotView};
+use ipc_model::Layout;
+use ipc_scalar::get_u32;
 use std::alloc::{AllocError, Global};
+
+/// Returns the validity bitmap of a column, if it marks exactly the null slots.
+pub(crate) fn borrowed_bitmap<'a>(view: &SlotView<'a>) -> Option<&'a [u8]>
+    ensures marks { IfSome result (λ marks. MarksNulls marks.now (slot_values view.now)) }
+    ensures bits { IfSome result (λ marks. HasBits marks.now (length (slot_values view.now))) }
+{
+    let buffers = view.buffers();
+    match buffers.layout {
+        Layout::Null | Layout::Indices { .. } => None,
+        _ => Some(buffers.validity),
+    }
+}
+
+/// The texts or binary values of a column, as they are laid out in the body.
+#[derive(Clone, Copy, Debug, Drop)]
+pub(crate) struct BorrowedContents<'a> {
+    /// The bytes of the values, one after another.
+    pub(crate) bytes: &'a [u8],
+    /// The offset at which the first value begins.
+    pub(crate) start: usize,
+    /// The offset at which each value ends, in 32 bits.
+    pub(crate) ends: &'a [u8],
+}
+
+/// Returns offset `i`, which is not negative.
+#[inline(always)]
+pub(crate) fn offset_at(offsets: &[u8], i: usize) -> u32
+    requires { 4 * (i + 1) ≤ length offsets.now }
+    ensures { result ≡ num offsets.now (4 * i) 4 }
+{
+    get_u32(offsets, 4 * i).unwrap_or(0)
+}
+
+// Whether each null slot ends where it begins.
+pub(crate) fn nulls_are_empty(marks: &[u8], offsets: &[u8], count: usize) -> bool
+    requires bits { HasBits marks.now count }
+    requires offsets { 4 * (count + 1) ≤ length offsets.now }
+    ensures empty { IsTrue result → (i : ℕ) → i < count → is_valid marks.now i ≡ false
+        → num offsets.now (4 * (i + 1)) 4 ≡ num offsets.now (4 * i) 4 }
+    ensures bytes { (i : ℕ) → slice_index offsets.now i < 256 }
+{
+    for slot in 0..count {
+        if !is_valid_in_bitmap(marks, slot)
+            && offset_at(offsets, slot + 1) != offset_at(offsets, slot)
+        {
+            return false;
+        }
+    }
+    true
+}
+
+/// Returns the texts or binary values of a column, if null slots have no bytes.
+pub(crate) fn borrowed_contents<'a>(view: &SlotView<'a>) -> Option<BorrowedContents<'a>>
+    ensures bytes { IfSome result
+        (λ lent. lent.bytes.now ≡ slots Content (slot_values view.now)) }
+    ensures ends { IfSome result
+        (λ lent. lent.ends.now ≡ ends Bytes lent.start (slot_values view.now)) }
+    ensures each { IfSome result (λ lent. (i : ℕ) → i < length (slot_values view.now)
+        → num lent.ends.now (4 * i) 4
+        ≡ lent.start + length (slots Content (take (i + 1) (slot_values view.now)))) }
+    ensures room { IfSome result
+        (λ lent. length lent.ends.now ≡ 4 * length (slot_values view.now)) }
+{
+    let buffers = view.buffers();
+    let count = view.len();
+    let Layout::VariableBytes { .. } = buffers.layout else {
+        return None;
+    };
+    if count == 0 || !nulls_are_empty(buffers.validity, buffers.offsets, count) {
+        return None;
+    }
+    let start = offset_at(buffers.offsets, 0) as usize;
+    let end = offset_at(buffers.offsets, count) as usize;
+    Some(BorrowedContents {
+        bytes: &buffers.values[start..end],
+        start,
+        ends: &buffers.offsets[4..4 * (count + 1)],
+    })
+}
 
 /// The buffers of binary values or texts, without the first offset, which is 0.
 #[derive(Debug, Drop)]
@@ -100,101 +182,59 @@ pub(crate) fn marked_validity<'a>(
         return Ok(Segment::Borrowed(&marks[..count / 8]));
     }
     let mut validity = pooled_list(alloc, pool);
-    bitmap_pushing::push_bitmap(&mut validity, marks, count)?;
+    push_bitmap(&mut validity, marks, count)?;
     Ok(Segment::Owned(validity))
 }
 
-/// Returns the validity bitmap of a column with `null_count` nulls, as `marked_validity` does.
-pub(crate) fn column_validity<'a>(
-    alloc: Global,
-    pool: &mut Vec<Vec<u8>>,
-    view: &SlotView<'a>,
-    null_count: usize,
-) -> Result<Segment<'a>, AllocError>
-    requires { null_count ≡ nulls (slot_values view.now) }
-    ensures { IfOk result
-        (λ segment. segment_bytes segment ≡ validity_bytes (slot_values view.now)) }
-{
-    if null_count == 0 {
-        return Ok(Segment::Zeros(0));
-    }
-    if let Some(marks) = borrowed_bitmap(view) {
-        return marked_validity(alloc, pool, marks, view.len(), null_count);
-    }
-    let mut validity = pooled_list(alloc, pool);
-    slot_pushing::push_slot_validity(&mut validity, view)?;
-    Ok(Segment::Owned(validity))
-}
-
-// The bytes of numbers, none of which is null.
-fn valid_numbers<'a>(view: &SlotView<'a>, numbers: &Numbers<'a>, bytes: &'a [u8]) -> Segment<'a>
-    requires numbers { AreNumbers view.now numbers.now }
-    requires bytes { bytes.now ≡ numbers.now.values.now }
-    requires valid { nulls (slot_values view.now) ≡ 0 }
-    ensures { segment_bytes result ≡ slots (Number numbers.now.bits) (slot_values view.now) }
-{
-    Segment::Borrowed(&bytes[..numbers.bits.bytes() * view.len()])
-}
-
-// The bytes of numbers, some of which may be null: borrowed if the null slots are zeros.
-fn nullable_numbers<'a>(
-    alloc: Global,
-    pool: &mut Vec<Vec<u8>>,
-    view: &SlotView<'a>,
-    numbers: &Numbers<'a>,
-    bytes: &'a [u8],
-) -> Result<Segment<'a>, AllocError>
-    requires numbers { AreNumbers view.now numbers.now }
-    requires bytes { bytes.now ≡ numbers.now.values.now }
-    requires bits { HasBits numbers.now.validity.now (length (slot_values view.now)) }
-    ensures { IfOk result (λ segment. segment_bytes segment
-        ≡ slots (Number numbers.now.bits) (slot_values view.now)) }
-{
-    let width = numbers.bits.bytes();
-    let count = view.len();
-    if null_slots_are_zeros(numbers.validity, bytes, width, count) {
-        return Ok(Segment::Borrowed(&bytes[..width * count]));
-    }
-    let mut values = pooled_list(alloc, pool);
-    push_some(&mut values, view, numbers)?;
-    Ok(Segment::Owned(values))
-}
-
-/// Returns the bytes of numbers with `null_count` nulls: borrowed if the null slots are zeros.
+/// Returns the bytes of numbers, of which `null_count` are null: borrowed if null slots are zeros.
 pub(crate) fn number_values<'a>(
     alloc: Global,
     pool: &mut Vec<Vec<u8>>,
     view: &SlotView<'a>,
     numbers: &Numbers<'a>,
+    bytes: &'a [u8],
     null_count: usize,
 ) -> Result<Segment<'a>, AllocError>
     requires numbers { AreNumbers view.now numbers.now }
+    requires bytes { bytes.now ≡ numbers.now.values.now }
     requires bits { HasBits numbers.now.validity.now (length (slot_values view.now)) }
     requires nulls { null_count ≡ nulls (slot_values view.now) }
     ensures { IfOk result (λ segment. segment_bytes segment
         ≡ slots (Number numbers.now.bits) (slot_values view.now)) }
 {
+    let width = numbers.bits.bytes();
+    let count = view.len();
     if null_count == 0 {
-        return Ok(valid_numbers(view, numbers, numbers.values));
+        return Ok(Segment::Borrowed(&bytes[..width * count]));
     }
-    nullable_numbers(alloc, pool, view, numbers, numbers.values)
+    if null_slots_are_zeros(numbers.validity, bytes, width, count) {
+        return Ok(Segment::Borrowed(&bytes[..width * count]));
+    }
+    let mut values = pooled_list(alloc, pool);
+    push_numbers(&mut values, view, numbers)?;
+    Ok(Segment::Owned(values))
 }
 
-/// Returns the bytes of values of a fixed width: borrowed if none is null.
+/// Returns the bytes of values of a fixed width, of which `null_count` are null: borrowed if none
+/// is.
 pub(crate) fn fixed_values<'a>(
     alloc: Global,
     pool: &mut Vec<Vec<u8>>,
     view: &SlotView<'a>,
     width: u32,
+    null_count: usize,
 ) -> Result<Segment<'a>, AllocError>
+    requires layout { view.now.column.layout ≡ FixedBytes width }
+    requires nulls { null_count ≡ nulls (slot_values view.now) }
     ensures { IfOk result (λ segment. segment_bytes segment
         ≡ slots (Fixed width) (slot_values view.now)) }
 {
-    if let Some(bytes) = borrowed_fixed_values(view, width) {
-        return Ok(Segment::Borrowed(bytes));
+    if null_count == 0 {
+        let buffers = view.buffers();
+        return Ok(Segment::Borrowed(&buffers.values[..width as usize * view.len()]));
     }
     let mut values = pooled_list(alloc, pool);
-    push_widths(&mut values, view, width)?;
+    push_fixed_slots(&mut values, view, width)?;
     Ok(Segment::Owned(values))
 }
 
@@ -204,6 +244,7 @@ pub(crate) fn bit_values<'a>(
     pool: &mut Vec<Vec<u8>>,
     view: &SlotView<'a>,
 ) -> Result<Segment<'a>, AllocError>
+    requires { view.now.column.layout ≡ Bits }
     ensures { IfOk result (λ segment. segment_bytes segment
         ≡ bitmap (flags True (slot_values view.now))) }
 {

@@ -1,16 +1,14 @@
 //! Checks whether the rows of a batch that was read fit a schema.
-ghost use Rattle.std.specs.Prelude.{◌≡◌, ◌<◌, ◌⊎◌, ℕ, ℤ, Bool, List, [], true, false, length, take};
-ghost use Rattle.std.specs.Prelude.{IfErr, IsTrue, OnOk, slice_index_or};
 ghost use Rattle.std.specs.List.{AllByRecursion};
+ghost use Rattle.std.specs.Prelude.{◌≡◌, IsTrue, ◌<◌, ◌⊎◌, ℕ, ℤ, Bool, List, [], true, false};
+ghost use Rattle.std.specs.Prelude.{length, take, IfErr, OnOk, slice_index_or};
 ghost use Rattle.ipc_model.specs.Fits.{EachFits, Fits, InnerFit, FitsOwnType, RowFits};
 ghost use Rattle.ipc_model.specs.Layouts.{type_layout};
 ghost use Rattle.ipc_model.specs.RowFaults.{HasShortPaths};
 ghost use Rattle.ipc_model.specs.declared.layout.Layout.TheVariants.{Indices};
-ghost use Rattle.ipc_model.specs.declared.schema.DataType.TheVariants as kinds;
 ghost use Rattle.ipc_model.specs.declared.schema.Field.{out-Field};
 ghost use Rattle.ipc_model.specs.declared.schema.IntBits.{IntBits};
 ghost use Rattle.ipc_model.specs.declared.value.Value.{Value, out-Value};
-ghost use Rattle.ipc_model.specs.declared.value.Value.TheOpen as values;
 ghost use Rattle.ipc_model.specs.declared.value.Value.TheVariants.{Null};
 ghost use Rattle.ipc_column.specs.Nested.{child_columns, slot_values};
 ghost use Rattle.ipc_column.specs.Plain.{IsShownBy};
@@ -21,14 +19,41 @@ ghost use Rattle.ipc_encode.specs.Marks.{HasBits};
 ghost use Rattle.ipc_encode.specs.Mismatches.{AreMismatches};
 ghost use Rattle.ipc_encode.specs.Pieces.{Valid};
 ghost use Rattle.ipc_encode.specs.PlainColumns.{layout_implies_type};
+ghost use Rattle.ipc_model.specs.declared.schema.DataType.TheVariants as kinds;
+ghost use Rattle.ipc_model.specs.declared.value.Value.TheOpen as values;
 
-use crate::bitmap_pushing::valid_are_among;
-use crate::buffers::borrowed_bitmap;
-use crate::plain::{are_equal_layouts, layout_implies_type};
+use crate::bitmaps::valid_are_among;
+use crate::column_segments::borrowed_bitmap;
 use crate::whole_columns::lists_use_all_items;
 use ipc_column::{Batch, Slot, SlotView};
-use ipc_model::{DataType, Field, Layout, Schema, Value, WriteFault, conforms, layout_of};
+use ipc_model::{
+    DataType, DateUnit, Field, Layout, Schema, Value, WriteFault, conforms, layout_of,
+};
 use std::alloc::Global;
+
+/// Returns whether all values that the slots of a type's layout can hold are of the type.
+pub(crate) fn layout_implies_type(kind: &DataType) -> bool
+    ensures { result ≡ layout_implies_type kind.now }
+{
+    matches!(
+        kind,
+        DataType::Bool
+            | DataType::Int { .. }
+            | DataType::Binary
+            | DataType::Utf8
+            | DataType::FixedSizeBinary(_)
+            | DataType::Date(DateUnit::Day)
+            | DataType::Timestamp { .. }
+            | DataType::Duration(_)
+    )
+}
+
+/// Returns true only if two layouts are equal.
+pub(crate) fn are_equal_layouts(one: Layout, other: Layout) -> bool
+    ensures { IsTrue result → one ≡ other }
+{
+    one == other
+}
 
 // Whether no slot is null. Each is checked.
 fn has_no_null(view: &SlotView<'_>) -> bool

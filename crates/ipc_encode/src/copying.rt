@@ -1,20 +1,265 @@
 //! Takes the values of a column of a batch that was read into a column without values.
-ghost use Rattle.std.specs.Prelude.{◌≡◌, ◌<◌, [], length, slice_index_or, IfErr, IfOk};
-ghost use Rattle.std.specs.Prelude.{OnOk};
+ghost use Rattle.std.specs.Prelude.{◌≡◌, ◌≤◌, ◌<◌, ℕ, ℤ, Bool, List, [], length, map, Option};
+ghost use Rattle.std.specs.Prelude.{Some, slice_get, slice_index_or, IfErr, IfOk, IfSome, OnOk};
 ghost use Rattle.ipc_model.specs.declared.layout.Layout.{Layout};
+ghost use Rattle.ipc_model.specs.declared.layout.Layout.TheVariants.{Indices};
+ghost use Rattle.ipc_model.specs.declared.value.Value.{Value};
+ghost use Rattle.ipc_column.specs.Lent.{AreOfColumn};
+ghost use Rattle.ipc_column.specs.Nested.{slot_values};
 ghost use Rattle.ipc_column.specs.Shapes.{Shape, bare, field};
-ghost use Rattle.ipc_encode.specs.Cells.{cell, cells};
-ghost use Rattle.ipc_encode.specs.Built.{ArePushesRefused, IsColumn, IsNode};
-ghost use Rattle.ipc_encode.specs.Numbers.{index_or_zero};
+ghost use Rattle.ipc_encode.specs.Bitmaps.{bitmap};
+ghost use Rattle.ipc_encode.specs.Built.{IsColumn, IsPushRefused, ArePushesRefused, IsNode};
+ghost use Rattle.ipc_encode.specs.Cells.{cells, flags, nulls, cell};
+ghost use Rattle.ipc_encode.specs.Columns.{validity_bytes};
+ghost use Rattle.ipc_encode.specs.EntryIndices.{AreKept, column_index};
+ghost use Rattle.ipc_encode.specs.Numbers.{indices_of, index_or_zero};
+ghost use Rattle.ipc_encode.specs.Pieces.{Valid};
 
-use crate::column_builder::Purpose;
+use crate::bitmaps::push_bit;
+use crate::column_builder::{ColumnBuilder, Purpose, known_index};
 use crate::fault::PushFault;
 use crate::index::IndexOf;
-use crate::node::Node;
-use crate::tree::take;
-use ipc_column::Batch;
-use ipc_model::{Layout, Limits, Value};
-use std::alloc::Global;
+use crate::tree::{Node, take};
+use ipc_column::{Batch, SlotView};
+use ipc_model::{IntBits, Layout, Limits, Value};
+use std::alloc::{AllocError, Global};
+
+// A place for the index of each value of a column's dictionary, none of which was asked for.
+fn empty_cache(alloc: Global, slots: &SlotView<'_>) -> Result<Vec<Option<Option<u64>>>, AllocError>
+    ensures { (index_for : Value → Option ℕ)
+        → IfOk result (λ kept. AreKept index_for slots.now.column.dictionary kept.items) }
+{
+    let mut kept = Vec::new(alloc);
+    if let Some(entries) = slots.entries() {
+        kept.resize(entries.len(), None)?;
+    }
+    Ok(kept)
+}
+
+// The index of a value of the dictionary, where it was asked for.
+#[inline(always)]
+fn cached_index(kept: &[Option<Option<u64>>], entry: usize) -> Option<Option<u64>>
+    ensures { IfSome result (λ index. slice_get kept.now entry ≡ Some (Some index)) }
+{
+    match kept.get(entry) {
+        Some(index) => *index,
+        None => None,
+    }
+}
+
+// Keeps the index of a value of the dictionary.
+fn cache_index(kept: &mut Vec<Option<Option<u64>>>, entry: usize, index: Option<u64>)
+    ensures { (index_for : Value → Option ℕ) (dictionary : List Value)
+        → AreKept index_for dictionary kept.old.items
+        → ((value : Value) → slice_get dictionary entry ≡ Some value → index ≡ index_for value)
+        → AreKept index_for dictionary kept.new.items }
+{
+    if entry < kept.len() {
+        kept[entry] = Some(index);
+    }
+}
+
+// The index of the value in a row of a column.
+fn cell_index<I: IndexOf>(
+    alloc: Global,
+    batch: &Batch,
+    column: usize,
+    row: usize,
+    layout: Layout,
+    indices: &I,
+) -> Result<Option<u64>, AllocError>
+    requires row { row < length batch.now.rows }
+    requires column { column < batch.now.columns }
+    ensures { (value : Value)
+        → slice_get (slice_index_or batch.now.rows row []) column ≡ Some value
+        → IfOk result (λ index. index
+        ≡ column_index (index_or_zero (I.IndexOf.index indices.now)) layout value) }
+{
+    let value = batch.read_cell(alloc, row, column)?;
+    Ok(match layout {
+        Layout::Indices { id, .. } => known_index(indices, id, &value),
+        _ => None,
+    })
+}
+
+// The index of this value of the dictionary, which a row of the column shows. It is kept.
+fn entry_index<I: IndexOf>(
+    alloc: Global,
+    batch: &Batch,
+    column: usize,
+    row: usize,
+    entry: usize,
+    kept: &mut Vec<Option<Option<u64>>>,
+    layout: Layout,
+    indices: &I,
+) -> Result<Option<u64>, AllocError>
+    requires row { row < length batch.now.rows }
+    requires column { column < batch.now.columns }
+    ensures index { (dictionary : List Value) (value : Value)
+        → AreKept (column_index (index_or_zero (I.IndexOf.index indices.now)) layout) dictionary
+        kept.old.items
+        → slice_get dictionary entry ≡ Some value
+        → slice_get (slice_index_or batch.now.rows row []) column ≡ Some value
+        → IfOk result (λ index. index
+        ≡ column_index (index_or_zero (I.IndexOf.index indices.now)) layout value) }
+    ensures kept { (dictionary : List Value)
+        → AreKept (column_index (index_or_zero (I.IndexOf.index indices.now)) layout) dictionary
+        kept.old.items
+        → slice_get dictionary entry
+        ≡ slice_get (slice_index_or batch.now.rows row []) column
+        → AreKept (column_index (index_or_zero (I.IndexOf.index indices.now)) layout) dictionary
+        kept.new.items }
+{
+    if let Some(index) = cached_index(kept, entry) {
+        return Ok(index);
+    }
+    let index = cell_index(alloc, batch, column, row, layout, indices)?;
+    cache_index(kept, entry, index);
+    Ok(index)
+}
+
+// The index of what a slot of a column shows. It is kept where the slot names a value of the
+// dictionary.
+#[inline(always)]
+fn slot_index<I: IndexOf>(
+    alloc: Global,
+    batch: &Batch,
+    column: usize,
+    slots: &SlotView<'_>,
+    slot: usize,
+    kept: &mut Vec<Option<Option<u64>>>,
+    layout: Layout,
+    indices: &I,
+) -> Result<Option<u64>, AllocError>
+    requires column { column < batch.now.columns }
+    requires slots { AreOfColumn batch.now.rows column (slot_values slots.now) }
+    requires slot { slot < length (slot_values slots.now) }
+    ensures index { (value : Value)
+        → AreKept (column_index (index_or_zero (I.IndexOf.index indices.now)) layout)
+        slots.now.column.dictionary kept.old.items
+        → slice_get (slot_values slots.now) slot ≡ Some value
+        → IfOk result (λ index. index
+        ≡ column_index (index_or_zero (I.IndexOf.index indices.now)) layout value) }
+    ensures kept { AreKept (column_index (index_or_zero (I.IndexOf.index indices.now)) layout)
+        slots.now.column.dictionary kept.old.items
+        → AreKept (column_index (index_or_zero (I.IndexOf.index indices.now)) layout)
+        slots.now.column.dictionary kept.new.items }
+{
+    match slots.entry_at(slot) {
+        Some(entry) => entry_index(alloc, batch, column, slot, entry, kept, layout, indices),
+        None => cell_index(alloc, batch, column, slot, layout, indices),
+    }
+}
+
+// The index of what each slot of a column shows.
+fn slot_indices<I: IndexOf>(
+    alloc: Global,
+    batch: &Batch,
+    column: usize,
+    layout: Layout,
+    indices: &I,
+) -> Result<Vec<Option<u64>>, AllocError>
+    requires { column < batch.now.columns }
+    ensures { IfOk result (λ taken. taken.items
+        ≡ map (column_index (index_or_zero (I.IndexOf.index indices.now)) layout)
+        (cells column batch.now.rows)) }
+{
+    let slots = batch.slots(column);
+    let mut kept = empty_cache(alloc, &slots)?;
+    let mut taken = Vec::new(alloc);
+    for slot in 0..slots.len() {
+        let index = slot_index(
+            alloc, batch, column, &slots, slot, &mut kept, layout, indices,
+        )?;
+        taken.push(index)?;
+    }
+    Ok(taken)
+}
+
+// How many values have no index.
+fn count_nulls(indices: &[Option<u64>]) -> usize
+    ensures nulls { (known : Value → ℕ) (values : List Value)
+        → indices.now ≡ indices_of known values → result ≡ nulls values }
+    ensures few { result ≤ length indices.now }
+{
+    let mut null_count = 0;
+    for index in indices {
+        null_count += usize::from(index.is_none());
+    }
+    null_count
+}
+
+// Appends whether each value has an index to an empty list.
+fn push_index_validity(bits: &mut Vec<u8>, indices: &[Option<u64>]) -> Result<(), AllocError>
+    ensures { (known : Value → ℕ) (values : List Value) → indices.now ≡ indices_of known values
+        → bits.old.items ≡ [] → OnOk result (bits.new.items ≡ bitmap (flags Valid values)) }
+{
+    for (slot, index) in indices.iter().enumerate() {
+        push_bit(bits, slot, index.is_some())?;
+    }
+    Ok(())
+}
+
+// Appends the bitmap of values with these indices to an empty list. It stays empty if no value is
+// null.
+fn push_validities(
+    validity: &mut Vec<u8>,
+    indices: &[Option<u64>],
+    null_count: usize,
+) -> Result<(), AllocError>
+    ensures { (known : Value → ℕ) (values : List Value) → indices.now ≡ indices_of known values
+        → nulls values ≡ null_count → validity.old.items ≡ []
+        → OnOk result (validity.new.items ≡ validity_bytes values) }
+{
+    if null_count == 0 {
+        return Ok(());
+    }
+    push_index_validity(validity, indices)
+}
+
+impl ColumnBuilder {
+    /// Takes the values of a column of a batch into a column of indices of this width, which has no
+    /// values. The index of each value of a dictionary that was read is looked up once. The errors
+    /// are those of `ColumnBuilder::take`.
+    pub(crate) fn take_indices<I: IndexOf>(
+        &mut self,
+        batch: &Batch,
+        column: usize,
+        bits: IntBits,
+        limits: &Limits,
+        indices: &I,
+    ) -> Result<(), PushFault>
+        requires { column < batch.now.columns }
+        ensures taken { (signed : Bool) (id : ℤ)
+            → IsColumn (index_or_zero (I.IndexOf.index indices.now)) limits.now
+            (Indices bits signed id) []
+            self.old
+            → OnOk result (IsColumn (index_or_zero (I.IndexOf.index indices.now)) limits.now
+            (Indices bits signed id) (cells column batch.now.rows) self.new) }
+        ensures refused { (signed : Bool) (id : ℤ)
+            → IsColumn (index_or_zero (I.IndexOf.index indices.now)) limits.now
+            (Indices bits signed id) []
+            self.old
+            → IfErr result (IsPushRefused limits.now (Indices bits signed id)
+            (cells column batch.now.rows)) }
+    {
+        let count = batch.rows();
+        if count > limits.slots as usize {
+            return Err(PushFault::TooMany);
+        }
+        let alloc = *self.indices.allocator();
+        let taken = slot_indices(alloc, batch, column, self.layout, indices)?;
+        let more = taken.as_slice();
+        let null_count = count_nulls(more);
+        push_validities(&mut self.validity, more, null_count)?;
+        let amount = bits.bytes() * count;
+        self.counts = self
+            .counts
+            .with_all(self.layout, count, null_count, amount, limits)?;
+        self.indices = taken;
+        Ok(())
+    }
+}
 
 // The value of a batch in a row and a column, or null if the batch has no such column.
 fn cell_at(alloc: Global, batch: &Batch, row: usize, column: usize) -> Result<Value, PushFault>

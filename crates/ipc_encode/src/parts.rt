@@ -1,25 +1,55 @@
-ghost use Rattle.std.specs.Prelude.{◌≡◌, ℕ, ◌-◌, ◌%◌, ◌++◌, List, [], ◌∷◌, pos, length, replicate};
-ghost use Rattle.std.specs.Prelude.{OnOk, map};
+//! The encoded rows of a record batch, with one list of bytes as the body.
+ghost use Rattle.std.specs.Prelude.{◌≡◌, ℕ, ◌-◌, ◌%◌, ◌++◌, List, [], ◌∷◌, pos, length};
+ghost use Rattle.std.specs.Prelude.{replicate, OnOk, map};
 ghost use Rattle.ipc_model.specs.declared.layout.Layout.{Layout};
 ghost use Rattle.ipc_model.specs.declared.limits.Limits.{Limits};
 ghost use Rattle.ipc_model.specs.declared.value.Value.{Value};
 ghost use Rattle.ipc_column.specs.Shapes.{Shape, bare, field};
-ghost use Rattle.ipc_encode.specs.declared.node.Node.{out-Node};
-ghost use Rattle.ipc_encode.specs.Buffers.{column_buffers, nodes_of, buffers_with, written_values};
+ghost use Rattle.ipc_encode.specs.Buffers.{column_buffers, nodes_of, buffers_with};
+ghost use Rattle.ipc_encode.specs.Buffers.{written_values};
+ghost use Rattle.ipc_encode.specs.Built.{HoldColumns, IsColumn, IsNode};
 ghost use Rattle.ipc_encode.specs.Cells.{nulls, slots};
 ghost use Rattle.ipc_encode.specs.Numbers.{Numbering, as_number, new_index, new_indices};
 ghost use Rattle.ipc_encode.specs.Pieces.{Number};
 ghost use Rattle.ipc_encode.specs.Writing.{Adds};
-ghost use Rattle.ipc_encode.specs.Built.{HoldColumns, IsColumn, IsNode};
 
-use crate::buffer_pool::BufferPool;
-use crate::column_builder::ColumnBuilder;
+use crate::column_builder::{ColumnBuilder, push_number};
 use crate::counts::ColumnCounts;
 use crate::index::Renumber;
-use crate::node::Node;
-use crate::pushing::push_number;
+use crate::tree::Node;
 use ipc_model::{IntBits, Items, Layout, Value};
-use std::alloc::AllocError;
+use std::alloc::{AllocError, Global};
+
+/// The lists of a batch that was finished, whose memory the next batch uses (Message.fbs,
+/// RecordBatch). Their contents are never read again.
+#[derive(Debug, Drop)]
+pub struct BufferPool {
+    pub(crate) nodes: Vec<Node>,
+    pub(crate) body: Vec<u8>,
+}
+
+impl BufferPool {
+    /// Creates an empty one. It takes no memory.
+    pub fn new(alloc: Global) -> BufferPool {
+        BufferPool {
+            nodes: Vec::new(alloc),
+            body: Vec::new(alloc),
+        }
+    }
+
+    /// Keeps the memory of these nodes.
+    pub(crate) fn of_nodes(alloc: Global, nodes: Vec<Node>) -> BufferPool {
+        BufferPool {
+            nodes,
+            body: Vec::new(alloc),
+        }
+    }
+
+    /// Keeps the memory of a body after it was sent.
+    pub fn keep_body(&mut self, body: Vec<u8>) {
+        self.body = body;
+    }
+}
 
 /// The encoded rows of a record batch (Message.fbs, RecordBatch).
 #[derive(Debug, Drop)]
@@ -165,37 +195,6 @@ fn add_column<N: Renumber>(
     add_buffers(draft, column, numbers)
 }
 
-// Adds the node and the buffers of a node's own column.
-fn add_own<N: Renumber>(node: &Node, draft: &mut Draft, numbers: &N) -> Result<(), AllocError>
-    ensures nodes { (known : Numbering) (limits : Limits) (layout : Layout) (values : List Value)
-        → IsColumn known limits layout values (out-Node node.now).column
-        → OnOk result (draft.new.nodes.items
-        ≡ draft.old.nodes.items ++ (pos (length values), pos (nulls values)) ∷ []) }
-    ensures adds { (known : Numbering) (limits : Limits) (layout : Layout) (values : List Value)
-        → IsColumn known limits layout values (out-Node node.now).column
-        → OnOk result (Adds draft.old draft.new
-        (column_buffers layout
-        (written_values (new_indices (N.Renumber.number numbers.now) known) layout values))) }
-{
-    add_column(draft, &node.column, numbers)
-}
-
-// Adds the nodes and the buffers of the columns below a node.
-#[cycle(add)]
-fn add_below<N: Renumber>(node: &Node, draft: &mut Draft, numbers: &N) -> Result<(), AllocError>
-    ensures nodes { (known : Numbering) (limits : Limits) (children : Shape)
-        (given : ℕ → List Value)
-        → HoldColumns known limits children (out-Node node.now).children.items given
-        → OnOk result (draft.new.nodes.items ≡ draft.old.nodes.items ++ nodes_of children given) }
-    ensures adds { (known : Numbering) (limits : Limits) (children : Shape)
-        (given : ℕ → List Value)
-        → HoldColumns known limits children (out-Node node.now).children.items given
-        → OnOk result (Adds draft.old draft.new
-        (buffers_with (new_indices (N.Renumber.number numbers.now) known) children given)) }
-{
-    add_nodes(&node.children, draft, numbers)
-}
-
 /// Appends the nodes and the buffers of a column, and then those of its descendants. Returns an
 /// error if memory for a list ran out.
 #[cycle(add)]
@@ -216,8 +215,8 @@ pub(crate) fn add_node<N: Renumber>(
         (Adds draft.old draft.new (buffers_with (new_indices (N.Renumber.number numbers.now) known)
         (field layout children bare) (λ j. values))) }
 {
-    add_own(node, draft, numbers)?;
-    add_below(node, draft, numbers)
+    add_column(draft, &node.column, numbers)?;
+    add_nodes(&node.children, draft, numbers)
 }
 
 /// Appends the nodes and the buffers of columns, each column before its descendants. Returns an

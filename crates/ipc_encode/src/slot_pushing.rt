@@ -1,58 +1,184 @@
 //! Appends the slots of a column that was read to the buffers of another, without a value for
 //! each.
-ghost use Rattle.std.specs.Prelude.{◌≡◌, ◌<◌, ◌+◌, ◌++◌, List, [], length, IfSome};
-ghost use Rattle.std.specs.Prelude.{◌≤◌, ◌*◌, ◌&&◌, ℕ, Bool, false, take, slice_index_or};
-ghost use Rattle.std.specs.Prelude.{IfOk, OnOk};
-ghost use Rattle.ipc_model.specs.declared.value.Value.{Value};
+ghost use Rattle.std.specs.Prelude.{◌≡◌, ◌++◌, ℕ, List, OnOk, length, replicate, ◌≤◌, ◌+◌};
+ghost use Rattle.std.specs.Prelude.{slice_index_or, ◌⊎◌, ◌<◌, IfErr, IfOk, ◌*◌, ◌&&◌, Bool};
+ghost use Rattle.std.specs.Prelude.{false, [], take};
 ghost use Rattle.ipc_scalar.specs.Bytes.{bit, num};
+ghost use Rattle.ipc_model.specs.Layouts.{number_bytes};
+ghost use Rattle.ipc_model.specs.Limits.{max_data};
+ghost use Rattle.ipc_model.specs.declared.layout.Layout.TheVariants.{Lists, Bits};
+ghost use Rattle.ipc_model.specs.declared.value.Value.{Value};
+ghost use Rattle.ipc_model.specs.declared.value.Value.TheVariants.{Null};
+ghost use Rattle.ipc_column.specs.Lending.{AreNumbers};
 ghost use Rattle.ipc_column.specs.Nested.{slot_values};
+ghost use Rattle.ipc_column.specs.Slots.{value_in_slot};
 ghost use Rattle.ipc_column.specs.Values.{is_valid};
 ghost use Rattle.ipc_encode.specs.Bitmaps.{bitmap};
-ghost use Rattle.ipc_encode.specs.Cells.{ends, flags, nulls, slots};
+ghost use Rattle.ipc_encode.specs.Cells.{content, is_set, items, slot_bytes, slots, ends, flags};
+ghost use Rattle.ipc_encode.specs.Columns.{data_in};
 ghost use Rattle.ipc_encode.specs.Marks.{HasBits};
-ghost use Rattle.ipc_encode.specs.Pieces.{Bytes, Content, Fixed, True, Valid};
+ghost use Rattle.ipc_encode.specs.Pieces.{Fixed, True, Number, Items, Bytes, Content};
 
-use crate::bitmap_pushing;
-use crate::buffers::{BorrowedContents, borrowed_bitmap, borrowed_fixed_values, offset_at};
-use crate::flags::push_bit;
-use crate::pushing::push_offset;
-use crate::slot_parts::{content, is_true, is_valid, push_fixed};
-use ipc_column::SlotView;
-use ipc_model::Layout;
+use crate::bitmaps::{is_valid_in_bitmap, push_bit};
+use crate::column_builder::{MAX_DATA, push_bits, push_offset};
+use crate::column_segments::{BorrowedContents, offset_at};
+use crate::fault::PushFault;
+use ipc_column::{Numbers, Slot, SlotView};
+use ipc_model::IntBits;
 use std::alloc::AllocError;
 
-// How many slots are null, where a bitmap says which.
-fn count_marked_nulls(view: &SlotView<'_>) -> Option<usize>
-    ensures { IfSome result (λ many. many ≡ nulls (slot_values view.now)) }
+/// Returns whether a slot is true.
+#[inline(always)]
+pub(crate) fn is_true(held: &Slot<'_>) -> bool
+    ensures { (under : ℕ → List Value) (slot : ℕ)
+        → result ≡ is_set True (value_in_slot under slot held.now) }
 {
-    bitmap_pushing::count_nulls(borrowed_bitmap(view)?, view.len())
+    match held {
+        Slot::Bool(truth) => *truth,
+        _ => false,
+    }
 }
 
-/// Returns the number of null slots.
-pub(crate) fn count_nulls(view: &SlotView<'_>) -> usize
-    ensures { result ≡ nulls (slot_values view.now) }
+/// Returns the bytes of a binary value or a text in a slot.
+#[inline(always)]
+pub(crate) fn content<'a>(held: &Slot<'a>) -> &'a [u8]
+    ensures { (under : ℕ → List Value) (slot : ℕ)
+        → result.now ≡ content (value_in_slot under slot held.now) }
 {
-    if let Some(null_count) = count_marked_nulls(view) {
-        return null_count;
+    match held {
+        Slot::Bytes(bytes) => bytes,
+        Slot::Text(bytes) => bytes,
+        _ => &[],
     }
-    let mut null_count = 0;
-    for slot in 0..view.len() {
-        let shown = view.at(slot);
-        null_count += usize::from(!is_valid(&shown));
-    }
-    null_count
 }
 
-/// Appends whether each slot is valid to an empty list.
-pub(crate) fn push_slot_validity(bits: &mut Vec<u8>, view: &SlotView<'_>) -> Result<(), AllocError>
-    ensures { bits.old.items ≡ []
-        → OnOk result (bits.new.items ≡ bitmap (flags Valid (slot_values view.now))) }
+// Appends `width` zeros.
+fn push_zeros(values: &mut Vec<u8>, width: u32) -> Result<(), AllocError>
+    ensures { OnOk result (values.new.items ≡ values.old.items ++ replicate width 0) }
+{
+    values.resize(values.len() + width as usize, 0)
+}
+
+/// Appends the bytes of a binary value, or `width` zeros.
+#[inline(always)]
+pub(crate) fn push_fixed(
+    values: &mut Vec<u8>,
+    held: &Slot<'_>,
+    width: u32,
+) -> Result<(), AllocError>
+    ensures { (under : ℕ → List Value) (slot : ℕ) → OnOk result (values.new.items
+        ≡ values.old.items ++ slot_bytes (Fixed width) (value_in_slot under slot held.now)) }
+{
+    match held {
+        Slot::Bytes(bytes) => values.extend_from_slice(bytes),
+        _ => push_zeros(values, width),
+    }
+}
+
+/// Returns the number of items of the list in a slot. Any other slot has none.
+#[inline(always)]
+pub(crate) fn item_count(held: &Slot<'_>) -> usize
+    ensures { (under : ℕ → List Value) (slot : ℕ)
+        → result ≡ length (items (value_in_slot under slot held.now)) }
+{
+    match held {
+        Slot::List { from, to } => to.saturating_sub(*from),
+        _ => 0,
+    }
+}
+
+// Appends the bytes of a slot, zeros where it is null.
+#[inline(always)]
+fn push_slot(
+    values: &mut Vec<u8>,
+    view: &SlotView<'_>,
+    numbers: &Numbers<'_>,
+    bytes: &[u8],
+    width: usize,
+    slot: usize,
+) -> Result<(), AllocError>
+    requires numbers { AreNumbers view.now numbers.now }
+    requires bytes { bytes.now ≡ numbers.now.values.now }
+    requires width { width ≡ number_bytes numbers.now.bits }
+    requires bits { HasBits numbers.now.validity.now (slot + 1) }
+    requires inside { slot + 1 ≤ length (slot_values view.now) }
+    ensures { OnOk result (values.new.items ≡ values.old.items
+        ++ slot_bytes (Number numbers.now.bits) (slice_index_or (slot_values view.now) slot Null)) }
+{
+    if !is_valid_in_bitmap(numbers.validity, slot) {
+        return push_bits(values, 0, numbers.bits);
+    }
+    values.extend_from_slice(&bytes[width * slot..width * slot + width])
+}
+
+// Appends the bytes of each slot, which all have one width.
+#[inline(always)]
+fn push_each(
+    values: &mut Vec<u8>,
+    view: &SlotView<'_>,
+    numbers: &Numbers<'_>,
+    width: usize,
+) -> Result<(), AllocError>
+    requires numbers { AreNumbers view.now numbers.now }
+    requires bits { HasBits numbers.now.validity.now (length (slot_values view.now)) }
+    requires width { width ≡ number_bytes numbers.now.bits }
+    ensures { OnOk result (values.new.items ≡ values.old.items
+        ++ slots (Number numbers.now.bits) (slot_values view.now)) }
 {
     for slot in 0..view.len() {
-        let shown = view.at(slot);
-        push_bit(bits, slot, is_valid(&shown))?;
+        push_slot(values, view, numbers, numbers.values, width, slot)?;
     }
     Ok(())
+}
+
+/// Appends the bytes of each slot, zeros where it is null. Each width has a loop of its own, in
+/// which a slot is one store.
+pub(crate) fn push_numbers(
+    values: &mut Vec<u8>,
+    view: &SlotView<'_>,
+    numbers: &Numbers<'_>,
+) -> Result<(), AllocError>
+    requires numbers { AreNumbers view.now numbers.now }
+    requires bits { HasBits numbers.now.validity.now (length (slot_values view.now)) }
+    ensures { OnOk result (values.new.items ≡ values.old.items
+        ++ slots (Number numbers.now.bits) (slot_values view.now)) }
+{
+    match numbers.bits {
+        IntBits::B64 => push_each(values, view, numbers, 8),
+        IntBits::B32 => push_each(values, view, numbers, 4),
+        IntBits::B16 => push_each(values, view, numbers, 2),
+        IntBits::B8 => push_each(values, view, numbers, 1),
+    }
+}
+
+// The end of a list that begins at `start` and has `count` items. Returns `TooMany` if offsets do
+// not reach it.
+fn list_end(start: usize, count: usize) -> Result<usize, PushFault>
+    ensures end { IfOk result (λ end. end ≡ start + count) }
+    ensures refused { IfErr result
+        (λ fault. (fault ≡ PushFault.TooMany) × (max_data < start + count)) }
+{
+    match start.checked_add(count) {
+        Some(end) if end <= MAX_DATA => Ok(end),
+        _ => Err(PushFault::TooMany),
+    }
+}
+
+/// Appends the offset at which the list of each slot ends, if the first begins at 0. Returns the
+/// last offset, or `TooMany` if 32-bit offsets do not reach it.
+pub(crate) fn push_list_ends(offsets: &mut Vec<u8>, view: &SlotView<'_>) -> Result<usize, PushFault>
+    ensures end { IfOk result (λ end. end ≡ data_in Lists (slot_values view.now)) }
+    ensures offsets { OnOk result (offsets.new.items
+        ≡ offsets.old.items ++ ends Items 0 (slot_values view.now)) }
+    ensures refused { IfErr result (λ fault. (fault ≡ PushFault.OutOfMemory)
+        ⊎ ((fault ≡ PushFault.TooMany) × (max_data < data_in Lists (slot_values view.now)))) }
+{
+    let mut end = 0;
+    for slot in 0..view.len() {
+        end = list_end(end, item_count(&view.at(slot)))?;
+        push_offset(offsets, end)?;
+    }
+    Ok(end)
 }
 
 // Appends bytes of booleans to an empty list. If the bitmap marks a slot as null, its bit is 0.
@@ -78,37 +204,25 @@ fn push_set_bits(
     Ok(())
 }
 
-// Appends whether slots are true to an empty list, one byte at a time. Returns the number of slots,
-// which is 0 if the slots are no bits.
-fn push_bool_bytes(bits: &mut Vec<u8>, view: &SlotView<'_>) -> Result<usize, AllocError>
-    ensures within { IfOk result (λ taken. taken ≤ length (slot_values view.now)) }
-    ensures bits { bits.old.items ≡ [] → IfOk result
-        (λ taken. bits.new.items ≡ bitmap (flags True (take taken (slot_values view.now)))) }
-{
-    let buffers = view.buffers();
-    let Layout::Bits = buffers.layout else {
-        return Ok(0);
-    };
-    let whole = view.len() / 8;
-    push_set_bits(bits, buffers.values, buffers.validity, whole)?;
-    Ok(whole * 8)
-}
-
-/// Appends whether each slot is true to an empty list.
+/// Appends whether each slot is true to an empty list, one byte at a time as long as bytes are
+/// full.
 pub(crate) fn push_bools(bits: &mut Vec<u8>, view: &SlotView<'_>) -> Result<(), AllocError>
+    requires { view.now.column.layout ≡ Bits }
     ensures { bits.old.items ≡ []
         → OnOk result (bits.new.items ≡ bitmap (flags True (slot_values view.now))) }
 {
-    let taken = push_bool_bytes(bits, view)?;
-    for slot in taken..view.len() {
+    let buffers = view.buffers();
+    let full = view.len() / 8;
+    push_set_bits(bits, buffers.values, buffers.validity, full)?;
+    for slot in 8 * full..view.len() {
         let shown = view.at(slot);
         push_bit(bits, slot, is_true(&shown))?;
     }
     Ok(())
 }
 
-/// Appends the bytes of each slot of a fixed width.
-pub(crate) fn push_widths(
+/// Appends the bytes of each slot of a fixed width, zeros where it is null.
+pub(crate) fn push_fixed_slots(
     values: &mut Vec<u8>,
     view: &SlotView<'_>,
     width: u32,
@@ -116,9 +230,6 @@ pub(crate) fn push_widths(
     ensures { OnOk result
         (values.new.items ≡ values.old.items ++ slots (Fixed width) (slot_values view.now)) }
 {
-    if let Some(bytes) = borrowed_fixed_values(view, width) {
-        return values.extend_from_slice(bytes);
-    }
     for slot in 0..view.len() {
         let shown = view.at(slot);
         push_fixed(values, &shown, width)?;

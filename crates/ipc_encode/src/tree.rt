@@ -1,23 +1,79 @@
-ghost use Rattle.std.specs.Prelude.{◌≡◌, ◌<◌, ◌^◌, ◌++◌, ℕ, List, [], ◌∷◌, IfErr, OnOk};
-ghost use Rattle.std.specs.Prelude.{replicate};
+//! Columns with their children: what a value adds to them.
+ghost use Rattle.std.specs.Prelude.{◌≡◌, ◌↔◌, length, IsTrue, [], IfOk, ◌<◌, ◌^◌, ◌++◌, ℕ, List};
+ghost use Rattle.std.specs.Prelude.{◌∷◌, IfErr, OnOk, replicate};
 ghost use Rattle.ipc_model.specs.declared.layout.Layout.{Layout};
 ghost use Rattle.ipc_model.specs.declared.limits.Limits.{Limits};
 ghost use Rattle.ipc_model.specs.declared.value.Value.{Value};
 ghost use Rattle.ipc_model.specs.declared.value.Value.TheVariants.{Null};
-ghost use Rattle.ipc_column.specs.Shapes.{Shape, bare, field};
-ghost use Rattle.ipc_encode.specs.declared.column_builder.Purpose.TheVariants.{Count};
+ghost use Rattle.ipc_column.specs.Shapes.{field_shape, shape_of, Shape, bare, field};
 ghost use Rattle.ipc_encode.specs.Buffers.{child_values, nulls_below};
-ghost use Rattle.ipc_encode.specs.Cells.{cell};
-ghost use Rattle.ipc_encode.specs.Built.{AreNodes, IsNode, HasTaken, IsColumn};
+ghost use Rattle.ipc_encode.specs.Built.{HoldColumns, IsColumn, IsNode, AreNodes, HasTaken};
 ghost use Rattle.ipc_encode.specs.Built.{ArePushesRefused};
+ghost use Rattle.ipc_encode.specs.Cells.{cell};
 ghost use Rattle.ipc_encode.specs.Numbers.{Numbering, index_or_zero};
+ghost use Rattle.ipc_encode.specs.declared.column_builder.Purpose.TheVariants.{Count};
+ghost use Rattle.ipc_encode.specs.declared.tree.Node.{out-Node};
 
-use crate::cells::items;
 use crate::column_builder::{ColumnBuilder, Purpose};
+use crate::counting::items;
 use crate::fault::PushFault;
 use crate::index::IndexOf;
-use crate::node::Node;
-use ipc_model::{Layout, Limits, Value};
+use ipc_model::{Field, Layout, Limits, Value, layout_of};
+use std::alloc::{AllocError, Global};
+
+/// A column and the columns of its children.
+#[derive(Debug, Drop)]
+pub(crate) struct Node {
+    pub(crate) column: ColumnBuilder,
+    pub(crate) children: Vec<Node>,
+}
+
+impl Node {
+    /// Returns whether the column has no children.
+    #[inline(always)]
+    pub(crate) fn is_leaf(&self) -> bool
+        ensures { IsTrue result ↔ (length (out-Node self.now).children.items ≡ 0) }
+    {
+        self.children.is_empty()
+    }
+}
+
+/// Returns a column of this field without values, with those of its children, in the memory of a
+/// node that held others. Returns an error if memory for a list ran out.
+#[cycle(new)]
+pub(crate) fn new_node(field: &Field, kept: Option<Node>, alloc: Global) -> Result<Node, AllocError>
+    ensures { (known : Numbering) (limits : Limits)
+        → IfOk result (λ node. IsNode (IsColumn known limits)
+        (field_shape field.now).0 (field_shape field.now).1 node []) }
+{
+    let layout = layout_of(&field.kind, field.dictionary);
+    let (column, children) = match kept {
+        Some(Node { column, children }) => (column.emptied(layout)?, children),
+        None => (ColumnBuilder::new(alloc, layout)?, Vec::new(alloc)),
+    };
+    let children = new_nodes(field.children.as_slice(), children, alloc)?;
+    Ok(Node { column, children })
+}
+
+/// Returns columns of these fields without values, in the memory of nodes that held others. Returns
+/// an error if memory for a list ran out.
+#[cycle(new)]
+pub(crate) fn new_nodes(
+    fields: &[Field],
+    kept: Vec<Node>,
+    alloc: Global,
+) -> Result<Vec<Node>, AllocError>
+    ensures { (known : Numbering) (limits : Limits)
+        → IfOk result
+        (λ nodes. HoldColumns known limits (shape_of fields.now) nodes.items (λ j. [])) }
+{
+    let mut kept = kept.into_iter();
+    let mut nodes = Vec::with_capacity(alloc, fields.len())?;
+    for field in fields {
+        nodes.push(new_node(field, kept.next(), alloc)?)?;
+    }
+    Ok(nodes)
+}
 
 // From this number of values on, adding them at once costs less than one by one.
 const BULK_MINIMUM: usize = 8;

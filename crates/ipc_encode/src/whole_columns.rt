@@ -1,27 +1,42 @@
-//! Compares the layouts of the columns of a batch with those of a builder.
+//! Adds columns that were read with all their slots, where they have the layouts of a field and
+//! of its descendants.
 ghost use Rattle.std.specs.Prelude.{◌≡◌, ◌<◌, ℕ, List, Some, false, length, slice_get};
-ghost use Rattle.std.specs.Prelude.{slice_index_or, IsTrue};
-ghost use Rattle.ipc_column.specs.Nested.{Nested, only_column, slot_values};
-ghost use Rattle.ipc_column.specs.Rules.{SpellsTexts};
-ghost use Rattle.ipc_column.specs.Shapes.{Shape};
-ghost use Rattle.ipc_column.specs.Slots.{nested_in};
-ghost use Rattle.ipc_column.specs.Values.{is_valid};
+ghost use Rattle.std.specs.Prelude.{slice_index_or, IsTrue, ◌≤◌, ◌+◌, ◌++◌, ◌^◌, ◌⊎◌, [], ◌∷◌};
+ghost use Rattle.std.specs.Prelude.{pos, replicate, IfErr, OnOk};
+ghost use Rattle.ipc_model.specs.Limits.{max_data};
 ghost use Rattle.ipc_model.specs.declared.layout.Layout.{Layout};
 ghost use Rattle.ipc_model.specs.declared.limits.Limits.{Limits};
 ghost use Rattle.ipc_model.specs.declared.value.Value.{Value};
 ghost use Rattle.ipc_model.specs.declared.value.Value.TheVariants.{Null};
-ghost use Rattle.ipc_encode.specs.Buffers.{child_values};
+ghost use Rattle.ipc_column.specs.Nested.{Nested, only_column, slot_values};
+ghost use Rattle.ipc_column.specs.Rules.{SpellsTexts};
+ghost use Rattle.ipc_column.specs.Shapes.{Shape, bare, field, field_children, field_layout};
+ghost use Rattle.ipc_column.specs.Shapes.{shape_of};
+ghost use Rattle.ipc_column.specs.Slots.{nested_in};
+ghost use Rattle.ipc_column.specs.Values.{is_valid};
+ghost use Rattle.ipc_encode.specs.Buffers.{child_values, data_buffers, padded_bytes};
 ghost use Rattle.ipc_encode.specs.Built.{AreNodes, IsColumn, IsNode};
-ghost use Rattle.ipc_encode.specs.Cells.{all_items, all_parts};
-ghost use Rattle.ipc_encode.specs.WholeColumns.{AreFullColumns, IsFullColumn, is_taken_whole};
+ghost use Rattle.ipc_encode.specs.Cells.{all_items, all_parts, nulls};
+ghost use Rattle.ipc_encode.specs.Limits.{HasExcessData};
 ghost use Rattle.ipc_encode.specs.Marks.{HasBits};
 ghost use Rattle.ipc_encode.specs.Numbers.{Numbering};
+ghost use Rattle.ipc_encode.specs.Segments.{AddsBuffers, AddsColumns, AreRefusedAfter};
+ghost use Rattle.ipc_encode.specs.Segments.{IsBodyRefused, IsDataRefused, segment_bytes};
+ghost use Rattle.ipc_encode.specs.WholeColumns.{AreFullColumns, IsFullColumn, is_taken_whole};
+ghost use Rattle.ipc_encode.specs.WholeColumns.{IsLaidOutAs};
 
-use crate::bitmap_pushing::valid_are_among;
-use crate::buffers::{borrowed_bitmap, nulls_are_empty, offset_at};
-use crate::node::Node;
-use ipc_column::SlotView;
-use ipc_model::Layout;
+use crate::bitmaps::valid_are_among;
+use crate::column_builder::MAX_DATA;
+use crate::column_segments::{
+    VariableBinarySegments, bit_values, borrowed_bitmap, fixed_values, list_offsets,
+    marked_validity, nulls_are_empty, number_values, offset_at, variable_binary_segments,
+};
+use crate::fault::PushFault;
+use crate::segments::{Segment, SegmentedDraft, add_buffer, add_joined, push_pair};
+use crate::tree::Node;
+use ipc_column::{Numbers, SlotView};
+use ipc_model::{Field, Layout, Limits, layout_of};
+use std::alloc::{AllocError, Global};
 
 /// Returns true only if lists use all slots of their child, one list after another.
 pub(crate) fn lists_use_all_items(view: &SlotView<'_>) -> bool
@@ -147,4 +162,187 @@ fn have_node_layouts(nodes: &[Node], view: &SlotView<'_>) -> bool
         }
     }
     true
+}
+
+// Adds the node of a column with `count` slots and `null_count` nulls.
+fn add_counts(
+    draft: &mut SegmentedDraft<'_>,
+    count: usize,
+    null_count: usize,
+) -> Result<(), AllocError>
+    requires few { count < 2 ^ 63 }
+    requires counted { null_count ≤ count }
+    ensures nodes { OnOk result (draft.new.nodes.items
+        ≡ draft.old.nodes.items ++ (pos count, pos null_count) ∷ []) }
+    ensures adds { OnOk result (AddsBuffers draft.old draft.new []) }
+{
+    push_pair(&mut draft.nodes, count, null_count)
+}
+
+// Adds the offsets and the data of binary values or texts. Returns `TooLong` if 32-bit offsets do
+// not reach the end of the data. The other errors are those of `add_buffer`.
+fn add_variable<'a>(
+    draft: &mut SegmentedDraft<'a>,
+    run: VariableBinarySegments<'a>,
+    limits: &Limits,
+) -> Result<(), PushFault>
+    ensures nodes { OnOk result (draft.new.nodes.items ≡ draft.old.nodes.items) }
+    ensures adds { OnOk result (AddsBuffers draft.old draft.new
+        ((replicate 4 0 ++ segment_bytes run.entry.ends) ∷ segment_bytes run.entry.values ∷ [])) }
+    ensures within { OnOk result (draft.new.len ≤ limits.now.body) }
+    ensures short { OnOk result (length (segment_bytes run.entry.values) ≤ max_data) }
+    ensures refused { IfErr result (λ fault.
+        ((fault ≡ PushFault.TooLong) × (max_data < length (segment_bytes run.entry.values)))
+        ⊎ IsBodyRefused limits.now (draft.old.len + length (padded_bytes
+        ((replicate 4 0 ++ segment_bytes run.entry.ends) ∷ segment_bytes run.entry.values ∷ [])))
+        fault) }
+{
+    if run.values.len() > MAX_DATA {
+        return Err(PushFault::TooLong);
+    }
+    add_joined(draft, Segment::Zeros(4), run.ends, limits)?;
+    add_buffer(draft, run.values, limits)
+}
+
+// Adds the buffers of a column that follow its validity bitmap. The errors are those of `add_own`.
+fn add_data<'a>(
+    alloc: Global,
+    pool: &mut Vec<Vec<u8>>,
+    draft: &mut SegmentedDraft<'a>,
+    layout: Layout,
+    view: &SlotView<'a>,
+    null_count: usize,
+    limits: &Limits,
+) -> Result<(), PushFault>
+    requires lies { IsLaidOutAs layout view.now (slot_values view.now) }
+    requires nulls { null_count ≡ nulls (slot_values view.now) }
+    requires within { draft.old.len ≤ limits.now.body }
+    ensures nodes { OnOk result (draft.new.nodes.items ≡ draft.old.nodes.items) }
+    ensures adds { OnOk result
+        (AddsBuffers draft.old draft.new (data_buffers layout (slot_values view.now))) }
+    ensures within { OnOk result (draft.new.len ≤ limits.now.body) }
+    ensures short { OnOk result (¬ HasExcessData layout (slot_values view.now)) }
+    ensures refused { IfErr result
+        (IsDataRefused limits.now draft.old.len layout (slot_values view.now)) }
+{
+    match layout {
+        Layout::Bits => add_buffer(draft, bit_values(alloc, pool, view)?, limits),
+        Layout::Numbers { bits, signed } => {
+            let buffers = view.buffers();
+            let numbers = Numbers {
+                bits,
+                signed,
+                validity: buffers.validity,
+                values: buffers.values,
+            };
+            let values = number_values(alloc, pool, view, &numbers, buffers.values, null_count)?;
+            add_buffer(draft, values, limits)
+        }
+        Layout::FixedBytes(width) => {
+            let values = fixed_values(alloc, pool, view, width, null_count)?;
+            add_buffer(draft, values, limits)
+        }
+        Layout::VariableBytes { .. } => {
+            let run = variable_binary_segments(alloc, pool, view)?;
+            add_variable(draft, run, limits)
+        }
+        Layout::Lists => add_buffer(draft, list_offsets(alloc, pool, view)?, limits),
+        Layout::Null | Layout::Structs | Layout::FixedLists(_) | Layout::Indices { .. } => Ok(()),
+    }
+}
+
+/// Adds the node and the buffers of a column of this layout, without its descendants. The layout
+/// is neither of indices nor of lists of a fixed size.
+///
+/// Errors: `TooMany` if there are more than `limits.slots` slots, or more than 2^31 - 1 items of
+/// lists; `TooLong` if binary values or texts have more than 2^31 - 1 bytes, or the body would have
+/// more than `limits.body`; `OutOfMemory` if memory for a list ran out.
+pub(crate) fn add_own<'a>(
+    alloc: Global,
+    pool: &mut Vec<Vec<u8>>,
+    draft: &mut SegmentedDraft<'a>,
+    layout: Layout,
+    view: &SlotView<'a>,
+    limits: &Limits,
+) -> Result<(), PushFault>
+    requires lies { IsLaidOutAs layout view.now (slot_values view.now) }
+    requires within { draft.old.len ≤ limits.now.body }
+    ensures adds { (known : Numbering) → OnOk result (AddsColumns limits.now known
+        (field layout bare bare) (λ j. slot_values view.now) draft.old draft.new) }
+    ensures refused { IfErr result (AreRefusedAfter limits.now draft.old.len
+        (field layout bare bare) (λ j. slot_values view.now)) }
+{
+    let count = view.len();
+    if count > limits.slots as usize {
+        return Err(PushFault::TooMany);
+    }
+    if let Layout::Null = layout {
+        add_counts(draft, count, count)?;
+        return Ok(());
+    }
+    let null_count = view.null_count() as usize;
+    let marks = view.buffers().validity;
+    let validity = marked_validity(alloc, pool, marks, count, null_count)?;
+    add_counts(draft, count, null_count)?;
+    add_buffer(draft, validity, limits)?;
+    add_data(alloc, pool, draft, layout, view, null_count, limits)?;
+    Ok(())
+}
+
+// The layout of a field.
+fn layout_at(of: &Field) -> Layout
+    ensures { result ≡ field_layout of.now }
+{
+    layout_of(&of.kind, of.dictionary)
+}
+
+/// Adds the columns of a field and of its descendants, each with all slots of a column that was
+/// read. The errors are those of `add_own`, from any of these columns.
+#[cycle(add_whole)]
+pub(crate) fn add_whole<'a>(
+    alloc: Global,
+    pool: &mut Vec<Vec<u8>>,
+    draft: &mut SegmentedDraft<'a>,
+    of: &Field,
+    view: &SlotView<'a>,
+    limits: &Limits,
+) -> Result<(), PushFault>
+    requires whole { IsFullColumn (field_layout of.now) (field_children of.now) view.now
+        (slot_values view.now) }
+    requires within { draft.old.len ≤ limits.now.body }
+    ensures adds { (known : Numbering) → OnOk result (AddsColumns limits.now known
+        (field (field_layout of.now) (field_children of.now) bare) (λ j. slot_values view.now)
+        draft.old draft.new) }
+    ensures refused { IfErr result (AreRefusedAfter limits.now draft.old.len
+        (field (field_layout of.now) (field_children of.now) bare)
+        (λ j. slot_values view.now)) }
+{
+    add_own(alloc, pool, draft, layout_at(of), view, limits)?;
+    add_children(alloc, pool, draft, of.children.as_slice(), view, limits)
+}
+
+// Adds the columns of the children of a column that was read, one for each field.
+#[cycle(add_whole)]
+fn add_children<'a>(
+    alloc: Global,
+    pool: &mut Vec<Vec<u8>>,
+    draft: &mut SegmentedDraft<'a>,
+    fields: &[Field],
+    view: &SlotView<'a>,
+    limits: &Limits,
+) -> Result<(), PushFault>
+    requires whole { AreFullColumns (shape_of fields.now) (nested_in view.now)
+        (child_values view.now.column.layout (slot_values view.now)) }
+    requires within { draft.old.len ≤ limits.now.body }
+    ensures adds { (known : Numbering) → OnOk result (AddsColumns limits.now known
+        (shape_of fields.now) (child_values view.now.column.layout (slot_values view.now))
+        draft.old draft.new) }
+    ensures refused { IfErr result (AreRefusedAfter limits.now draft.old.len (shape_of fields.now)
+        (child_values view.now.column.layout (slot_values view.now))) }
+{
+    for i in 0..fields.len() {
+        let child = view.child(i);
+        add_whole(alloc, pool, draft, &fields[i], &child, limits)?;
+    }
+    Ok(())
 }

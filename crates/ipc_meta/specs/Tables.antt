@@ -120,7 +120,8 @@ duration_at v = map_fault (scalar v 0 2 int16 (pos 1)) >>= λ u. ok_or BadType (
 
 -- Schema.fbs, union Type: the type with this code and table: Null 1, Int 2, Binary 4, Utf8 5, Bool
 -- 6, Date 8 (its unit is MILLISECOND if absent), Time 9, Timestamp 10, List 12, Struct_ 13,
--- FixedSizeBinary 15, FixedSizeList 16, Duration 18; other codes are not read
+-- FixedSizeBinary 15, FixedSizeList 16, Duration 18; other codes are not read. The codes are tested
+-- one after another, as the code does
 unfoldable pub type_of : ℕ → TableView → Result DataType Fault
 type_of code v =
     if code == 1 then Ok t.Null

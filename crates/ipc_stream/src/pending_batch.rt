@@ -158,8 +158,7 @@ impl PendingBatch {
         Err(self.rejection_fault(schema, row, why))
     }
 
-    // Takes one row more. After W11 what is held is of no use, after any other refusal it is the
-    // batch that it was.
+    // Adds one row. After W11 the batch is unusable; after any other error it is unchanged.
     #[inline(always)]
     pub(crate) fn push(&mut self, schema: &Schema, row: &[Value]) -> Result<(), WriteFault>
         requires { HasShortPaths schema.now }

@@ -1,5 +1,5 @@
 use Rattle.std.proofs.Common.{arith}
-use Rattle.ipc_encode.proofs.ZeroSlots.{all_zero}
+use Rattle.ipc_encode.proofs.LentBuffers.{all_zero}
 use Rattle.ipc_encode.proofs.column_segments.are_zeros.Goals as goal
 
 pub returns : goal.returns

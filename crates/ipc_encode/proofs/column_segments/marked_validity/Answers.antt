@@ -5,8 +5,8 @@ use Rattle.ipc_model.specs.declared.value.Value.{Value}
 use Rattle.ipc_encode.specs.Bitmaps.{bitmap}
 use Rattle.ipc_encode.specs.Cells.{flags}
 use Rattle.ipc_encode.specs.Pieces.{Valid}
-use Rattle.ipc_encode.proofs.Marked.{marked_bytes}
-use Rattle.ipc_encode.proofs.Pushes.{some_null}
+use Rattle.ipc_encode.proofs.Bits.{marked_bytes}
+use Rattle.ipc_encode.proofs.Steps.{some_null}
 use Rattle.ipc_encode.proofs.column_segments.marked_validity.Goals as goal
 
 pub returns-then-not-is_empty : goal.returns-then-not-is_empty

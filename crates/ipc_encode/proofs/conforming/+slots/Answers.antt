@@ -10,7 +10,7 @@ use Rattle.ipc_column.specs.Values.{is_valid, row}
 use Rattle.ipc_encode.specs.Cells.{all_items, cell}
 use Rattle.ipc_encode.proofs.FittingColumns.{inner_all, list_slot, part_slot, struct_slot}
 use Rattle.ipc_encode.proofs.LentBuffers.{buffers_bits}
-use Rattle.ipc_encode.proofs.SurelyFit.{first_fit_all, first_fit_next}
+use Rattle.ipc_encode.proofs.Sizes.{first_fit_all, first_fit_next}
 use Rattle.ipc_encode.proofs.conforming.+slots.Goals as goal
 
 -- ---- one column

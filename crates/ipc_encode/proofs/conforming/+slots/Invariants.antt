@@ -1,7 +1,7 @@
 use Rattle.std.proofs.Common.{◌≡◌, ◌<◌, ℕ, length, true}
 use Rattle.ipc_column.specs.Nested.{child_columns, slot_values}
 use Rattle.ipc_column.specs.Values.{is_valid, row}
-use Rattle.ipc_encode.proofs.SurelyFit.{FirstFit}
+use Rattle.ipc_encode.proofs.Sizes.{FirstFit}
 use Rattle.ipc_encode.proofs.conforming.+slots.Given as goal
 
 -- the values of structs that are not null fit the first fields

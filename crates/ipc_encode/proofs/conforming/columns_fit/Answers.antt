@@ -3,9 +3,8 @@ use Rattle.std.specs.List.{AllByRecursion}
 use Rattle.ipc_model.specs.Fits.{Fits}
 use Rattle.ipc_model.specs.declared.value.Value.{Value}
 use Rattle.ipc_column.specs.Nested.{slot_values}
-use Rattle.ipc_encode.proofs.FittingColumns.{each_all}
+use Rattle.ipc_encode.proofs.FittingColumns.{each_all, none_fit, rows_fit, rows_fit_next}
 use Rattle.ipc_encode.proofs.Copied.{column_cells}
-use Rattle.ipc_encode.proofs.SureColumns.{none_fit, rows_fit, rows_fit_next}
 use Rattle.ipc_encode.proofs.conforming.columns_fit.Goals as goal
 
 pub loop-i-init : goal.loop-i-init

@@ -1,5 +1,5 @@
 use Rattle.std.specs.List.{AllByRecursion}
-use Rattle.ipc_encode.proofs.SurelyFit.{FirstFit}
+use Rattle.ipc_encode.proofs.Sizes.{FirstFit}
 use Rattle.ipc_encode.proofs.conforming.columns_fit.Given as goal
 
 -- each row fits the first fields

@@ -2,8 +2,7 @@ use Rattle.ipc_model.specs.Layouts.{type_layout}
 use Rattle.ipc_model.specs.declared.schema.Field.{out-Field}
 use Rattle.ipc_column.specs.Nested.{slot_values}
 use Rattle.ipc_column.specs.Plain.{IsShownBy}
-use Rattle.ipc_encode.proofs.FittingColumns.{all_at, own_slot, shown_slot}
-use Rattle.ipc_encode.proofs.SureColumns.{plain_shows}
+use Rattle.ipc_encode.proofs.FittingColumns.{all_at, own_slot, shown_slot, plain_shows}
 use Rattle.ipc_encode.proofs.conforming.leaf_fits.Goals as goal
 
 pub returns-then-shows_type : goal.returns-then-shows_type

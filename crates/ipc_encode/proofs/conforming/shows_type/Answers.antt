@@ -5,7 +5,7 @@ use Rattle.ipc_model.specs.declared.layout.Layout.{Layout}
 use Rattle.ipc_model.specs.declared.value.Value.{Value}
 use Rattle.ipc_column.specs.Nested.{slot_values}
 use Rattle.ipc_column.specs.Plain.{IsShownBy}
-use Rattle.ipc_encode.proofs.SureIndices.{indexed_shown}
+use Rattle.ipc_encode.proofs.FittingColumns.{indexed_shown}
 use Rattle.ipc_encode.proofs.conforming.shows_type.Goals as goal
 
 pub returns-then-are_equal_layouts-clause-shown : goal.returns-then-are_equal_layouts-clause-shown

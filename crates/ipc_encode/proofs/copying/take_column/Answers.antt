@@ -3,15 +3,13 @@ use Rattle.std.proofs.lemmas.Result.{on_ok_weaker, IfErr-weaker}
 use Rattle.ipc_model.specs.declared.layout.Layout.{Layout}
 use Rattle.ipc_model.specs.declared.layout.Layout.TheVariants as l
 use Rattle.ipc_column.specs.Shapes.{bare}
-use Rattle.ipc_encode.specs.declared.node.Node.{out-Node}
+use Rattle.ipc_encode.specs.declared.tree.Node.{out-Node}
 use Rattle.ipc_encode.specs.Buffers.{child_values}
 use Rattle.ipc_encode.specs.Built.{IsColumn, IsPushRefused}
 use Rattle.ipc_encode.specs.Cells.{cells}
 use Rattle.ipc_encode.specs.Numbers.{index_or_zero}
-use Rattle.ipc_encode.proofs.Growing.{own_refused}
-use Rattle.ipc_encode.proofs.Nodes.{node_is}
-use Rattle.ipc_encode.proofs.Pushes.{laid_as}
-use Rattle.ipc_encode.proofs.Siblings.{leaf_has}
+use Rattle.ipc_encode.proofs.Growing.{own_refused, node_is, leaf_has}
+use Rattle.ipc_encode.proofs.Steps.{laid_as}
 use Rattle.ipc_encode.proofs.copying.take_column.Goals as goal
 
 pub returns-in-Indices-clause-taken : goal.returns-in-Indices-clause-taken

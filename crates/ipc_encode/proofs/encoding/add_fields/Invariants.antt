@@ -2,7 +2,7 @@ use Rattle.ipc_column.specs.Shapes.{shape_of}
 use Rattle.ipc_encode.specs.Buffers.{row_columns}
 use Rattle.ipc_encode.specs.Numbers.{new_indices, index_or_zero}
 use Rattle.ipc_encode.specs.Segments.{AddsColumns}
-use Rattle.ipc_encode.proofs.Siblings.{first}
+use Rattle.ipc_encode.proofs.Growing.{first}
 use Rattle.ipc_encode.proofs.encoding.add_fields.Given as goal
 
 -- the columns of the first fields are added

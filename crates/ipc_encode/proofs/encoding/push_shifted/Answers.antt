@@ -2,7 +2,7 @@ use Rattle.std.proofs.Common.{◌∙◌, ap, ◌++◌, List, ℤ, length, arith}
 use Rattle.std.proofs.lemmas.List.{take_all}
 use Rattle.ipc_encode.specs.Buffers.{ranges_from}
 use Rattle.ipc_encode.proofs.Ranges.{ranges_length}
-use Rattle.ipc_encode.proofs.SegmentRanges.{range_start, ranges_more}
+use Rattle.ipc_encode.proofs.SegmentColumns.{range_start, ranges_more}
 use Rattle.ipc_encode.proofs.encoding.push_shifted.Goals as goal
 
 pub loop-i-preserved : goal.loop-i-preserved

@@ -2,7 +2,7 @@ use Rattle.std.proofs.Common.{◌≡◌, ◌∙◌, refl, sym, ap, subst, ℕ, �
 use Rattle.std.proofs.lemmas.Option.{IfSome_then}
 use Rattle.ipc_model.specs.declared.layout.Layout.{Layout}
 use Rattle.ipc_column.specs.Shapes.{Shape, bare}
-use Rattle.ipc_encode.specs.declared.node.Node.{Node, out-Node}
+use Rattle.ipc_encode.specs.declared.tree.Node.{Node, out-Node}
 use Rattle.ipc_encode.specs.Buffers.{child_values, padded_bytes, buffers_of, column_buffers}
 use Rattle.ipc_encode.specs.declared.column_builder.Purpose.{Purpose}
 use Rattle.ipc_encode.specs.declared.counts.ColumnCounts.{ColumnCounts}
@@ -10,9 +10,7 @@ use Rattle.ipc_encode.specs.Built.{AreNodes, IsNode, HasTaken, AreCountsOf}
 use Rattle.ipc_encode.specs.Numbers.{Numbering}
 use Rattle.ipc_model.specs.declared.limits.Limits.{Limits}
 use Rattle.ipc_model.specs.declared.value.Value.{Value}
-use Rattle.ipc_encode.proofs.Nodes.{taken_laid}
-use Rattle.ipc_encode.proofs.Growing.{parts_length}
-use Rattle.ipc_encode.proofs.Siblings.{at_node, first_all, bytes_next, past_next}
+use Rattle.ipc_encode.proofs.Growing.{taken_laid, parts_length, at_node, first_all, bytes_next, past_next}
 use Rattle.ipc_encode.proofs.fitting.+left.Goals as goal
 
 -- what a column's own buffers take

@@ -5,7 +5,7 @@ use Rattle.ipc_column.specs.Shapes.{Shape}
 use Rattle.ipc_encode.specs.Buffers.{buffers_of, padded_bytes}
 use Rattle.ipc_encode.specs.Built.{AreNodes, HasTaken}
 use Rattle.ipc_encode.specs.Numbers.{Numbering}
-use Rattle.ipc_encode.proofs.Siblings.{first}
+use Rattle.ipc_encode.proofs.Growing.{first}
 use Rattle.ipc_encode.proofs.fitting.+left.Given as goal
 
 abbrev pub invariant-remaining_all-loop-node : goal.invariant-remaining_all-loop-node

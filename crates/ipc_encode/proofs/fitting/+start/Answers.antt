@@ -1,8 +1,8 @@
 use Rattle.std.proofs.Common.{sym, subst, List, add-one, arith, rules}
-use Rattle.ipc_encode.specs.declared.node.Node.{Node}
+use Rattle.ipc_encode.specs.declared.tree.Node.{Node}
 use Rattle.ipc_encode.specs.Buffers.{child_values}
 use Rattle.ipc_encode.specs.Built.{AreNodes, IsColumn, IsNext}
-use Rattle.ipc_encode.proofs.Nodes.{node_is, lent_column, lent_children, lent_node, mixed_more, mixed_all, kept_at}
+use Rattle.ipc_encode.proofs.Growing.{node_is, lent_column, lent_children, lent_node, mixed_more, mixed_all, kept_at}
 use Rattle.ipc_encode.proofs.fitting.+start.Goals as goal
 
 pub start_nodes-loop-i-preserved : goal.start_nodes-loop-i-preserved

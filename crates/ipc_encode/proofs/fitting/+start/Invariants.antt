@@ -4,7 +4,7 @@ use Rattle.ipc_model.specs.declared.value.Value.{Value}
 use Rattle.ipc_column.specs.Shapes.{Shape}
 use Rattle.ipc_encode.specs.Built.{AreNodes, IsColumn, IsNext}
 use Rattle.ipc_encode.specs.Numbers.{Numbering}
-use Rattle.ipc_encode.proofs.Nodes.{AreMixed}
+use Rattle.ipc_encode.proofs.Growing.{AreMixed}
 use Rattle.ipc_encode.proofs.fitting.+start.Given as goal
 
 abbrev pub invariant-start_nodes-loop-i : goal.invariant-start_nodes-loop-i

@@ -2,7 +2,7 @@ use Rattle.std.proofs.Common.{refl, inr, ℕ, ◌++◌, [], ◌∷◌, arith}
 use Rattle.std.proofs.lemmas.Result.{err_from_is_err_and}
 use Rattle.ipc_encode.specs.Cells.{cell}
 use Rattle.ipc_encode.specs.declared.column_builder.Purpose.TheVariants as purpose
-use Rattle.ipc_encode.proofs.Siblings.{taken_few, taken_short}
+use Rattle.ipc_encode.proofs.Growing.{taken_few, taken_short}
 use Rattle.ipc_encode.proofs.fitting.check_fit.Goals as goal
 
 pub returns-in_err-take_parts-clause-refused : goal.returns-in_err-take_parts-clause-refused

@@ -6,7 +6,7 @@ use Rattle.ipc_encode.specs.Buffers.{nodes_of, buffers_with}
 use Rattle.ipc_encode.specs.Numbers.{Numbering, new_indices}
 use Rattle.ipc_encode.specs.Writing.{Adds}
 use Rattle.ipc_encode.specs.Built.{HoldColumns}
-use Rattle.ipc_encode.proofs.Siblings.{first}
+use Rattle.ipc_encode.proofs.Growing.{first}
 use Rattle.ipc_encode.proofs.parts.+add.Given as goal
 
 abbrev pub invariant-add_nodes-loop-node : goal.invariant-add_nodes-loop-node

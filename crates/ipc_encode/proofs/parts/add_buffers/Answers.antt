@@ -5,7 +5,7 @@ use Rattle.ipc_encode.specs.Cells.{slots}
 use Rattle.ipc_encode.specs.Numbers.{as_number, new_index}
 use Rattle.ipc_encode.specs.Pieces.{Number}
 use Rattle.ipc_encode.specs.Writing.{Adds}
-use Rattle.ipc_encode.proofs.Adding.{adds_both, adds_as}
+use Rattle.ipc_encode.proofs.Growing.{adds_both, adds_as}
 use Rattle.ipc_encode.proofs.Indexed.{index_buffers}
 use Rattle.ipc_encode.proofs.parts.add_buffers.Goals as goal
 

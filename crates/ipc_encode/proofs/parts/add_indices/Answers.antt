@@ -3,7 +3,7 @@ use Rattle.std.proofs.lemmas.Int.{to_z-of_z}
 use Rattle.ipc_encode.specs.Cells.{slots}
 use Rattle.ipc_encode.specs.Numbers.{as_number, new_index}
 use Rattle.ipc_encode.specs.Pieces.{Number}
-use Rattle.ipc_encode.proofs.Adding.{range_added}
+use Rattle.ipc_encode.proofs.Growing.{range_added}
 use Rattle.ipc_encode.proofs.parts.add_indices.Goals as goal
 
 pub returns-clause-adds : goal.returns-clause-adds

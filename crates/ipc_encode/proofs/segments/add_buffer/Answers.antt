@@ -1,6 +1,6 @@
 use Rattle.std.proofs.lemmas.Result.{err_from_is_err_and, IfErr-weaker}
 use Rattle.ipc_encode.specs.Segments.{segment_bytes}
-use Rattle.ipc_encode.proofs.SegmentBuffers.{refused_begun, refused_ended}
+use Rattle.ipc_encode.proofs.SegmentColumns.{refused_begun, refused_ended}
 use Rattle.ipc_encode.proofs.segments.add_buffer.Goals as goal
 
 pub returns-in_err-append-clause-refused : goal.returns-in_err-append-clause-refused

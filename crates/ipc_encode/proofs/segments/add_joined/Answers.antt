@@ -1,7 +1,7 @@
 use Rattle.std.proofs.Common.{◌≡◌, ◌+◌, ◌++◌, length, length-append, arith}
 use Rattle.std.proofs.lemmas.Result.{err_from_is_err_and, IfErr-weaker}
 use Rattle.ipc_encode.specs.Segments.{segment_bytes}
-use Rattle.ipc_encode.proofs.SegmentBuffers.{refused_ended, refused_part, refused_rest}
+use Rattle.ipc_encode.proofs.SegmentColumns.{refused_ended, refused_part, refused_rest}
 use Rattle.ipc_encode.proofs.segments.add_joined.Goals as goal
 
 pub returns-in_err-append-clause-refused : goal.returns-in_err-append-clause-refused

@@ -1,4 +1,4 @@
-use Rattle.ipc_encode.proofs.SegmentBuffers.{joined_push}
+use Rattle.ipc_encode.proofs.SegmentColumns.{joined_push}
 use Rattle.ipc_encode.proofs.segments.push_segment.Goals as goal
 
 pub returns : goal.returns

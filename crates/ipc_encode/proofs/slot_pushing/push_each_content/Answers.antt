@@ -6,7 +6,7 @@ use Rattle.ipc_column.specs.Nested.{child_columns, slot_values}
 use Rattle.ipc_column.specs.Values.{row}
 use Rattle.ipc_encode.specs.Cells.{content, ends, slots}
 use Rattle.ipc_encode.specs.Pieces.{Bytes, Content}
-use Rattle.ipc_encode.proofs.LentBytes.{content_extents, ends_next}
+use Rattle.ipc_encode.proofs.LentBuffers.{content_extents, ends_next}
 use Rattle.ipc_encode.proofs.NumberSlots.{slots_next}
 use Rattle.ipc_encode.proofs.Steps.{extents}
 use Rattle.ipc_encode.proofs.slot_pushing.push_each_content.Goals as goal

@@ -2,7 +2,7 @@ use Rattle.std.proofs.Common.{◌≡◌, ◌∙◌, ap, ℕ, ◌+◌, ◌++◌, 
 use Rattle.std.specs.Int.{bytes_low_first}
 use Rattle.ipc_encode.specs.Cells.{ends}
 use Rattle.ipc_encode.specs.Pieces.{Bytes}
-use Rattle.ipc_encode.proofs.LentBytes.{content_extents, ends_next}
+use Rattle.ipc_encode.proofs.LentBuffers.{content_extents, ends_next}
 use Rattle.ipc_encode.proofs.Steps.{extents}
 use Rattle.ipc_encode.proofs.slot_pushing.push_ends.Goals as goal
 

@@ -7,7 +7,7 @@ use Rattle.ipc_scalar.specs.Bytes.{bit}
 use Rattle.ipc_column.specs.Values.{is_valid}
 use Rattle.ipc_encode.specs.Bitmaps.{bitmap}
 use Rattle.ipc_encode.proofs.NumberSlots.{grown}
-use Rattle.ipc_encode.proofs.WholeBytes.{bit_in_front, both_more, bytes_more, front_small}
+use Rattle.ipc_encode.proofs.Bits.{bit_in_front, both_more, bytes_more, front_small}
 use Rattle.ipc_encode.proofs.slot_pushing.push_set_bits.Goals as goal
 
 pub loop-i-preserved : goal.loop-i-preserved

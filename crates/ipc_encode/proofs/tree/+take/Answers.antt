@@ -5,17 +5,15 @@ use Rattle.std.proofs.lemmas.List.{take_more}
 use Rattle.ipc_model.specs.declared.layout.Layout.{Layout}
 use Rattle.ipc_model.specs.declared.value.Value.{Value}
 use Rattle.ipc_column.specs.Shapes.{bare, field}
-use Rattle.ipc_encode.specs.declared.node.Node.{Node, out-Node}
+use Rattle.ipc_encode.specs.declared.tree.Node.{Node, out-Node}
 use Rattle.ipc_encode.specs.declared.column_builder.Purpose.{Purpose}
 use Rattle.ipc_encode.specs.Buffers.{child_values}
 use Rattle.ipc_encode.specs.Cells.{cell}
 use Rattle.ipc_encode.specs.Built.{AreNodes, IsNode, HasTaken, IsColumn, ArePushesRefused}
 use Rattle.ipc_encode.specs.Numbers.{index_or_zero}
-use Rattle.ipc_encode.proofs.Below.{fixed_are, parts_are, fixed_gives, struct_gives}
-use Rattle.ipc_encode.proofs.Below.{lists_more, fixed_more, nulls_more, structs_more}
-use Rattle.ipc_encode.proofs.Growing.{own_refused, child_refused, mixed_refused, all_refused}
-use Rattle.ipc_encode.proofs.Nodes.{node_is, lent_column, lent_node, taken_laid, mixed_more, mixed_all, kept_at}
-use Rattle.ipc_encode.proofs.Siblings.{leaf_has}
+use Rattle.ipc_encode.proofs.Steps.{fixed_are, parts_are, fixed_gives, struct_gives, lists_more, fixed_more, nulls_more, structs_more}
+use Rattle.ipc_encode.proofs.Growing.{own_refused, child_refused, mixed_refused, all_refused, node_is, lent_column, lent_node, taken_laid}
+use Rattle.ipc_encode.proofs.Growing.{mixed_more, mixed_all, kept_at, leaf_has}
 use Rattle.ipc_encode.proofs.tree.+take.Goals.{take_parts-in-Some+in_ok-take-in-Some, take_parts-in-None+in_ok-take_null-in-None}
 use Rattle.ipc_encode.proofs.tree.+take.Goals as goal
 

@@ -7,7 +7,7 @@ use Rattle.ipc_encode.specs.declared.column_builder.Purpose.TheVariants.{Count}
 use Rattle.ipc_encode.specs.Cells.{cell}
 use Rattle.ipc_encode.specs.Built.{AreNodes, IsNode, HasTaken, IsColumn}
 use Rattle.ipc_encode.specs.Numbers.{Numbering, index_or_zero}
-use Rattle.ipc_encode.proofs.Nodes.{AreMixed}
+use Rattle.ipc_encode.proofs.Growing.{AreMixed}
 use Rattle.ipc_encode.proofs.tree.+take.Given as goal
 
 abbrev pub invariant-take_items-loop-i : goal.invariant-take_items-loop-i

@@ -4,13 +4,13 @@ use Rattle.ipc_model.specs.declared.layout.Layout.{Layout}
 use Rattle.ipc_model.specs.declared.value.Value.{Value}
 use Rattle.ipc_model.specs.declared.value.Value.TheVariants.{Null}
 use Rattle.ipc_column.specs.Shapes.{bare}
-use Rattle.ipc_encode.specs.declared.node.Node.{Node, out-Node}
+use Rattle.ipc_encode.specs.declared.tree.Node.{Node, out-Node}
 use Rattle.ipc_encode.specs.Buffers.{child_values, nulls_below}
 use Rattle.ipc_encode.specs.Built.{AreNodes, HasTaken, IsColumn, ArePushesRefused}
 use Rattle.ipc_encode.specs.Numbers.{index_or_zero}
-use Rattle.ipc_encode.proofs.Below.{more_below, nulls_give}
-use Rattle.ipc_encode.proofs.Growing.{child_refused, mixed_refused}
-use Rattle.ipc_encode.proofs.Nodes.{node_is, lent_column, lent_node, taken_laid, mixed_more, mixed_all, kept_at}
+use Rattle.ipc_encode.proofs.Steps.{more_below, nulls_give}
+use Rattle.ipc_encode.proofs.Growing.{child_refused, mixed_refused, node_is, lent_column, lent_node, taken_laid, mixed_more, mixed_all}
+use Rattle.ipc_encode.proofs.Growing.{kept_at}
 use Rattle.ipc_encode.proofs.tree.+take_null.Goals as goal
 
 -- what a node's nulls give to its children

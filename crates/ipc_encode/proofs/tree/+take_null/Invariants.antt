@@ -6,7 +6,7 @@ use Rattle.ipc_column.specs.Shapes.{Shape}
 use Rattle.ipc_encode.specs.declared.column_builder.Purpose.TheVariants.{Count}
 use Rattle.ipc_encode.specs.Built.{AreNodes, HasTaken, IsColumn}
 use Rattle.ipc_encode.specs.Numbers.{Numbering, index_or_zero}
-use Rattle.ipc_encode.proofs.Nodes.{AreMixed}
+use Rattle.ipc_encode.proofs.Growing.{AreMixed}
 use Rattle.ipc_encode.proofs.tree.+take_null.Given as goal
 
 abbrev pub invariant-take_nulls-loop-i : goal.invariant-take_nulls-loop-i

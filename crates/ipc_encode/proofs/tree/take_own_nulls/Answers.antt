@@ -5,7 +5,7 @@ use Rattle.ipc_model.specs.declared.value.Value.TheVariants.{Null}
 use Rattle.ipc_column.specs.Shapes.{bare, field}
 use Rattle.ipc_encode.specs.Built.{ArePushesRefused, HasTaken}
 use Rattle.ipc_encode.specs.Numbers.{index_or_zero}
-use Rattle.ipc_encode.proofs.Below.{null_next, nulls_first}
+use Rattle.ipc_encode.proofs.Steps.{null_next, nulls_first}
 use Rattle.ipc_encode.proofs.Growing.{own_refused, all_refused}
 use Rattle.ipc_encode.proofs.tree.take_own_nulls.Goals as goal
 

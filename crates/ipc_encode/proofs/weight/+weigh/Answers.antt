@@ -14,9 +14,9 @@ use Rattle.ipc_column.specs.Shapes.{field_children, field_layout}
 use Rattle.ipc_encode.specs.Buffers.{child_values}
 use Rattle.ipc_encode.specs.Cells.{cell}
 use Rattle.ipc_encode.specs.Weights.{capped, field_weight, row_weight, weight_of}
-use Rattle.ipc_encode.proofs.RowWeights.{cell_at, each_at, each_more, fields_weigh, fine_at, inner_weighs, item_at, items_given}
-use Rattle.ipc_encode.proofs.RowWeights.{items_hold, items_more, layout_is, leaf_holds, leaf_weighs, no_items_given, no_items_hold}
-use Rattle.ipc_encode.proofs.RowWeights.{none_weigh, null_holds, parts_given, parts_hold, said, sum_more, value_weighs, values_weigh}
+use Rattle.ipc_encode.proofs.Weights.{cell_at, each_at, each_more, fields_weigh, fine_at, inner_weighs, item_at, items_given, items_hold}
+use Rattle.ipc_encode.proofs.Weights.{items_more, layout_is, leaf_holds, leaf_weighs, no_items_given, no_items_hold, none_weigh}
+use Rattle.ipc_encode.proofs.Weights.{null_holds, parts_given, parts_hold, said, sum_more, value_weighs, values_weigh}
 use Rattle.ipc_encode.proofs.weight.+weigh.Goals as goal
 
 pub inner_weight-returns-in-Null : goal.inner_weight-returns-in-Null

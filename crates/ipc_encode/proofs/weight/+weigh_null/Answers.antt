@@ -4,7 +4,7 @@ use Rattle.ipc_model.specs.declared.schema.Field.{Field}
 use Rattle.ipc_model.specs.declared.value.Value.TheVariants.{Null}
 use Rattle.ipc_column.specs.Shapes.{shape_of}
 use Rattle.ipc_encode.specs.Weights.{capped, field_weight, weight_of}
-use Rattle.ipc_encode.proofs.RowWeights.{fields_weigh, inner_nulls, inner_weighs, layout_is, sum_more, value_weighs}
+use Rattle.ipc_encode.proofs.Weights.{fields_weigh, inner_nulls, inner_weighs, layout_is, sum_more, value_weighs}
 use Rattle.ipc_encode.proofs.weight.+weigh_null.Goals as goal
 
 pub inner_nulls_weight-loop-child-preserved : goal.inner_nulls_weight-loop-child-preserved

@@ -6,13 +6,12 @@ use Rattle.ipc_model.specs.declared.value.Value.{Value}
 use Rattle.ipc_column.specs.Nested.{Nested, slot_values}
 use Rattle.ipc_column.specs.Shapes.{Shape}
 use Rattle.ipc_column.specs.Slots.{nested, nested_in}
-use Rattle.ipc_encode.specs.declared.node.Node.{Node}
+use Rattle.ipc_encode.specs.declared.tree.Node.{Node}
 use Rattle.ipc_encode.specs.Buffers.{child_values}
 use Rattle.ipc_encode.specs.Built.{IsColumn, IsNode}
 use Rattle.ipc_encode.specs.WholeColumns.{IsFullColumn}
-use Rattle.ipc_encode.proofs.NestedSlots.{some_same}
-use Rattle.ipc_encode.proofs.Siblings.{IsAt}
-use Rattle.ipc_encode.proofs.WholeColumns.{first_and_next, node_at, whole_all}
+use Rattle.ipc_encode.proofs.NestedSlots.{some_same, first_and_next, node_at, whole_all}
+use Rattle.ipc_encode.proofs.Growing.{IsAt}
 use Rattle.ipc_encode.proofs.whole_columns.+has_node_layout.Goals as goal
 
 pub have_node_layouts-loop-i-preserved : goal.have_node_layouts-loop-i-preserved

@@ -11,7 +11,7 @@ use Rattle.ipc_encode.specs.Buffers.{child_values}
 use Rattle.ipc_encode.specs.Built.{AreNodes, IsColumn}
 use Rattle.ipc_encode.specs.WholeColumns.{IsFullColumn}
 use Rattle.ipc_encode.specs.Numbers.{Numbering}
-use Rattle.ipc_encode.proofs.Siblings.{IsAt}
+use Rattle.ipc_encode.proofs.Growing.{IsAt}
 use Rattle.ipc_encode.proofs.whole_columns.+has_node_layout.Given as goal
 
 -- the first children lie whole

@@ -4,10 +4,8 @@ use Rattle.std.proofs.lemmas.Bool.{eqb-true}
 use Rattle.ipc_column.specs.Nested.{Nested, slot_values}
 use Rattle.ipc_column.specs.Slots.{nested_in}
 use Rattle.ipc_column.specs.Values.{is_valid}
-use Rattle.ipc_encode.proofs.LentBuffers.{buffers_bits}
-use Rattle.ipc_encode.proofs.LentContents.{start_of}
-use Rattle.ipc_encode.proofs.NestedSlots.{list_gives, list_offsets_there, no_lists, some_same}
-use Rattle.ipc_encode.proofs.NestedTexts.{list_spells}
+use Rattle.ipc_encode.proofs.LentBuffers.{buffers_bits, start_of}
+use Rattle.ipc_encode.proofs.NestedSlots.{list_gives, list_offsets_there, no_lists, some_same, list_spells}
 use Rattle.ipc_encode.proofs.whole_columns.lists_use_all_items.Goals as goal
 
 pub nulls_are_empty-requires-clause-bits : goal.nulls_are_empty-requires-clause-bits

@@ -1,6 +1,6 @@
 use Rattle.std.proofs.Common.{◌∙◌, sym, subst, List}
 use Rattle.ipc_column.specs.Shapes.{shape_of}
-use Rattle.ipc_encode.specs.declared.node.Node.{Node}
+use Rattle.ipc_encode.specs.declared.tree.Node.{Node}
 use Rattle.ipc_encode.specs.Buffers.{row_columns}
 use Rattle.ipc_encode.specs.Built.{HoldColumns}
 use Rattle.ipc_encode.specs.Numbers.{new_indices}

@@ -1,7 +1,7 @@
 use Rattle.std.proofs.Common.{subst, ◌<◌, ◌++◌, [], ◌∷◌, length-append, arith}
 use Rattle.ipc_model.specs.declared.limits.Limits.{Limits}
 use Rattle.ipc_encode.proofs.Held.{not_full, rows_within}
-use Rattle.ipc_encode.proofs.RowHeadroom.{row_within}
+use Rattle.ipc_encode.proofs.Weights.{row_within}
 use Rattle.ipc_encode.proofs.builder.Builder.fits.Goals as goal
 
 pub fits_exactly-requires : goal.fits_exactly-requires

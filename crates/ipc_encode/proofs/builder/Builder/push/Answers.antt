@@ -4,12 +4,12 @@ use Rattle.std.proofs.lemmas.Result.{err_from_is_err_and}
 use Rattle.ipc_model.specs.declared.limits.Limits.{Limits}
 use Rattle.ipc_model.specs.declared.value.Value.{Value}
 use Rattle.ipc_column.specs.Shapes.{shape_of}
-use Rattle.ipc_encode.specs.declared.node.Node.{Node}
+use Rattle.ipc_encode.specs.declared.tree.Node.{Node}
 use Rattle.ipc_encode.specs.Buffers.{row_columns}
 use Rattle.ipc_encode.specs.Built.{HoldColumns, ArePushesRefused, HasHeadroom}
 use Rattle.ipc_encode.specs.Numbers.{index_or_zero}
 use Rattle.ipc_encode.proofs.Held.{columns_push, only_memory, rows_refused}
-use Rattle.ipc_encode.proofs.RowHeadroom.{headroom_left}
+use Rattle.ipc_encode.proofs.Weights.{headroom_left}
 use Rattle.ipc_encode.proofs.builder.Builder.push.Goals as goal
 
 pub returns-clause-pushed : goal.returns-clause-pushed

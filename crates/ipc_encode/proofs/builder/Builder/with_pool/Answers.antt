@@ -2,12 +2,12 @@ use Rattle.std.proofs.Common.{refl, sym, subst, List, [], arith}
 use Rattle.std.proofs.lemmas.Result.{err_from_is_err_and}
 use Rattle.ipc_model.specs.declared.fault.WriteFault.{WriteFault}
 use Rattle.ipc_column.specs.Shapes.{shape_of}
-use Rattle.ipc_encode.specs.declared.node.Node.{Node}
+use Rattle.ipc_encode.specs.declared.tree.Node.{Node}
 use Rattle.ipc_encode.specs.Buffers.{row_columns}
 use Rattle.ipc_encode.specs.Built.{HoldColumns}
 use Rattle.ipc_encode.specs.Limits.{AreRowsRefused}
 use Rattle.ipc_encode.proofs.Held.{built_within}
-use Rattle.ipc_encode.proofs.RowHeadroom.{no_headroom}
+use Rattle.ipc_encode.proofs.Weights.{no_headroom}
 use Rattle.ipc_encode.proofs.builder.Builder.with_pool.Goals as goal
 
 pub returns-in_err-check_len-clause-refused : goal.returns-in_err-check_len-clause-refused

@@ -6,9 +6,9 @@ use Rattle.ipc_encode.specs.Built.{IsColumn, AreCountsOf, IsPushRefused}
 use Rattle.ipc_encode.specs.Cells.{nulls, slots}
 use Rattle.ipc_encode.specs.Columns.{data_in, values_in}
 use Rattle.ipc_encode.specs.Pieces.{Number}
-use Rattle.ipc_encode.proofs.Marked.{nulls_append}
+use Rattle.ipc_encode.proofs.Bits.{nulls_append}
 use Rattle.ipc_encode.proofs.NumberSlots.{slots_append}
-use Rattle.ipc_encode.proofs.Pushes.{no_nulls}
+use Rattle.ipc_encode.proofs.Steps.{no_nulls}
 use Rattle.ipc_encode.proofs.Sizes.{numbers_data}
 use Rattle.ipc_encode.proofs.column_builder.ColumnBuilder.push_valid.Goals as goal
 

@@ -11,7 +11,7 @@ use Rattle.ipc_encode.specs.Cells.{cells}
 use Rattle.ipc_encode.specs.Columns.{data_in}
 use Rattle.ipc_encode.specs.EntryIndices.{column_index}
 use Rattle.ipc_encode.specs.Numbers.{Numbering, indices_of, index_or_zero}
-use Rattle.ipc_encode.proofs.EntryIndices.{data_indices}
+use Rattle.ipc_encode.proofs.NumberSlots.{data_indices}
 use Rattle.ipc_encode.proofs.Steps.{cells_length}
 use Rattle.ipc_encode.proofs.column_builder.ColumnBuilder.take_indices.Goals as goal
 

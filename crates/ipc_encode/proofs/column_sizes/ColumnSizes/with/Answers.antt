@@ -7,7 +7,7 @@ use Rattle.ipc_model.specs.declared.value.Value.{Value}
 use Rattle.ipc_encode.specs.Built.{AreCountsOf}
 use Rattle.ipc_encode.specs.Buffers.{row_columns}
 use Rattle.ipc_encode.specs.ColumnSizes.{as_rows, CountsRows}
-use Rattle.ipc_encode.proofs.CountedColumns.{body_refused, more_column, not_memory, value_refused}
+use Rattle.ipc_encode.proofs.Held.{body_refused, more_column, not_memory, value_refused}
 use Rattle.ipc_encode.proofs.column_sizes.ColumnSizes.with.Goals as goal
 
 -- the numbers with all values

@@ -1,6 +1,6 @@
 use Rattle.std.proofs.Common.{refl}
 use Rattle.ipc_encode.specs.Buffers.{row_columns}
-use Rattle.ipc_encode.proofs.CountedColumns.{counts_past, counts_within}
+use Rattle.ipc_encode.proofs.Held.{counts_past, counts_within}
 use Rattle.ipc_encode.proofs.column_sizes.ColumnSizes.within_body.Goals as goal
 
 pub returns-then-len-limits-clause-refused : goal.returns-then-len-limits-clause-refused

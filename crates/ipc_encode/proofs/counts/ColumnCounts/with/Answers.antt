@@ -3,8 +3,7 @@ use Rattle.ipc_encode.specs.Pieces.{Valid}
 use Rattle.ipc_encode.specs.Cells.{is_set}
 use Rattle.ipc_encode.specs.Columns.{ExceedsOffsets}
 use Rattle.ipc_encode.proofs.Steps.{nulls_push, amount_more}
-use Rattle.ipc_encode.proofs.PastOffsets.{body_refused, past_refused}
-use Rattle.ipc_encode.proofs.Sizes.{long_is, long_from, data_within}
+use Rattle.ipc_encode.proofs.Sizes.{body_refused, past_refused, long_is, long_from, data_within}
 use Rattle.ipc_encode.proofs.counts.ColumnCounts.with.Goals.{then-exceeds_offsets-via-then-exceeds_offsets}
 use Rattle.ipc_encode.proofs.counts.ColumnCounts.with.Goals.{then-exceeds_offsets-via-else-exceeds_offsets+then-exceeds_body}
 use Rattle.ipc_encode.proofs.counts.ColumnCounts.with.Goals as goal

@@ -1,8 +1,7 @@
 use Rattle.std.proofs.Common.{sym, subst, ℕ, ◌++◌, length-append, arith}
 use Rattle.ipc_encode.specs.Columns.{ExceedsOffsets}
-use Rattle.ipc_encode.proofs.Marked.{nulls_append}
-use Rattle.ipc_encode.proofs.PastOffsets.{body_refused, past_refused}
-use Rattle.ipc_encode.proofs.Sizes.{long_is, long_from, data_within}
+use Rattle.ipc_encode.proofs.Bits.{nulls_append}
+use Rattle.ipc_encode.proofs.Sizes.{body_refused, past_refused, long_is, long_from, data_within}
 use Rattle.ipc_encode.proofs.counts.ColumnCounts.with_all.Goals.{then-exceeds_offsets-via-then-exceeds_offsets}
 use Rattle.ipc_encode.proofs.counts.ColumnCounts.with_all.Goals.{then-exceeds_offsets-via-else-exceeds_offsets+then-exceeds_body}
 use Rattle.ipc_encode.proofs.counts.ColumnCounts.with_all.Goals as goal

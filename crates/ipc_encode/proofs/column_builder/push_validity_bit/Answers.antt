@@ -1,0 +1,34 @@
+use Rattle.std.proofs.Common.{◌≡◌, ◌∙◌, sym, ap, ℕ, true, replicate}
+use Rattle.std.proofs.lemmas.Result.{on_ok_weaker}
+use Rattle.ipc_encode.specs.Pieces.{Valid}
+use Rattle.ipc_encode.specs.Bitmaps.{bitmap}
+use Rattle.ipc_encode.specs.Cells.{flags, nulls}
+use Rattle.ipc_encode.proofs.Bits.{flags_length}
+use Rattle.ipc_encode.proofs.Steps.{all_valid, some_null, no_nulls, still_none, bits_then, null_more, nulls_stay}
+use Rattle.ipc_encode.proofs.column_builder.push_validity_bit.Goals.{then-null_count-eq0+else-is_valid+in_ok-set_bits, else-null_count-eq0}
+use Rattle.ipc_encode.proofs.column_builder.push_validity_bit.Goals as goal
+
+pub returns-then-is_valid : goal.returns-then-is_valid
+returns-then-is_valid c = λ values count none same.
+    same ∙ sym (still_none values c.args.value.now (none ∙ c.if-null_count-eq0.true) (sym c.is_valid-is_valid.ensures ∙ c.if-is_valid.true))
+
+pub returns : goal.returns
+returns c = λ values count none same.
+    elim c.if-null_count-eq0.branch [
+      | then-null_count-eq0+else-is_valid+in_ok-set_bits w ↦
+          let none_yet = none ∙ w.if-null_count-eq0.true in
+          let set = w.in_ok-set_bits.ensures (same ∙ no_nulls values none_yet) in
+          let packed : c.if-null_count-eq0.validity.items ≡ bitmap (flags Valid values) =
+          rw w.validity-is (set ∙ (ap (λ (n : ℕ). bitmap (replicate n true)) (sym count) ∙ ap bitmap (sym (all_valid values none_yet)))) in
+          on_ok_weaker c.push_bit.result
+          (bits_then values c.args.value.now c.push_bit.new.bytes.items c.is_valid-is_valid.result c.is_valid-is_valid.ensures
+          (null_more values c.args.value.now (sym c.is_valid-is_valid.ensures ∙ w.if-is_valid.false)))
+          (c.push_bit.ensures (flags Valid values) (flags_length Valid values ∙ count) packed)
+      | else-null_count-eq0 w ↦
+          let some : nulls values ≡ 0 → ⊥ = λ e. w.if-null_count-eq0.false (sym none ∙ e) in
+          let packed : c.if-null_count-eq0.validity.items ≡ bitmap (flags Valid values) = rw w.validity-is (same ∙ some_null values some) in
+          on_ok_weaker c.push_bit.result
+          (bits_then values c.args.value.now c.push_bit.new.bytes.items c.is_valid-is_valid.result c.is_valid-is_valid.ensures
+          (nulls_stay values c.args.value.now some))
+          (c.push_bit.ensures (flags Valid values) (flags_length Valid values ∙ count) packed)
+    ]

@@ -1,0 +1,13 @@
+use Rattle.std.proofs.Common.{◌≡◌, ℕ, List}
+use Rattle.ipc_model.specs.declared.limits.Limits.{Limits}
+use Rattle.ipc_model.specs.declared.value.Value.{Value}
+use Rattle.ipc_column.specs.Shapes.{Shape}
+use Rattle.ipc_encode.specs.Built.{AreNodes, IsColumn}
+use Rattle.ipc_encode.specs.Numbers.{Numbering}
+use Rattle.ipc_encode.specs.Weights.{capped, weight_of}
+use Rattle.ipc_encode.proofs.Growing.{first}
+use Rattle.ipc_encode.proofs.fitting.+weights.Given as goal
+
+abbrev pub invariant-loop-node : goal.invariant-loop-node
+invariant-loop-node l = (known : Numbering) (limits : Limits) (shape : Shape) (before : ℕ → List Value)
+    → AreNodes (IsColumn known limits) shape l.nodes before → l.weight ≡ capped (weight_of 25 (first l.node-index shape) before)
