@@ -11,17 +11,20 @@
  * result, what it writes and the state that it leaves are as its comment says (docs/PROVED.md names
  * the clauses). What several calls give of one column belongs together. Only tested: this for the
  * values of a dictionary, that the buffers are the bytes of the stream, that memory ran out where a
- * call says so, and that no memory leaks. No clause says that bytes which were ready remain if
- * memory runs out in a call for a cell or a row, or in arrow_writer_columns.
+ * call says so, and that no memory leaks.
  *
  * THE CALLER OWES, and nothing checks:
- *   - a reader, batch or writer is one that a call set, not NULL, and not freed yet;
+ *   - a reader, batch or writer is NULL, or is one that a call set and that is not freed yet;
  *   - a pointer with a length may be read, or written if it is not const, for that many elements,
  *     and is not NULL, even if the length is 0; an `out` or `wanted` may be written; no two of them
  *     overlap;
- *   - a reader and all batches taken from it are used on one thread, by one call at a time, and not
- *     from a signal handler; so is a writer;
+ *   - each reader, batch and writer is used by one call at a time, and not from a signal handler. A
+ *     reader and a writer stay on the thread that made them; a batch may pass to another one;
  *   - malloc, realloc and free are one allocator, and malloc aligns as C demands.
+ *
+ * A call at NULL returns ARROW_MISUSE if it returns a status, and else 0, and does nothing else. A
+ * `wanted` is then 0, a progress is all zeros, and arrow_reader_take sets NULL. To free NULL does
+ * nothing.
  *
  * Bytes are copied, never lent: no pointer into a reader, a batch or a writer leaves the library.
  */
@@ -47,7 +50,7 @@ uint32_t arrow_version(void);
 #define ARROW_FAILED 35u        /* F35: an earlier call was refused */
 #define ARROW_OUT_OF_MEMORY 37u /* F37 */
 #define ARROW_ABSENT 64u        /* what was asked for does not exist */
-#define ARROW_MISUSE 65u        /* the writer does not allow the call in its state */
+#define ARROW_MISUSE 65u        /* the writer does not allow the call in its state, or NULL */
 #define ARROW_NOT_UTF8 66u      /* a text for a writer is not UTF-8 */
 #define ARROW_WRITE 100u
 #define ARROW_WRITE_FAILED 110u        /* W10: the writer has ended */
@@ -258,20 +261,29 @@ uint32_t arrow_writer_end(arrow_writer *writer);
  * dropped. Returns ARROW_MISUSE also inside a list or struct. */
 uint32_t arrow_writer_row(arrow_writer *writer);
 
-/* Sends the rows as one record batch, after the dictionaries that it needs. There may be none.
+/* Adds a pair of key and value to the metadata of the batch that is sent next, after the pairs that
+ * it has. A key may occur more than once. Limits are checked by arrow_writer_send.
  *
- * Returns ARROW_OK, or ARROW_WRITE + 6, 7, 8, 9 or 11. The rows are dropped in each of these cases.
- * Cells of a row that has not ended remain. */
+ * Returns ARROW_OK, ARROW_MISUSE, ARROW_NOT_UTF8 if the key or the value is not UTF-8, or
+ * ARROW_WRITE + 10 or 11. */
+uint32_t arrow_writer_pair(arrow_writer *writer, const uint8_t *key, size_t key_length,
+                           const uint8_t *value, size_t value_length);
+
+/* Sends the rows as one record batch with the pairs, after the dictionaries that it needs. There
+ * may be no rows, and no pairs.
+ *
+ * Returns ARROW_OK, or ARROW_WRITE + 6, 7, 8, 9 or 11. Rows and pairs are dropped in each of these
+ * cases. Cells of a row that has not ended remain. */
 uint32_t arrow_writer_send(arrow_writer *writer);
 
 /* Sends the columns and pairs of a batch that was read as one record batch, after the dictionaries
- * that it needs. The batch and the rows that were not sent remain.
+ * that it needs. The batch remains, and so do rows and pairs that were not sent.
  *
  * Returns ARROW_OK, or ARROW_WRITE + 2 to 9 or 11. */
 uint32_t arrow_writer_columns(arrow_writer *writer, arrow_batch *batch);
 
-/* Sends the end-of-stream mark, and ends the writer. Returns ARROW_MISUSE also if rows were not
- * sent, or a row or its list or struct has not ended. */
+/* Sends the end-of-stream mark, and ends the writer. Returns ARROW_MISUSE also if rows or pairs
+ * were not sent, or a row or its list or struct has not ended. */
 uint32_t arrow_writer_finish(arrow_writer *writer);
 
 /* Returns the number of bytes that one call of arrow_writer_take can move. It is 0 only if no bytes

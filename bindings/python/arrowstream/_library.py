@@ -103,6 +103,7 @@ _CALLS = {
     "arrow_writer_begin_struct": (_STATUS, [_HANDLE]),
     "arrow_writer_end": (_STATUS, [_HANDLE]),
     "arrow_writer_row": (_STATUS, [_HANDLE]),
+    "arrow_writer_pair": (_STATUS, [*_BYTES, ctypes.c_char_p, _SIZE]),
     "arrow_writer_send": (_STATUS, [_HANDLE]),
     "arrow_writer_columns": (_STATUS, [_HANDLE, _HANDLE]),
     "arrow_writer_finish": (_STATUS, [_HANDLE]),
@@ -116,8 +117,7 @@ _CALLS = {
 def _load() -> ctypes.PyDLL:
     """The shared library: the file that ARROWSTREAM_LIBRARY names, or the one of this package.
 
-    PyDLL keeps Python's lock during a call. So a batch that another thread drops is not freed while
-    a call uses its reader.
+    PyDLL keeps Python's lock during a call, so one call at a time uses the library.
     """
     beside = pathlib.Path(__file__).with_name("libarrowstream.so")
     loaded = ctypes.PyDLL(os.environ.get("ARROWSTREAM_LIBRARY") or str(beside))

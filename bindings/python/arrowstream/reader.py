@@ -118,9 +118,8 @@ class Batch:
     `batch.columns` and `batch.column(name)` give columns, `batch.rows()` gives rows.
     """
 
-    def __init__(self, handle: ctypes.c_void_p, schema: Schema, check: Any):
+    def __init__(self, handle: ctypes.c_void_p, schema: Schema):
         self._handle = handle
-        self._check = check
         self._buffers: dict[tuple[tuple[int, ...], int], memoryview] = {}
         self.schema = schema
 
@@ -129,13 +128,11 @@ class Batch:
             c.library.arrow_batch_free(self._handle)
 
     def __len__(self) -> int:
-        self._check()
         return c.library.arrow_batch_rows(self._handle)
 
     @functools.cached_property
     def metadata(self) -> tuple[tuple[str, str], ...]:
         """The pairs of key and value of the batch's message."""
-        self._check()
         text = c.text_of(c.library.arrow_batch_pairs, self._handle)
         return pairs_of(json.loads(text or "[]"))
 
@@ -161,13 +158,7 @@ class Batch:
         columns = [column.to_list(as_stored=as_stored) for column in self.columns]
         return zip(*columns) if columns else iter([()] * len(self))
 
-    def _checked_handle(self) -> ctypes.c_void_p:
-        """The library's batch, on the thread where it may be used."""
-        self._check()
-        return self._handle
-
     def _find(self, path: tuple[int, ...]) -> c.ColumnFacts | None:
-        self._check()
         facts = c.ColumnFacts()
         status = c.library.arrow_batch_column(self._handle, c.path_of(path), len(path), facts)
         return facts if status == c.OK else None
@@ -183,7 +174,6 @@ class Batch:
 
     def _buffer(self, path: tuple[int, ...], kind: int, size: int) -> memoryview:
         """A buffer of the column at a path. It is copied once, and kept with the batch."""
-        self._check()
         if (path, kind) not in self._buffers:
             room, wanted = bytearray(size), ctypes.c_size_t()
             if size:
@@ -197,8 +187,8 @@ class Batch:
 class Reader:
     """A stream that is read. Iterate over it to get its batches.
 
-    Use a reader and its batches on the thread that made the reader: any other thread gets a
-    RuntimeError.
+    Use a reader on the thread that made it: any other thread gets a RuntimeError. Its batches may
+    be used by any thread.
     """
 
     def __init__(self, file: BinaryIO, limits: c.Limits):
@@ -244,7 +234,7 @@ class Reader:
 
     def _check(self) -> None:
         if threading.get_ident() != self._thread:
-            raise RuntimeError("a reader and its batches stay on the thread that made the reader")
+            raise RuntimeError("a reader stays on the thread that made it")
 
     def _next_event(self) -> int:
         """Feeds the file's bytes up to the next event, and returns it."""
@@ -285,7 +275,7 @@ class Reader:
         if not handle:
             raise MemoryError
         assert self._schema is not None
-        return Batch(handle, self._schema, self._check)
+        return Batch(handle, self._schema)
 
     def _raise(self, status: int) -> None:
         if status == c.OK:

@@ -99,36 +99,49 @@ class Writer:
         self._raise(c.library.arrow_writer_row(self._handle))
         self._waiting = True
 
-    def send(self) -> None:
-        """Sends the rows that wait as one batch. There may be none.
+    def send(self, metadata: Iterable[tuple[str, str]] = ()) -> None:
+        """Sends the rows that wait as one batch, with these pairs of key and value. There may be no
+        rows.
 
         Raises ArrowError if the batch does not fit its limits or a dictionary (W6 to W8); then the
-        rows are dropped.
+        rows are dropped. A key or value that is not UTF-8 raises UnicodeEncodeError, and the rows
+        wait.
         """
         self._check()
+        pairs = [(key.encode(), value.encode()) for key, value in metadata]
         self._waiting = False
+        for key, value in pairs:
+            self._raise(
+                c.library.arrow_writer_pair(self._handle, key, len(key), value, len(value))
+            )
         self._raise(c.library.arrow_writer_send(self._handle))
         self._flush()
 
-    def write_batch(self, batch: Batch | dict[str, Sequence[Any]] | Iterable[Row]) -> None:
-        """Sends a batch: one that was read, with its pairs, or a list of rows, or a dict of columns
-        by their names. Rows that wait are sent before it, as a batch of their own.
+    def write_batch(
+        self,
+        batch: Batch | dict[str, Sequence[Any]] | Iterable[Row],
+        metadata: Iterable[tuple[str, str]] = (),
+    ) -> None:
+        """Sends a batch: a list of rows or a dict of columns by their names, with pairs of key and
+        value, or a batch that was read, which has its own. Rows that wait are sent before it, as a
+        batch of their own.
 
         Raises what `write_row` and `send` raise. The rows before one that is refused wait for
-        `send`.
+        `send`. Raises TypeError for pairs with a batch that was read.
         """
         self._check()
+        if isinstance(batch, Batch) and metadata:
+            raise TypeError("a batch that was read has its own pairs")
         if self._waiting:
             self.send()
         if isinstance(batch, Batch):
-            handle = batch._checked_handle()
-            self._raise(c.library.arrow_writer_columns(self._handle, handle))
+            self._raise(c.library.arrow_writer_columns(self._handle, batch._handle))
             self._flush()
             return
         is_columns = isinstance(batch, dict)
         for row in rows_of(self.schema.fields, batch) if is_columns else batch:
             self.write_row(row)
-        self.send()
+        self.send(metadata)
 
     def close(self) -> None:
         """Sends the rows that wait, if there are any, and the end-of-stream mark. A closed writer

@@ -3,19 +3,20 @@
 use crate::ffi;
 use crate::reader::text_of;
 use crate::Error;
-use std::marker::PhantomData;
 use std::ptr::NonNull;
 
 /// The step of a path from a column of indices to the values of its dictionary.
 pub const DICTIONARY: u64 = u64::MAX;
 
-/// A record batch. It remains valid whatever its reader reads, and stays on the reader's thread.
+/// A record batch. It remains valid whatever its reader reads.
 #[derive(Debug)]
 pub struct Batch {
     batch: NonNull<ffi::Batch>,
-    // A batch shares counts with its reader that are not atomic: neither `Send` nor `Sync`.
-    _thread: PhantomData<*mut u8>,
 }
+
+// SAFETY: any thread may use a batch, by one call at a time. What it shares with its reader is
+// constant, and is counted by atomic steps.
+unsafe impl Send for Batch {}
 
 /// How the slots of a column are stored (Arrow Columnar Format, "Physical Memory Layout").
 #[derive(Clone, Copy, Debug, PartialEq, Eq)]
@@ -103,7 +104,7 @@ fn layout_of(layout: ffi::Layout) -> Layout {
 
 impl Batch {
     pub(crate) fn new(batch: NonNull<ffi::Batch>) -> Batch {
-        Batch { batch, _thread: PhantomData }
+        Batch { batch }
     }
 
     pub(crate) fn as_ptr(&self) -> *mut ffi::Batch {

@@ -121,6 +121,13 @@ extern "C" {
     pub(crate) fn arrow_writer_begin_struct(writer: *mut Writer) -> u32;
     pub(crate) fn arrow_writer_end(writer: *mut Writer) -> u32;
     pub(crate) fn arrow_writer_row(writer: *mut Writer) -> u32;
+    pub(crate) fn arrow_writer_pair(
+        writer: *mut Writer,
+        key: *const u8,
+        key_length: usize,
+        value: *const u8,
+        value_length: usize,
+    ) -> u32;
     pub(crate) fn arrow_writer_send(writer: *mut Writer) -> u32;
     pub(crate) fn arrow_writer_columns(writer: *mut Writer, batch: *mut Batch) -> u32;
     pub(crate) fn arrow_writer_finish(writer: *mut Writer) -> u32;

@@ -62,7 +62,7 @@ pub struct Reader<R> {
     schema: Option<String>,
     end: Option<End>,
     failed: bool,
-    // A reader shares counts with its batches that are not atomic: neither `Send` nor `Sync`.
+    // The library allows a reader's calls on one thread alone: neither `Send` nor `Sync`.
     _thread: PhantomData<*mut u8>,
 }
 

@@ -92,10 +92,22 @@ impl<W: Write> Writer<W> {
         Ok(())
     }
 
-    /// Sends the rows that wait as one batch. There may be none.
+    /// Adds a pair of key and value to the metadata of the batch that [`Writer::send`] sends next.
+    /// A key may occur more than once.
+    pub fn pair(&mut self, key: &str, value: &str) -> Result<(), Error> {
+        // SAFETY: the writer was not freed; `key` and `value` have these lengths.
+        self.call(|writer| unsafe {
+            let (key, value) = (key.as_bytes(), value.as_bytes());
+            ffi::arrow_writer_pair(writer, key.as_ptr(), key.len(), value.as_ptr(), value.len())
+        })?;
+        self.waiting = true;
+        Ok(())
+    }
+
+    /// Sends the rows and pairs that wait as one batch. There may be none.
     ///
-    /// Errors: W6 to W8 if the batch does not fit its limits or a dictionary. Then the rows are
-    /// dropped.
+    /// Errors: W6 to W8 if the batch does not fit its limits or a dictionary. Then the rows and
+    /// pairs are dropped.
     pub fn send(&mut self) -> Result<(), Error> {
         self.waiting = false;
         // SAFETY: the writer was not freed.
@@ -103,8 +115,8 @@ impl<W: Write> Writer<W> {
         self.flush()
     }
 
-    /// Sends the columns and pairs of a batch that was read. Rows that wait are sent before it, as
-    /// a batch of their own.
+    /// Sends the columns and pairs of a batch that was read. Rows and pairs that wait are sent
+    /// before it, as a batch of their own.
     ///
     /// Errors: W2 to W8 if the batch does not fit the schema or the limits. Then nothing of it is
     /// written, and the writer goes on.
@@ -117,8 +129,8 @@ impl<W: Write> Writer<W> {
         self.flush()
     }
 
-    /// Sends the rows that wait, if there are any, and the end-of-stream mark. Flushes the sink, and
-    /// returns it.
+    /// Sends the rows and pairs that wait, if there are any, and the end-of-stream mark. Flushes the
+    /// sink, and returns it.
     pub fn finish(mut self) -> Result<W, Error> {
         if self.waiting {
             self.send()?;

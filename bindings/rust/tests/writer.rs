@@ -1,6 +1,6 @@
 //! Refusals of the writer, and sinks that fail.
 
-use arrowstream::{Cell, Error, Limits, Writer};
+use arrowstream::{Cell, Error, Limits, Reader, Writer};
 use std::io::{self, Write};
 
 const INT8: &str = r#"["int",8]"#;
@@ -106,6 +106,34 @@ fn batches_that_do_not_fit() {
     assert_eq!(refusal(writer.send()), line(108, "W8 TooManyRows"));
     writer.row(&[Cell::Null]).expect("a row");
     writer.finish().expect("a stream");
+}
+
+// The pairs of each batch of a stream.
+fn pairs(stream: &[u8]) -> Vec<String> {
+    let reader = Reader::open(stream, &Limits::standard()).expect("a reader");
+    reader.map(|batch| batch.expect("a batch").pairs().expect("pairs")).collect()
+}
+
+#[test]
+fn pairs_of_batches() {
+    let number = [field(INT8, true, 0, "null")];
+    let standard = Limits::standard();
+
+    let mut writer = open(&number, &standard);
+    writer.pair("key", "value").expect("a pair");
+    writer.row(&[Cell::Int(1)]).expect("a row");
+    writer.pair("", "key").expect("a pair");
+    writer.send().expect("a batch");
+    writer.send().expect("a batch without rows");
+    writer.pair("key", "last").expect("a pair");
+    let stream = writer.finish().expect("a stream");
+    assert_eq!(pairs(&stream), [r#"[["key","value"],["","key"]]"#, "[]", r#"[["key","last"]]"#]);
+
+    let mut writer = open(&number, &Limits { pairs: 1, ..standard });
+    writer.pair("key", "value").expect("a pair");
+    writer.pair("key", "value").expect("a pair");
+    assert_eq!(refusal(writer.send()), line(106, "W6 TooLong"));
+    assert!(pairs(&writer.finish().expect("a stream")).is_empty());
 }
 
 #[test]

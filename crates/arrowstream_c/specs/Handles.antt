@@ -1,5 +1,5 @@
 -- What the pointers that C holds own.
-use Rattle.std.specs.Prelude.{Option, Some, None}
+use Rattle.std.specs.Prelude.{◌≡◌, ℕ, Option, Some, None}
 use Rattle.std.specs.Ptr.{Ptr}
 use Rattle.std.specs.Box.Ownership.{box_owns}
 use Rattle.std.specs.declared.alloc.Global.{Global}
@@ -15,47 +15,39 @@ use denote.RawPtr.{null_ptr}
 abbrev pub is_held_at : (R : RattleType) → Ptr → R.Denot → Fml
 is_held_at R p x = fex Global (λ g. box_owns (ghosts.dealloc_token g) R p x)
 
--- a value of type R in a block of its own, and the right to free the block
-abbrev pub is_held : (R : RattleType) → Ptr → Fml
-is_held R p = fex R.Denot (λ x. is_held_at R p x)
-
 -- this value in a block of its own, or the pointer is null and there is no value
 abbrev pub held_or_null : (R : RattleType) → Ptr → Option R.Denot → Fml
 held_or_null R p None = feq Ptr p null_ptr
 held_or_null R p (Some x) = is_held_at R p x
 
--- this reader
-abbrev pub reader_at : Ptr → session.the_row.Denot → Fml
-reader_at p x = is_held_at session.the_row p x
-
--- a reader
-abbrev pub is_reader : Ptr → Fml
-is_reader p = is_held session.the_row p
-
 -- this reader, or null
 abbrev pub reader_or_null : Ptr → Option session.the_row.Denot → Fml
 reader_or_null p x = held_or_null session.the_row p x
-
--- this batch
-abbrev pub batch_at : Ptr → batch.the_row.Denot → Fml
-batch_at p x = is_held_at batch.the_row p x
-
--- a batch
-abbrev pub is_batch : Ptr → Fml
-is_batch p = is_held batch.the_row p
 
 -- this batch, or null
 abbrev pub batch_or_null : Ptr → Option batch.the_row.Denot → Fml
 batch_or_null p x = held_or_null batch.the_row p x
 
--- this writer
-abbrev pub writer_at : Ptr → writing.the_row.Denot → Fml
-writer_at p x = is_held_at writing.the_row p x
-
--- a writer
-abbrev pub is_writer : Ptr → Fml
-is_writer p = is_held writing.the_row p
-
 -- this writer, or null
 abbrev pub writer_or_null : Ptr → Option writing.the_row.Denot → Fml
 writer_or_null p x = held_or_null writing.the_row p x
+
+-- the status of a call that the state does not allow, and of one at null
+abbrev pub misuse : ℕ
+misuse = 65
+
+-- what a call does with the value at a handle, or what it answers at null
+abbrev pub OfHandle : {T : Type 0} → (T → T → Type 0) → Type 0 → Option T → Option T → Type 0
+OfHandle Call AtNull None None = AtNull
+OfHandle Call AtNull None (Some is) = ⊥
+OfHandle Call AtNull (Some was) None = ⊥
+OfHandle Call AtNull (Some was) (Some is) = Call was is
+
+-- what a call does with the values at two handles, or what it answers if one of them is null
+abbrev pub OfHandles : {T U : Type 0} → (T → U → T → U → Type 0) → Type 0 → Option T → Option U
+    → Option T → Option U → Type 0
+OfHandles Call AtNull None other is left = AtNull × (is ≡ None) × (left ≡ other)
+OfHandles Call AtNull (Some was) None is left = AtNull × (is ≡ Some was) × (left ≡ None)
+OfHandles Call AtNull (Some was) (Some other) (Some is) (Some left) = Call was other is left
+OfHandles Call AtNull (Some was) (Some other) (Some is) None = ⊥
+OfHandles Call AtNull (Some was) (Some other) None left = ⊥

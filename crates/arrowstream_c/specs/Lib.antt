@@ -1,3 +1,4 @@
+pub mod AtNull
 pub mod Calls
 pub mod Handles
 pub mod Numbers

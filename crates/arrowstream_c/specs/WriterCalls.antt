@@ -61,6 +61,10 @@ EndsCell was is status = s.Reports s.EndsCell was is status
 abbrev pub EndsRow : WriteSession → WriteSession → ℕ → Type 0
 EndsRow was is status = s.Reports s.EndsRow was is status
 
+-- a pair is added to those that are sent with the pending rows
+abbrev pub AddsPair : WriteSession → List ℕ → List ℕ → WriteSession → ℕ → Type 0
+AddsPair was key value is status = s.Reports (s.AddsPair key value) was is status
+
 -- the pending rows are sent
 abbrev pub SendsRows : WriteSession → WriteSession → ℕ → Type 0
 SendsRows was is status = s.Reports s.SendsRows was is status

@@ -11,6 +11,9 @@ use ipc_stream_session::{Arrival, ColumnFacts};
 /// The status of a call that finds nothing: no refusal of the reader has this number.
 pub(crate) const ABSENT: u32 = 64;
 
+/// The status of a call that the state of a writer does not allow, and of one at null.
+pub(crate) const MISUSE: u32 = 65;
+
 /// Limits on what a reader accepts, in the units of `ipc_model::Limits`.
 #[repr(C)]
 #[derive(Drop)]

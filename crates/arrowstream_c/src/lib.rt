@@ -2,25 +2,26 @@
 //! behind opaque pointers. `include/arrowstream.h` is the header.
 //!
 //! Every export that takes a pointer requires what the pointer owns, and returns it at the value
-//! that its clause names. C calls one at a time for a writer, and for a reader with all batches
-//! taken from it.
+//! that its clause names. A null pointer owns nothing, and is answered by `MISUSE` or 0. C makes
+//! one call at a time on each reader, batch and writer, and a batch may change its thread.
 #![tactic(auto)]
 
-ghost use Rattle.std.specs.Prelude.{◌≡◌, Option, length};
+ghost use Rattle.std.specs.Prelude.{◌≡◌, None, Option, length};
 ghost use Rattle.std.specs.Borrow.{sem};
 ghost use Rattle.ipc_stream_session.specs.declared.batch.ReadBatch.{ReadBatch};
 ghost use Rattle.ipc_stream_session.specs.declared.session.ReadSession.{ReadSession};
 ghost use Rattle.ipc_stream_session.specs.declared.write_session.WriteSession.{WriteSession};
+ghost use Rattle.arrowstream_c.specs.AtNull.{IsNowhere, RefusesColumn, RefusesText, TakesNothing};
 ghost use Rattle.arrowstream_c.specs.Calls.{AreRows, AreColumns, Closes, CopiesBuffer, CopiesLine};
 ghost use Rattle.arrowstream_c.specs.Calls.{CopiesPairs, CopiesSchema, DescribesColumn, Feeds};
 ghost use Rattle.arrowstream_c.specs.Calls.{OpensReader, TakesBatch};
-ghost use Rattle.arrowstream_c.specs.Handles.{batch_at, batch_or_null, is_batch, is_reader};
-ghost use Rattle.arrowstream_c.specs.Handles.{reader_at, reader_or_null, is_writer, writer_at};
-ghost use Rattle.arrowstream_c.specs.Handles.{writer_or_null};
+ghost use Rattle.arrowstream_c.specs.Handles.{OfHandle, OfHandles, batch_or_null, misuse};
+ghost use Rattle.arrowstream_c.specs.Handles.{reader_or_null, writer_or_null};
 ghost use Rattle.arrowstream_c.specs.Numbers.{AreStandard};
 ghost use Rattle.arrowstream_c.specs.WriterCalls as w;
 
 mod answers;
+mod at_null;
 mod batch;
 mod batch_calls;
 mod block;
@@ -29,12 +30,13 @@ mod reader_calls;
 mod writer;
 mod writer_calls;
 
-use answers::{Column, Progress, ReadLimits};
+use answers::{Column, MISUSE, Progress, ReadLimits};
 use batch::BatchHandle;
 use block::Block;
 use ipc_stream_session::{ReadBatch, ReadSession, WriteSession};
 use reader::ReaderHandle;
 use std::alloc::Global;
+use std::ptr::null_mut;
 use writer::WriterHandle;
 
 /// Returns the version of the interface: the major number times 65,536, and the minor number.
@@ -67,8 +69,12 @@ pub extern "C" fn arrow_reader_open(alloc: Global, limits: &ReadLimits, out: &mu
 /// Frees a reader. Batches that were taken from it remain.
 #[unsafe(no_mangle)]
 pub unsafe extern "C" fn arrow_reader_free(alloc: Global, reader: *mut u8)
-    requires* { sem 𝓛 (is_reader reader) }
+    ghost was: { Option ReadSession }
+    requires* { sem 𝓛 (reader_or_null reader was) }
 {
+    if reader.is_null() {
+        return;
+    }
     reader_calls::free_reader(Block {
         ptr: reader as *mut ReadSession,
         alloc,
@@ -79,22 +85,30 @@ pub unsafe extern "C" fn arrow_reader_free(alloc: Global, reader: *mut u8)
 /// Returns 0, or the number of the refusal.
 #[unsafe(no_mangle)]
 pub unsafe extern "C" fn arrow_reader_feed(reader: *mut u8, bytes: &[u8], out: &mut Progress) -> u32
-    ghost was: { ReadSession }
-    requires* { sem 𝓛 (reader_at reader was) }
-    ensures* { ∃ₛ (λ (is : ReadSession). sem 𝓛 (reader_at reader is)
-        ∗ ⌜ Feeds was bytes.now is out.new result ⌝) }
+    ghost was: { Option ReadSession }
+    requires* { sem 𝓛 (reader_or_null reader was) }
+    ensures* { ∃ₛ (λ (is : Option ReadSession). sem 𝓛 (reader_or_null reader is)
+        ∗ ⌜ OfHandle (λ was is. Feeds was bytes.now is out.new result)
+        (IsNowhere out.new result) was is ⌝) }
 {
+    if reader.is_null() {
+        return at_null::no_progress(out);
+    }
     reader_calls::feed(&mut *(reader as *mut ReadSession), bytes, out)
 }
 
 /// Ends the input. Returns 0, or the number of the refusal.
 #[unsafe(no_mangle)]
 pub unsafe extern "C" fn arrow_reader_close(reader: *mut u8, out: &mut Progress) -> u32
-    ghost was: { ReadSession }
-    requires* { sem 𝓛 (reader_at reader was) }
-    ensures* { ∃ₛ (λ (is : ReadSession). sem 𝓛 (reader_at reader is)
-        ∗ ⌜ Closes was is out.new result ⌝) }
+    ghost was: { Option ReadSession }
+    requires* { sem 𝓛 (reader_or_null reader was) }
+    ensures* { ∃ₛ (λ (is : Option ReadSession). sem 𝓛 (reader_or_null reader is)
+        ∗ ⌜ OfHandle (λ was is. Closes was is out.new result)
+        (IsNowhere out.new result) was is ⌝) }
 {
+    if reader.is_null() {
+        return at_null::no_progress(out);
+    }
     reader_calls::close(&mut *(reader as *mut ReadSession), out)
 }
 
@@ -106,11 +120,15 @@ pub unsafe extern "C" fn arrow_reader_schema(
     text: &mut [u8],
     wanted: &mut usize,
 ) -> u32
-    ghost was: { ReadSession }
-    requires* { sem 𝓛 (reader_at reader was) }
-    ensures* { ∃ₛ (λ (is : ReadSession). sem 𝓛 (reader_at reader is)
-        ∗ ⌜ CopiesSchema was is text.old text.new wanted.new result ⌝) }
+    ghost was: { Option ReadSession }
+    requires* { sem 𝓛 (reader_or_null reader was) }
+    ensures* { ∃ₛ (λ (is : Option ReadSession). sem 𝓛 (reader_or_null reader is)
+        ∗ ⌜ OfHandle (λ was is. CopiesSchema was is text.old text.new wanted.new result)
+        (RefusesText text.old text.new wanted.new result) was is ⌝) }
 {
+    if reader.is_null() {
+        return at_null::no_text(text, wanted);
+    }
     reader_calls::schema(&mut *(reader as *mut ReadSession), text, wanted)
 }
 
@@ -122,11 +140,15 @@ pub unsafe extern "C" fn arrow_reader_line(
     text: &mut [u8],
     wanted: &mut usize,
 ) -> u32
-    ghost was: { ReadSession }
-    requires* { sem 𝓛 (reader_at reader was) }
-    ensures* { ∃ₛ (λ (is : ReadSession). sem 𝓛 (reader_at reader is)
-        ∗ ⌜ CopiesLine was is text.old text.new wanted.new result ⌝) }
+    ghost was: { Option ReadSession }
+    requires* { sem 𝓛 (reader_or_null reader was) }
+    ensures* { ∃ₛ (λ (is : Option ReadSession). sem 𝓛 (reader_or_null reader is)
+        ∗ ⌜ OfHandle (λ was is. CopiesLine was is text.old text.new wanted.new result)
+        (RefusesText text.old text.new wanted.new result) was is ⌝) }
 {
+    if reader.is_null() {
+        return at_null::no_text(text, wanted);
+    }
     reader_calls::line(&mut *(reader as *mut ReadSession), text, wanted)
 }
 
@@ -134,12 +156,16 @@ pub unsafe extern "C" fn arrow_reader_line(
 /// batch to take, and if memory ran out: then the batch is dropped.
 #[unsafe(no_mangle)]
 pub unsafe extern "C" fn arrow_reader_take(alloc: Global, reader: *mut u8, out: &mut *mut u8)
-    ghost was: { ReadSession }
-    requires* { sem 𝓛 (reader_at reader was) }
-    ensures* { ∃ₛ (λ (is : ReadSession). ∃ₛ (λ (found : Option ReadBatch).
-        sem 𝓛 (reader_at reader is) ∗ (sem 𝓛 (batch_or_null out.new found)
-        ∗ ⌜ TakesBatch was is found ⌝))) }
+    ghost was: { Option ReadSession }
+    requires* { sem 𝓛 (reader_or_null reader was) }
+    ensures* { ∃ₛ (λ (is : Option ReadSession). ∃ₛ (λ (found : Option ReadBatch).
+        sem 𝓛 (reader_or_null reader is) ∗ (sem 𝓛 (batch_or_null out.new found)
+        ∗ ⌜ OfHandle (λ was is. TakesBatch was is found) (found ≡ None) was is ⌝))) }
 {
+    if reader.is_null() {
+        *out = null_mut();
+        return;
+    }
     let BatchHandle { at } = reader_calls::take(alloc, &mut *(reader as *mut ReadSession));
     *out = at;
 }
@@ -147,8 +173,12 @@ pub unsafe extern "C" fn arrow_reader_take(alloc: Global, reader: *mut u8, out: 
 /// Frees a batch.
 #[unsafe(no_mangle)]
 pub unsafe extern "C" fn arrow_batch_free(alloc: Global, batch: *mut u8)
-    requires* { sem 𝓛 (is_batch batch) }
+    ghost was: { Option ReadBatch }
+    requires* { sem 𝓛 (batch_or_null batch was) }
 {
+    if batch.is_null() {
+        return;
+    }
     batch_calls::free_batch(Block {
         ptr: batch as *mut ReadBatch,
         alloc,
@@ -158,20 +188,28 @@ pub unsafe extern "C" fn arrow_batch_free(alloc: Global, batch: *mut u8)
 /// Returns the number of rows.
 #[unsafe(no_mangle)]
 pub unsafe extern "C" fn arrow_batch_rows(batch: *mut u8) -> usize
-    ghost was: { ReadBatch }
-    requires* { sem 𝓛 (batch_at batch was) }
-    ensures* { ∃ₛ (λ (is : ReadBatch). sem 𝓛 (batch_at batch is) ∗ ⌜ AreRows was is result ⌝) }
+    ghost was: { Option ReadBatch }
+    requires* { sem 𝓛 (batch_or_null batch was) }
+    ensures* { ∃ₛ (λ (is : Option ReadBatch). sem 𝓛 (batch_or_null batch is)
+        ∗ ⌜ OfHandle (λ was is. AreRows was is result) (result ≡ 0) was is ⌝) }
 {
+    if batch.is_null() {
+        return 0;
+    }
     batch_calls::rows(&mut *(batch as *mut ReadBatch))
 }
 
 /// Returns the number of columns.
 #[unsafe(no_mangle)]
 pub unsafe extern "C" fn arrow_batch_columns(batch: *mut u8) -> usize
-    ghost was: { ReadBatch }
-    requires* { sem 𝓛 (batch_at batch was) }
-    ensures* { ∃ₛ (λ (is : ReadBatch). sem 𝓛 (batch_at batch is) ∗ ⌜ AreColumns was is result ⌝) }
+    ghost was: { Option ReadBatch }
+    requires* { sem 𝓛 (batch_or_null batch was) }
+    ensures* { ∃ₛ (λ (is : Option ReadBatch). sem 𝓛 (batch_or_null batch is)
+        ∗ ⌜ OfHandle (λ was is. AreColumns was is result) (result ≡ 0) was is ⌝) }
 {
+    if batch.is_null() {
+        return 0;
+    }
     batch_calls::columns(&mut *(batch as *mut ReadBatch))
 }
 
@@ -182,22 +220,30 @@ pub unsafe extern "C" fn arrow_batch_pairs(
     text: &mut [u8],
     wanted: &mut usize,
 ) -> u32
-    ghost was: { ReadBatch }
-    requires* { sem 𝓛 (batch_at batch was) }
-    ensures* { ∃ₛ (λ (is : ReadBatch). sem 𝓛 (batch_at batch is)
-        ∗ ⌜ CopiesPairs was is text.old text.new wanted.new result ⌝) }
+    ghost was: { Option ReadBatch }
+    requires* { sem 𝓛 (batch_or_null batch was) }
+    ensures* { ∃ₛ (λ (is : Option ReadBatch). sem 𝓛 (batch_or_null batch is)
+        ∗ ⌜ OfHandle (λ was is. CopiesPairs was is text.old text.new wanted.new result)
+        (RefusesText text.old text.new wanted.new result) was is ⌝) }
 {
+    if batch.is_null() {
+        return at_null::no_text(text, wanted);
+    }
     batch_calls::pairs(&mut *(batch as *mut ReadBatch), text, wanted)
 }
 
 /// Describes the column to which a path leads. Returns 0, or `ABSENT` if it leads to no column.
 #[unsafe(no_mangle)]
 pub unsafe extern "C" fn arrow_batch_column(batch: *mut u8, path: &[u64], out: &mut Column) -> u32
-    ghost was: { ReadBatch }
-    requires* { sem 𝓛 (batch_at batch was) }
-    ensures* { ∃ₛ (λ (is : ReadBatch). sem 𝓛 (batch_at batch is)
-        ∗ ⌜ DescribesColumn was path.now is out.old out.new result ⌝) }
+    ghost was: { Option ReadBatch }
+    requires* { sem 𝓛 (batch_or_null batch was) }
+    ensures* { ∃ₛ (λ (is : Option ReadBatch). sem 𝓛 (batch_or_null batch is)
+        ∗ ⌜ OfHandle (λ was is. DescribesColumn was path.now is out.old out.new result)
+        (RefusesColumn out.old out.new result) was is ⌝) }
 {
+    if batch.is_null() {
+        return at_null::no_column(out);
+    }
     batch_calls::column(&mut *(batch as *mut ReadBatch), path, out)
 }
 
@@ -211,11 +257,16 @@ pub unsafe extern "C" fn arrow_batch_buffer(
     bytes: &mut [u8],
     wanted: &mut usize,
 ) -> u32
-    ghost was: { ReadBatch }
-    requires* { sem 𝓛 (batch_at batch was) }
-    ensures* { ∃ₛ (λ (is : ReadBatch). sem 𝓛 (batch_at batch is)
-        ∗ ⌜ CopiesBuffer was path.now buffer is bytes.old bytes.new wanted.new result ⌝) }
+    ghost was: { Option ReadBatch }
+    requires* { sem 𝓛 (batch_or_null batch was) }
+    ensures* { ∃ₛ (λ (is : Option ReadBatch). sem 𝓛 (batch_or_null batch is)
+        ∗ ⌜ OfHandle (λ was is. CopiesBuffer was path.now buffer is bytes.old bytes.new wanted.new
+        result)
+        (RefusesText bytes.old bytes.new wanted.new result) was is ⌝) }
 {
+    if batch.is_null() {
+        return at_null::no_text(bytes, wanted);
+    }
     batch_calls::buffer(&mut *(batch as *mut ReadBatch), path, buffer, bytes, wanted)
 }
 
@@ -233,8 +284,12 @@ pub extern "C" fn arrow_writer_open(alloc: Global, limits: &ReadLimits, out: &mu
 /// Frees a writer.
 #[unsafe(no_mangle)]
 pub unsafe extern "C" fn arrow_writer_free(alloc: Global, writer: *mut u8)
-    requires* { sem 𝓛 (is_writer writer) }
+    ghost was: { Option WriteSession }
+    requires* { sem 𝓛 (writer_or_null writer was) }
 {
+    if writer.is_null() {
+        return;
+    }
     writer_calls::free_writer(Block {
         ptr: writer as *mut WriteSession,
         alloc,
@@ -244,22 +299,28 @@ pub unsafe extern "C" fn arrow_writer_free(alloc: Global, writer: *mut u8)
 /// Begins the stream of the schema that a JSON text states. Returns 0, or the number of the error.
 #[unsafe(no_mangle)]
 pub unsafe extern "C" fn arrow_writer_schema(writer: *mut u8, text: &[u8]) -> u32
-    ghost was: { WriteSession }
-    requires* { sem 𝓛 (writer_at writer was) }
-    ensures* { ∃ₛ (λ (is : WriteSession). sem 𝓛 (writer_at writer is)
-        ∗ ⌜ w.BeginsStream was text.now is result ⌝) }
+    ghost was: { Option WriteSession }
+    requires* { sem 𝓛 (writer_or_null writer was) }
+    ensures* { ∃ₛ (λ (is : Option WriteSession). sem 𝓛 (writer_or_null writer is)
+        ∗ ⌜ OfHandle (λ was is. w.BeginsStream was text.now is result) (result ≡ misuse) was is ⌝) }
 {
+    if writer.is_null() {
+        return MISUSE;
+    }
     writer_calls::begin(&mut *(writer as *mut WriteSession), text)
 }
 
 /// Adds a null cell. Returns 0, or the number of the error.
 #[unsafe(no_mangle)]
 pub unsafe extern "C" fn arrow_writer_null(writer: *mut u8) -> u32
-    ghost was: { WriteSession }
-    requires* { sem 𝓛 (writer_at writer was) }
-    ensures* { ∃ₛ (λ (is : WriteSession). sem 𝓛 (writer_at writer is)
-        ∗ ⌜ w.AddsNull was is result ⌝) }
+    ghost was: { Option WriteSession }
+    requires* { sem 𝓛 (writer_or_null writer was) }
+    ensures* { ∃ₛ (λ (is : Option WriteSession). sem 𝓛 (writer_or_null writer is)
+        ∗ ⌜ OfHandle (λ was is. w.AddsNull was is result) (result ≡ misuse) was is ⌝) }
 {
+    if writer.is_null() {
+        return MISUSE;
+    }
     writer_calls::add_null(&mut *(writer as *mut WriteSession))
 }
 
@@ -267,11 +328,14 @@ pub unsafe extern "C" fn arrow_writer_null(writer: *mut u8) -> u32
 /// error.
 #[unsafe(no_mangle)]
 pub unsafe extern "C" fn arrow_writer_bool(writer: *mut u8, value: u32) -> u32
-    ghost was: { WriteSession }
-    requires* { sem 𝓛 (writer_at writer was) }
-    ensures* { ∃ₛ (λ (is : WriteSession). sem 𝓛 (writer_at writer is)
-        ∗ ⌜ w.AddsBool was value is result ⌝) }
+    ghost was: { Option WriteSession }
+    requires* { sem 𝓛 (writer_or_null writer was) }
+    ensures* { ∃ₛ (λ (is : Option WriteSession). sem 𝓛 (writer_or_null writer is)
+        ∗ ⌜ OfHandle (λ was is. w.AddsBool was value is result) (result ≡ misuse) was is ⌝) }
 {
+    if writer.is_null() {
+        return MISUSE;
+    }
     writer_calls::add_bool(&mut *(writer as *mut WriteSession), value)
 }
 
@@ -279,99 +343,143 @@ pub unsafe extern "C" fn arrow_writer_bool(writer: *mut u8, value: u32) -> u32
 /// the number of the error.
 #[unsafe(no_mangle)]
 pub unsafe extern "C" fn arrow_writer_int(writer: *mut u8, value: i64) -> u32
-    ghost was: { WriteSession }
-    requires* { sem 𝓛 (writer_at writer was) }
-    ensures* { ∃ₛ (λ (is : WriteSession). sem 𝓛 (writer_at writer is)
-        ∗ ⌜ w.AddsInt was value is result ⌝) }
+    ghost was: { Option WriteSession }
+    requires* { sem 𝓛 (writer_or_null writer was) }
+    ensures* { ∃ₛ (λ (is : Option WriteSession). sem 𝓛 (writer_or_null writer is)
+        ∗ ⌜ OfHandle (λ was is. w.AddsInt was value is result) (result ≡ misuse) was is ⌝) }
 {
+    if writer.is_null() {
+        return MISUSE;
+    }
     writer_calls::add_int(&mut *(writer as *mut WriteSession), value)
 }
 
 /// Adds a cell that is an unsigned integer. Returns 0, or the number of the error.
 #[unsafe(no_mangle)]
 pub unsafe extern "C" fn arrow_writer_uint(writer: *mut u8, value: u64) -> u32
-    ghost was: { WriteSession }
-    requires* { sem 𝓛 (writer_at writer was) }
-    ensures* { ∃ₛ (λ (is : WriteSession). sem 𝓛 (writer_at writer is)
-        ∗ ⌜ w.AddsUInt was value is result ⌝) }
+    ghost was: { Option WriteSession }
+    requires* { sem 𝓛 (writer_or_null writer was) }
+    ensures* { ∃ₛ (λ (is : Option WriteSession). sem 𝓛 (writer_or_null writer is)
+        ∗ ⌜ OfHandle (λ was is. w.AddsUInt was value is result) (result ≡ misuse) was is ⌝) }
 {
+    if writer.is_null() {
+        return MISUSE;
+    }
     writer_calls::add_uint(&mut *(writer as *mut WriteSession), value)
 }
 
 /// Adds a cell of bytes. Returns 0, or the number of the error.
 #[unsafe(no_mangle)]
 pub unsafe extern "C" fn arrow_writer_bytes(writer: *mut u8, bytes: &[u8]) -> u32
-    ghost was: { WriteSession }
-    requires* { sem 𝓛 (writer_at writer was) }
-    ensures* { ∃ₛ (λ (is : WriteSession). sem 𝓛 (writer_at writer is)
-        ∗ ⌜ w.AddsBytes was bytes.now is result ⌝) }
+    ghost was: { Option WriteSession }
+    requires* { sem 𝓛 (writer_or_null writer was) }
+    ensures* { ∃ₛ (λ (is : Option WriteSession). sem 𝓛 (writer_or_null writer is)
+        ∗ ⌜ OfHandle (λ was is. w.AddsBytes was bytes.now is result) (result ≡ misuse) was is ⌝) }
 {
+    if writer.is_null() {
+        return MISUSE;
+    }
     writer_calls::add_bytes(&mut *(writer as *mut WriteSession), bytes)
 }
 
 /// Adds a cell of UTF-8 text. Returns 0, or the number of the error.
 #[unsafe(no_mangle)]
 pub unsafe extern "C" fn arrow_writer_text(writer: *mut u8, text: &[u8]) -> u32
-    ghost was: { WriteSession }
-    requires* { sem 𝓛 (writer_at writer was) }
-    ensures* { ∃ₛ (λ (is : WriteSession). sem 𝓛 (writer_at writer is)
-        ∗ ⌜ w.AddsText was text.now is result ⌝) }
+    ghost was: { Option WriteSession }
+    requires* { sem 𝓛 (writer_or_null writer was) }
+    ensures* { ∃ₛ (λ (is : Option WriteSession). sem 𝓛 (writer_or_null writer is)
+        ∗ ⌜ OfHandle (λ was is. w.AddsText was text.now is result) (result ≡ misuse) was is ⌝) }
 {
+    if writer.is_null() {
+        return MISUSE;
+    }
     writer_calls::add_text(&mut *(writer as *mut WriteSession), text)
 }
 
 /// Begins a list. Returns 0, or the number of the error.
 #[unsafe(no_mangle)]
 pub unsafe extern "C" fn arrow_writer_begin_list(writer: *mut u8) -> u32
-    ghost was: { WriteSession }
-    requires* { sem 𝓛 (writer_at writer was) }
-    ensures* { ∃ₛ (λ (is : WriteSession). sem 𝓛 (writer_at writer is)
-        ∗ ⌜ w.BeginsList was is result ⌝) }
+    ghost was: { Option WriteSession }
+    requires* { sem 𝓛 (writer_or_null writer was) }
+    ensures* { ∃ₛ (λ (is : Option WriteSession). sem 𝓛 (writer_or_null writer is)
+        ∗ ⌜ OfHandle (λ was is. w.BeginsList was is result) (result ≡ misuse) was is ⌝) }
 {
+    if writer.is_null() {
+        return MISUSE;
+    }
     writer_calls::begin_list(&mut *(writer as *mut WriteSession))
 }
 
 /// Begins a struct. Returns 0, or the number of the error.
 #[unsafe(no_mangle)]
 pub unsafe extern "C" fn arrow_writer_begin_struct(writer: *mut u8) -> u32
-    ghost was: { WriteSession }
-    requires* { sem 𝓛 (writer_at writer was) }
-    ensures* { ∃ₛ (λ (is : WriteSession). sem 𝓛 (writer_at writer is)
-        ∗ ⌜ w.BeginsStruct was is result ⌝) }
+    ghost was: { Option WriteSession }
+    requires* { sem 𝓛 (writer_or_null writer was) }
+    ensures* { ∃ₛ (λ (is : Option WriteSession). sem 𝓛 (writer_or_null writer is)
+        ∗ ⌜ OfHandle (λ was is. w.BeginsStruct was is result) (result ≡ misuse) was is ⌝) }
 {
+    if writer.is_null() {
+        return MISUSE;
+    }
     writer_calls::begin_struct(&mut *(writer as *mut WriteSession))
 }
 
 /// Ends the list or struct that was begun last. Returns 0, or the number of the error.
 #[unsafe(no_mangle)]
 pub unsafe extern "C" fn arrow_writer_end(writer: *mut u8) -> u32
-    ghost was: { WriteSession }
-    requires* { sem 𝓛 (writer_at writer was) }
-    ensures* { ∃ₛ (λ (is : WriteSession). sem 𝓛 (writer_at writer is)
-        ∗ ⌜ w.EndsCell was is result ⌝) }
+    ghost was: { Option WriteSession }
+    requires* { sem 𝓛 (writer_or_null writer was) }
+    ensures* { ∃ₛ (λ (is : Option WriteSession). sem 𝓛 (writer_or_null writer is)
+        ∗ ⌜ OfHandle (λ was is. w.EndsCell was is result) (result ≡ misuse) was is ⌝) }
 {
+    if writer.is_null() {
+        return MISUSE;
+    }
     writer_calls::end_cell(&mut *(writer as *mut WriteSession))
 }
 
 /// Ends the row. Returns 0, or the number of the error.
 #[unsafe(no_mangle)]
 pub unsafe extern "C" fn arrow_writer_row(writer: *mut u8) -> u32
-    ghost was: { WriteSession }
-    requires* { sem 𝓛 (writer_at writer was) }
-    ensures* { ∃ₛ (λ (is : WriteSession). sem 𝓛 (writer_at writer is)
-        ∗ ⌜ w.EndsRow was is result ⌝) }
+    ghost was: { Option WriteSession }
+    requires* { sem 𝓛 (writer_or_null writer was) }
+    ensures* { ∃ₛ (λ (is : Option WriteSession). sem 𝓛 (writer_or_null writer is)
+        ∗ ⌜ OfHandle (λ was is. w.EndsRow was is result) (result ≡ misuse) was is ⌝) }
 {
+    if writer.is_null() {
+        return MISUSE;
+    }
     writer_calls::end_row(&mut *(writer as *mut WriteSession))
 }
 
-/// Sends the pending rows as one batch. Returns 0, or the number of the error.
+/// Adds a pair of key and value to those that are sent with the pending rows. Returns 0, or the
+/// number of the error.
+#[unsafe(no_mangle)]
+pub unsafe extern "C" fn arrow_writer_pair(writer: *mut u8, key: &[u8], value: &[u8]) -> u32
+    ghost was: { Option WriteSession }
+    requires* { sem 𝓛 (writer_or_null writer was) }
+    ensures* { ∃ₛ (λ (is : Option WriteSession). sem 𝓛 (writer_or_null writer is)
+        ∗ ⌜ OfHandle (λ was is. w.AddsPair was key.now value.now is result)
+        (result ≡ misuse) was is ⌝) }
+{
+    if writer.is_null() {
+        return MISUSE;
+    }
+    writer_calls::add_pair(&mut *(writer as *mut WriteSession), key, value)
+}
+
+/// Sends the pending rows as one batch with the pending pairs. Returns 0, or the number of the
+/// error.
 #[unsafe(no_mangle)]
 pub unsafe extern "C" fn arrow_writer_send(writer: *mut u8) -> u32
-    ghost was: { WriteSession }
-    requires* { sem 𝓛 (writer_at writer was) }
-    ensures* { ∃ₛ (λ (is : WriteSession). sem 𝓛 (writer_at writer is)
-        ∗ ⌜ w.SendsRows was is result ⌝) }
+    ghost was: { Option WriteSession }
+    requires* { sem 𝓛 (writer_or_null writer was) }
+    ensures* { ∃ₛ (λ (is : Option WriteSession). sem 𝓛 (writer_or_null writer is)
+        ∗ ⌜ OfHandle (λ was is. w.SendsRows was is result) (result ≡ misuse) was is ⌝) }
 {
+    if writer.is_null() {
+        return MISUSE;
+    }
     writer_calls::send(&mut *(writer as *mut WriteSession))
 }
 
@@ -379,12 +487,19 @@ pub unsafe extern "C" fn arrow_writer_send(writer: *mut u8) -> u32
 /// the error.
 #[unsafe(no_mangle)]
 pub unsafe extern "C" fn arrow_writer_columns(writer: *mut u8, batch: *mut u8) -> u32
-    ghost was: { WriteSession × ReadBatch }
-    requires* { sem 𝓛 (writer_at writer was.0) ∗ sem 𝓛 (batch_at batch was.1) }
-    ensures* { ∃ₛ (λ (is : WriteSession). ∃ₛ (λ (left : ReadBatch).
-        sem 𝓛 (writer_at writer is) ∗ (sem 𝓛 (batch_at batch left)
-        ∗ ⌜ w.SendsColumns was.0 was.1 is left result ⌝))) }
+    ghost was: { Option WriteSession × Option ReadBatch }
+    requires* { sem 𝓛 (writer_or_null writer was.0) ∗ sem 𝓛 (batch_or_null batch was.1) }
+    ensures* { ∃ₛ (λ (is : Option WriteSession). ∃ₛ (λ (left : Option ReadBatch).
+        sem 𝓛 (writer_or_null writer is) ∗ (sem 𝓛 (batch_or_null batch left)
+        ∗ ⌜ OfHandles (λ was batch is left. w.SendsColumns was batch is left result)
+        (result ≡ misuse) was.0 was.1 is left ⌝))) }
 {
+    if writer.is_null() {
+        return MISUSE;
+    }
+    if batch.is_null() {
+        return MISUSE;
+    }
     writer_calls::send_columns(
         &mut *(writer as *mut WriteSession),
         &mut *(batch as *mut ReadBatch),
@@ -394,33 +509,43 @@ pub unsafe extern "C" fn arrow_writer_columns(writer: *mut u8, batch: *mut u8) -
 /// Sends the end-of-stream mark. Returns 0, or the number of the error.
 #[unsafe(no_mangle)]
 pub unsafe extern "C" fn arrow_writer_finish(writer: *mut u8) -> u32
-    ghost was: { WriteSession }
-    requires* { sem 𝓛 (writer_at writer was) }
-    ensures* { ∃ₛ (λ (is : WriteSession). sem 𝓛 (writer_at writer is)
-        ∗ ⌜ w.Finishes was is result ⌝) }
+    ghost was: { Option WriteSession }
+    requires* { sem 𝓛 (writer_or_null writer was) }
+    ensures* { ∃ₛ (λ (is : Option WriteSession). sem 𝓛 (writer_or_null writer is)
+        ∗ ⌜ OfHandle (λ was is. w.Finishes was is result) (result ≡ misuse) was is ⌝) }
 {
+    if writer.is_null() {
+        return MISUSE;
+    }
     writer_calls::finish(&mut *(writer as *mut WriteSession))
 }
 
 /// Returns the number of bytes that are ready.
 #[unsafe(no_mangle)]
 pub unsafe extern "C" fn arrow_writer_ready(writer: *mut u8) -> usize
-    ghost was: { WriteSession }
-    requires* { sem 𝓛 (writer_at writer was) }
-    ensures* { ∃ₛ (λ (is : WriteSession). sem 𝓛 (writer_at writer is)
-        ∗ ⌜ w.AreReady was is result ⌝) }
+    ghost was: { Option WriteSession }
+    requires* { sem 𝓛 (writer_or_null writer was) }
+    ensures* { ∃ₛ (λ (is : Option WriteSession). sem 𝓛 (writer_or_null writer is)
+        ∗ ⌜ OfHandle (λ was is. w.AreReady was is result) (result ≡ 0) was is ⌝) }
 {
+    if writer.is_null() {
+        return 0;
+    }
     writer_calls::ready(&mut *(writer as *mut WriteSession))
 }
 
 /// Moves the first of the ready bytes to `bytes`. Returns their number.
 #[unsafe(no_mangle)]
 pub unsafe extern "C" fn arrow_writer_take(writer: *mut u8, bytes: &mut [u8]) -> usize
-    ghost was: { WriteSession }
-    requires* { sem 𝓛 (writer_at writer was) }
-    ensures* { ∃ₛ (λ (is : WriteSession). sem 𝓛 (writer_at writer is)
-        ∗ ⌜ w.TakesBytes was is bytes.old bytes.new result ⌝) }
+    ghost was: { Option WriteSession }
+    requires* { sem 𝓛 (writer_or_null writer was) }
+    ensures* { ∃ₛ (λ (is : Option WriteSession). sem 𝓛 (writer_or_null writer is)
+        ∗ ⌜ OfHandle (λ was is. w.TakesBytes was is bytes.old bytes.new result)
+        (TakesNothing bytes.old bytes.new result) was is ⌝) }
 {
+    if writer.is_null() {
+        return at_null::none_taken(bytes);
+    }
     writer_calls::take(&mut *(writer as *mut WriteSession), bytes)
 }
 
@@ -431,10 +556,14 @@ pub unsafe extern "C" fn arrow_writer_line(
     text: &mut [u8],
     wanted: &mut usize,
 ) -> u32
-    ghost was: { WriteSession }
-    requires* { sem 𝓛 (writer_at writer was) }
-    ensures* { ∃ₛ (λ (is : WriteSession). sem 𝓛 (writer_at writer is)
-        ∗ ⌜ w.CopiesLine was is text.old text.new wanted.new result ⌝) }
+    ghost was: { Option WriteSession }
+    requires* { sem 𝓛 (writer_or_null writer was) }
+    ensures* { ∃ₛ (λ (is : Option WriteSession). sem 𝓛 (writer_or_null writer is)
+        ∗ ⌜ OfHandle (λ was is. w.CopiesLine was is text.old text.new wanted.new result)
+        (RefusesText text.old text.new wanted.new result) was is ⌝) }
 {
+    if writer.is_null() {
+        return at_null::no_text(text, wanted);
+    }
     writer_calls::error_line(&mut *(writer as *mut WriteSession), text, wanted)
 }

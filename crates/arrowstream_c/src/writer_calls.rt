@@ -77,6 +77,12 @@ pub(crate) fn end_row(writer: &mut WriteSession) -> u32
     writer.end_row()
 }
 
+pub(crate) fn add_pair(writer: &mut WriteSession, key: &[u8], value: &[u8]) -> u32
+    ensures { w.AddsPair writer.old key.now value.now writer.new result }
+{
+    writer.add_pair(key, value)
+}
+
 pub(crate) fn send(writer: &mut WriteSession) -> u32
     ensures { w.SendsRows writer.old writer.new result }
 {

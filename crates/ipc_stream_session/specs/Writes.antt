@@ -2,6 +2,7 @@
 use Rattle.std.specs.Prelude.{◌≡◌, ◌≢◌, ◌⊎◌, ◌++◌, ◌≤◌, ◌<◌, ⊤, ℕ, List, [], ◌∷◌, length}
 use Rattle.std.specs.Prelude.{Option, Some, None, Result, Ok, Err, IsUtf8, string_bytes}
 use Rattle.std.specs.List.{AllByRecursion}
+use Rattle.std.specs.declared.alloc.AllocError.{AllocError}
 use Rattle.std.specs.declared.alloc.Global.{Global}
 use Rattle.std.specs.declared.string.String.{String}
 use Rattle.serde_json.specs.Read.{read}
@@ -44,6 +45,7 @@ pub record IsNew (limits : Limits) (s : WriteSession) : Type 0 where
   pub cells_are : s.cells ≡ []
   pub around_is : s.around ≡ []
   pub rows_are : s.rows ≡ []
+  pub pairs_are : s.pairs ≡ []
   pub error_is : s.error ≡ None
 
 -- ---- what each call needs
@@ -61,9 +63,10 @@ Ends old new = (ready : List ℕ) × HasWritten old.stage ready
 abbrev pub IsRefused : WriteError → WriteSession → WriteSession → Result ⊤ WriteError → Type 0
 IsRefused e old new r = (r ≡ Err e) × (new ≡ old)
 
--- memory ran out, and nothing more is written
+-- memory ran out, and nothing more is written: what can be taken is as it was
 abbrev pub RunsOut : WriteSession → WriteSession → WriteError → Type 0
-RunsOut old new e = (e ≡ error.Refused w.OutOfMemory) × HasEnded old.stage new.stage
+RunsOut old new e = (e ≡ error.Refused w.OutOfMemory) × (new.front ≡ old.front)
+    × HasEnded old.stage new.stage
 
 -- a call that needs an open table: before its schema it is a misuse, after the end it is W10
 abbrev pub OnStage : Stage → (TableState → Type 0) → WriteSession → WriteSession
@@ -194,30 +197,57 @@ EndsRow old new r = OnStage old.stage (λ t. TakesRow t old new r) old new r
 
 -- ---- batches
 
+-- two texts are a pair if both are UTF-8, unless memory ran out
+abbrev pub MakesPair : List ℕ → List ℕ → Result (Option (List ℕ × List ℕ)) AllocError → Type 0
+MakesPair key value (Ok (Some pair)) = IsUtf8 key × IsUtf8 value × (pair ≡ (key, value))
+MakesPair key value (Ok None) = (¬ IsUtf8 key) ⊎ (¬ IsUtf8 value)
+MakesPair key value (Err e) = IsUtf8 key × IsUtf8 value
+
+-- the pair is the last one of those that are sent with the rows
+abbrev pub AddsPairTo : List ℕ → List ℕ → WriteSession → WriteSession → Result ⊤ WriteError → Type 0
+AddsPairTo key value old new (Ok x) = new ≡ record old { pairs = old.pairs ++ (key, value) ∷ [] }
+AddsPairTo key value old new (Err e) = RunsOut old new e
+
+-- two texts are a pair if both are UTF-8
+pub record AddsUtf8Pair (key value : List ℕ) (old new : WriteSession) (r : Result ⊤ WriteError) :
+    Type 0 where
+  pub are_utf8 : IsUtf8 key → IsUtf8 value → AddsPairTo key value old new r
+  pub key_not_utf8 : ¬ IsUtf8 key → IsRefused error.NotUtf8 old new r
+  pub value_not_utf8 : ¬ IsUtf8 value → IsRefused error.NotUtf8 old new r
+
+-- the call that adds a pair of key and value
+abbrev pub AddsPair : List ℕ → List ℕ → WriteSession → WriteSession → Result ⊤ WriteError → Type 0
+AddsPair key value old new r =
+    OnStage old.stage (λ _. AddsUtf8Pair key value old new r) old new r
+
 -- the error of a call whose writer refuses it
 abbrev pub refused_as : Result ⊤ WriteFault → Result ⊤ WriteError
 refused_as (Ok x) = Ok x
 refused_as (Err fault) = Err (error.Refused fault)
 
--- the batch was sent, or refused for its cause, and these rows remain pending
-pub record Sends (b : BatchRows) (rows : List (List Value)) (t : TableState)
-    (old new : WriteSession) (r : Result ⊤ WriteError) : Type 0 where
+-- the batch was sent, or refused for its cause, and the rows and pairs of another remain pending
+pub record Sends (b left : BatchRows) (t : TableState) (old new : WriteSession)
+    (r : Result ⊤ WriteError) : Type 0 where
   pub sent : Result ⊤ WriteFault
   pub result_is : r ≡ refused_as sent
   pub after : Stage
   pub sends : SendsBatch t b after sent
-  pub new_is : new ≡ record old { stage = after; rows = rows }
+  pub new_is : new ≡ record old { stage = after; rows = left.rows; pairs = left.pairs }
 
--- the pending rows are sent as a batch without pairs, and none remains
+-- the rows and pairs that were not sent
+abbrev pub pending : WriteSession → BatchRows
+pending s = with_rows s.pairs s.rows
+
+-- the pending rows are sent as a batch with the pending pairs, and none remains
 abbrev pub SendsRows : WriteSession → WriteSession → Result ⊤ WriteError → Type 0
 SendsRows old new r = OnStage old.stage
-    (λ t. Sends (with_rows [] old.rows) [] t old new r) old new r
+    (λ t. Sends (pending old) (with_rows [] []) t old new r) old new r
 
 -- the columns are sent with their pairs, or memory for the pairs ran out
 abbrev pub SendsRead : ReadBatch → TableState → WriteSession → WriteSession → Result ⊤ WriteError
     → Type 0
-SendsRead b t old new r = Sends (with_rows b.pairs b.batch.rows) old.rows t old new r
-    ⊎ ((r ≡ Err (error.Refused w.OutOfMemory)) × HasEnded old.stage new.stage)
+SendsRead b t old new r = Sends (with_rows b.pairs b.batch.rows) (pending old) t old new r
+    ⊎ ((r ≡ Err (error.Refused w.OutOfMemory)) × Ends old new)
 
 -- the call that sends a batch that was read
 abbrev pub SendsColumns : ReadBatch → WriteSession → WriteSession → Result ⊤ WriteError → Type 0
@@ -225,23 +255,23 @@ SendsColumns b old new r = OnStage old.stage (λ t. SendsRead b t old new r) old
 
 -- ---- the end
 
--- no row and no cell is pending
-abbrev pub HasNoRows : WriteSession → Type 0
-HasNoRows s = (s.rows ≡ []) × (s.cells ≡ []) × (s.around ≡ [])
+-- no row, no pair and no cell is pending
+abbrev pub HasNonePending : WriteSession → Type 0
+HasNonePending s = (s.rows ≡ []) × (s.pairs ≡ []) × (s.cells ≡ []) × (s.around ≡ [])
 
 -- the end mark was sent, or not for this cause, and all bytes that were sent wait
 pub record FinishesWith (t : TableState) (old new : WriteSession) (r : Result ⊤ WriteError) :
     Type 0 where
-  pub none : HasNoRows old
+  pub none : HasNonePending old
   pub ended : Result ⊤ WriteFault
   pub result_is : r ≡ refused_as ended
   pub ready : List ℕ
   pub finishes : FinishesTable t ready ended
   pub new_is : new ≡ record old { stage = stage.Ended ready }
 
--- a table with pending rows or cells is not finished: that is a misuse
+-- a table with pending rows, pairs or cells is not finished: that is a misuse
 abbrev pub FinishesOpen : TableState → WriteSession → WriteSession → Result ⊤ WriteError → Type 0
-FinishesOpen t old new (Err error.Misuse) = (¬ HasNoRows old) × (new ≡ old)
+FinishesOpen t old new (Err error.Misuse) = (¬ HasNonePending old) × (new ≡ old)
 FinishesOpen t old new r = FinishesWith t old new r
 
 -- the call that ends the stream

@@ -6,7 +6,7 @@ use ipc_model::{Items, Value};
 use std::alloc::AllocError;
 use std::mem;
 
-/// What has several cells.
+/// A value with cells inside: a list or a struct.
 #[derive(Clone, Copy, Debug, PartialEq, Eq)]
 pub enum Nesting {
     /// A list.

@@ -12,6 +12,7 @@ mod open_table;
 mod ready;
 mod session;
 mod stage;
+mod threads;
 mod write_error;
 mod write_session;
 
@@ -22,5 +23,6 @@ pub use cells::Nesting;
 pub use column::{ColumnFacts, DICTIONARY_STEP};
 pub use copy::copy_into;
 pub use session::ReadSession;
+pub use threads::may_change_threads;
 pub use write_error::WriteError;
 pub use write_session::WriteSession;

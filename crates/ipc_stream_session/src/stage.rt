@@ -1,4 +1,4 @@
-//! How far a stream that is written has come.
+//! The state of a stream that is written.
 ghost use Rattle.std.specs.Prelude.{◌≡◌, MatchResult};
 ghost use Rattle.ipc_stream_session.specs.Stages.{HasWritten, IsNotNew, IsNotOpen, emptied_stage};
 ghost use Rattle.ipc_stream_session.specs.declared.stage.Stage.TheVariants as stage;
@@ -10,7 +10,7 @@ use ipc_model::WriteFault;
 use std::alloc::Global;
 use std::mem;
 
-/// How far a stream that is written has come.
+/// The state of a stream that is written.
 #[derive(Drop)]
 pub(crate) enum Stage {
     /// It has no schema.
@@ -45,7 +45,7 @@ impl Stage {
         }
     }
 
-    // Returns the bytes that were written and not taken, and goes on without them.
+    // Takes the bytes that were written and not taken.
     pub(crate) fn take_bytes(&mut self, alloc: Global) -> Ready
         ensures taken { HasWritten self.old result }
         ensures emptied { self.new ≡ emptied_stage self.old }

@@ -11,13 +11,14 @@ use crate::write_error::WriteError;
 use ipc_model::{BatchRows, Fault, Items, Limits, Row, Schema, Text, Value, WriteFault, conforms};
 use ipc_text_json::schema_from_json;
 use ipc_text_temporal::TextFault;
-use std::alloc::Global;
+use std::alloc::{AllocError, Global};
 use std::mem;
 
 // The most lists and structs around a cell: no schema nests its fields deeper.
 const MAX_NESTING: usize = 64;
 
-/// A stream that is written cell by cell, with the rows that were not sent and the last error.
+/// A stream that is written cell by cell, with the rows and pairs that were not sent and the last
+/// error.
 ///
 /// It is new, then open from its schema on, and ended by `finish` and after W9 or W11. A call that
 /// needs another state returns the number of `WriteError::Misuse`, or of W10 after the end, and
@@ -31,9 +32,11 @@ pub struct WriteSession {
     front: Ready,
     // The cells of the innermost list or struct that has not ended, or of the row.
     cells: Items<Value>,
-    // What is around these cells, the row first.
+    // The open lists and structs, outermost first.
     around: Items<Around>,
     rows: Items<Row>,
+    // The pairs of the batch that these rows are sent as.
+    pairs: Items<(Text, Text)>,
     error: Option<WriteError>,
     alloc: Global,
 }
@@ -48,6 +51,21 @@ fn schema_of(alloc: Global, text: &[u8]) -> Result<Schema, TextFault>
         return Err(TextFault::BadSchemaJson);
     };
     schema_from_json(alloc, text)
+}
+
+// Copies two texts as a pair, if both are UTF-8.
+fn pair_of(alloc: Global, key: &[u8], value: &[u8]) -> Result<Option<(Text, Text)>, AllocError>
+    ensures { w.MakesPair key.now value.now result }
+{
+    let Ok(key) = str::from_utf8(key) else {
+        return Ok(None);
+    };
+    let Ok(value) = str::from_utf8(value) else {
+        return Ok(None);
+    };
+    let key = Text::copied(alloc, key)?;
+    let value = Text::copied(alloc, value)?;
+    Ok(Some((key, value)))
 }
 
 // Calls that leave the last error as it is.
@@ -163,6 +181,22 @@ impl WriteSession {
         Ok(())
     }
 
+    fn try_add_pair(&mut self, key: &[u8], value: &[u8]) -> Result<(), WriteError>
+        ensures { w.AddsPair key.now value.now self.old self.new result }
+    {
+        self.stage.open()?;
+        match pair_of(self.alloc, key, value) {
+            Ok(Some(pair)) => {
+                if push(&mut self.pairs, pair).is_err() {
+                    return Err(self.end(WriteFault::OutOfMemory));
+                }
+                Ok(())
+            }
+            Ok(None) => Err(WriteError::NotUtf8),
+            Err(_) => Err(self.end(WriteFault::OutOfMemory)),
+        }
+    }
+
     // Takes the open table out of the session, whose stage is then to be set.
     fn take_table(&mut self) -> Result<OpenTable, WriteError>
         ensures { w.TakesTable self.old self.new result }
@@ -182,7 +216,7 @@ impl WriteSession {
     {
         let table = self.take_table()?;
         let rows = mem::replace(&mut self.rows, Items::new(self.alloc));
-        let pairs = Items::new(self.alloc);
+        let pairs = mem::replace(&mut self.pairs, Items::new(self.alloc));
         let (stage, sent) = table.send(&BatchRows { pairs, rows });
         self.stage = stage;
         Ok(sent?)
@@ -206,7 +240,11 @@ impl WriteSession {
         ensures { w.Finishes self.old self.new result }
     {
         let table = self.take_table()?;
-        if !self.rows.is_empty() || !self.cells.is_empty() || !self.around.is_empty() {
+        if !self.rows.is_empty()
+            || !self.pairs.is_empty()
+            || !self.cells.is_empty()
+            || !self.around.is_empty()
+        {
             self.stage = Stage::Open(table);
             return Err(WriteError::Misuse);
         }
@@ -242,14 +280,15 @@ impl WriteSession {
             cells: Items::new(alloc),
             around: Items::new(alloc),
             rows: Items::new(alloc),
+            pairs: Items::new(alloc),
             error: None,
             alloc,
         }
     }
 
-    /// Begins the stream of the schema that a JSON text states, as `schema_from_json`. Returns 0,
-    /// or the number of the error, after which the writer is as it was: X6, W1 and W6. W9 and W11
-    /// end the writer.
+    /// Begins the stream of the schema that a JSON text states, as `schema_from_json`. Returns 0 or
+    /// the number of the error. X6, W1 and W6 leave the writer as it was; W9 and W11 end it. It is
+    /// a misuse if the stream has begun.
     pub fn begin(&mut self, text: &[u8]) -> u32
         ensures { w.Reports (w.Begins text.now) self.old self.new result }
     {
@@ -306,8 +345,8 @@ impl WriteSession {
         self.report(answer)
     }
 
-    /// Begins a list or a struct, whose cells follow. It is a misuse inside 64 of them. Returns as
-    /// `add_null`.
+    /// Begins a list or a struct, whose cells follow. It is a misuse if 64 lists and structs are
+    /// open. Returns as `add_null`.
     pub fn begin_cell(&mut self, begun: Nesting) -> u32
         ensures { w.Reports (w.BeginsCell begun) self.old self.new result }
     {
@@ -334,9 +373,18 @@ impl WriteSession {
         self.report(answer)
     }
 
-    /// Sends the pending rows as one batch without pairs, as `StreamWriter::write_batch`. Returns
-    /// 0, or the number of the error: W6, W7 and W8, after which the writer goes on, and W9 and
-    /// W11, which end it. The pending rows are dropped in all cases.
+    /// Adds a pair of key and value to those that are sent with the pending rows. Their limits are
+    /// checked by `send`. Returns as `add_null`, or 66 if one of the texts is not UTF-8.
+    pub fn add_pair(&mut self, key: &[u8], value: &[u8]) -> u32
+        ensures { w.Reports (w.AddsPair key.now value.now) self.old self.new result }
+    {
+        let answer = self.try_add_pair(key, value);
+        self.report(answer)
+    }
+
+    /// Sends the pending rows as one batch with the pending pairs, as `StreamWriter::write_batch`.
+    /// Returns 0, or the number of the error: W6, W7 and W8, after which the writer goes on, and W9
+    /// and W11, which end it. The pending rows and pairs are dropped in all cases.
     pub fn send(&mut self) -> u32
         ensures { w.Reports w.SendsRows self.old self.new result }
     {
@@ -346,7 +394,7 @@ impl WriteSession {
 
     /// Sends a batch that was read, with its pairs, as `StreamWriter::write_columns`. Returns 0, or
     /// the number of the error: W2 to W8, after which the writer goes on, and W9 and W11, which end
-    /// it. The pending rows remain.
+    /// it. The pending rows and pairs remain.
     pub fn send_columns(&mut self, batch: &ReadBatch) -> u32
         ensures { w.Reports (w.SendsColumns batch.now) self.old self.new result }
     {
@@ -354,8 +402,8 @@ impl WriteSession {
         self.report(answer)
     }
 
-    /// Sends the end-of-stream mark, and ends the writer. It is a misuse if rows or cells are
-    /// pending. Returns 0, or the number of the error: W9 ends the writer too.
+    /// Sends the end-of-stream mark, and ends the writer. It is a misuse if rows, pairs or cells
+    /// are pending. Returns 0, or the number of the error: W9 ends the writer too.
     pub fn finish(&mut self) -> u32
         ensures { w.Reports w.Finishes self.old self.new result }
     {

@@ -1,7 +1,8 @@
 -- `arrow_batch_free` makes a block of the pointer, and passes it to `free_batch`.
-use Rattle.std.proofs.Common.{◌++◌, List, [], ◌∷◌, refl, ap}
+use Rattle.std.proofs.Common.{◌++◌, List, [], ◌∷◌, refl, ap, lit<}
 use Rattle.std.proofs.raw_atomic.Walks.{proved}
 use Rattle.std.proofs.alloc.Calls.{Goes-blank}
+use Rattle.std.specs.Prelude.{Option, Some, None}
 use Rattle.std.specs.Box.Ownership.{box_owns}
 use Rattle.std.specs.declared.alloc.Global.{Global}
 use Rattle.std.specs.contracts.alloc.Global as global
@@ -14,16 +15,16 @@ use mir.Val.{Val, vptr, vunit}
 use contract.Running.{tables}
 use prog.Wp.{WpFn}
 use types.Logic.{sem}
-use types.Kit.{‵, raw, ◌⊛◌, some, later, prop, ◌$◌, ◌∵◌, !, qed, done, move, keep, drop, use1, use2, split, join, fsplit, fjoin}
+use types.Kit.{‵, raw, at_ret, ◌⊛◌, some, later, prop, ◌$◌, ◌∵◌, !, qed, done, move, keep, drop, use1, use2, split, join, fsplit, fjoin}
 use types.Kit.{fpick, fpack, feq_i, feq_l, pick, await, regoal, suffices, group}
 use types.Part.{agg}
-use types.Run.{enter, of_opd, unit_lit, no_more, and_then, returns}
-use types.ByLocal.{alloc_all, pass_all, free_all, look_at, get, sets, lands_as}
+use types.Run.{enter, of_opd, lit, bin, first, branches, skips, exec, returns_within, unit_lit, no_more, and_then, returns}
+use types.ByLocal.{alloc_all, pass_all, free_all, look_at, get, sets, lands_as, env}
 use denote.Builtin.{unit}
 use denote.Memory.{lone}
 use denote.Param.Laws.{Told}
 use denote.RattleType.{RattleType, owns, Valss}
-use denote.RawPtr.{Ptr, RawPtr, block_ptr, null_ptr, in_a_block, rawptr_vals, rawptr_Tells}
+use denote.RawPtr.{Ptr, RawPtr, block_ptr, null_ptr, rawptr_vals, rawptr_Tells, tests_null}
 use denote.Signature.{plain}
 use denote.Steps.{nothing, only}
 use denote.Struct.Struct.{within}
@@ -36,9 +37,10 @@ use denote.Triple.Table.{framed}
 use denote.Triple.Walked.{Stays, walk_of, stay_dropped, ends_at}
 use Rattle.ipc_stream_session.specs.contracts.batch.ReadBatch as held
 use Rattle.ipc_stream_session.proofs.batch.ReadBatch.TheLaws as held_laws
-use Rattle.arrowstream_c.specs.Handles.{is_held}
+use Rattle.arrowstream_c.specs.Handles.{held_or_null}
 use Rattle.arrowstream_c.specs.contracts.block.Block as block
 use Rattle.arrowstream_c.proofs.block.Block.TheLaws as laws
+use Rattle.arrowstream_c.proofs.Handles.{on_handle}
 use Rattle.arrowstream_c.specs.contracts.arrow_batch_free as f
 use Rattle.arrowstream_c.proofs.arrow_batch_free.Statement.{statement}
 use Rattle.arrowstream_c.proofs.arrow_batch_free.Code as code
@@ -73,18 +75,31 @@ arrow_batch_free_spec 𝓤 𝓛 𝓜 𝓡 wired =
       ),
     )
     f.Key.name code.function (code.unfolded 𝓤 𝓛.H 𝓜 𝓡 wired)
-    (λ κs. ((λ d. told.val d ∷ []), (rawptr_vals, tt))) (λ κs. (told.tells, (rawptr_Tells, tt))) (λ κs qs bounds a _ are.
+    (λ κs. ((λ d. told.val d ∷ []), (rawptr_vals, tt))) (λ κs. (told.tells, (rawptr_Tells, tt))) (λ κs qs bounds a x are.
     let alloc : Global = a.0 in
     let words : Ptr → List Val × (List Val × Unit {0}) = λ p. (told.val alloc ∷ [], (rawptr_vals p, tt)) in
-    let y : Ptr → W.Ghost = λ p. ((κs, qs, bounds, (alloc, (p, tt)), words p), tt) in
-    qed 𝓛 ((‵ ftrue ⊛ ‵ (owns (global.the_row ∷ RawPtr ∷ []) a (words a.1.0))) ∷ ‵ (is_held R a.1.0) ∷ []) ∵
-    move ! (1 ∷ []) $ fpick ! (λ x. fpick ! (λ h.
-    in_a_block ! a.1.0 (λ p. box_owns (ghosts.dealloc_token h) R p x)
-    (fst∗ 𝓤 (never 𝓤) (sem 𝓛 (ghosts.dealloc_token h (bare (lone R.mir)) null_ptr))) (λ b o e.
-    regoal ! (λ (p : Ptr). prop (WpFn 𝓤 𝓛.H 𝓣.C 𝓣.Λ code.function (told.val alloc ∷ (rawptr_vals p ++ [])) (W.post (y p)))) e refl $
+    let y : Ptr → Option R.Denot → W.Ghost = λ p x. ((κs, qs, bounds, (alloc, (p, tt)), words p), x) in
+    qed 𝓛 ((‵ ftrue ⊛ ‵ (owns (global.the_row ∷ RawPtr ∷ []) a (words a.1.0))) ∷ ‵ (held_or_null R a.1.0 x) ∷ []) ∵
+    move ! (1 ∷ []) $ on_handle ! R a.1.0 x
+    (λ p x. prop (WpFn 𝓤 𝓛.H 𝓣.C 𝓣.Λ code.function (told.val alloc ∷ (rawptr_vals p ++ [])) (W.post (y p x))))
+    (drop ! $
+    enter ! _ _ _ _ _ $ alloc_all ! (λ l. pass_all ! refl ((tt, ((tt, tt), tt)), ((tt, record { fits = lit< tt }), tt)) $
+    sets ! (bin ! (get ! refl) (lit ! tt) (tests_null null_ptr (lit< tt))) refl (tt, tt) $
+    first ! $ branches ! (get ! refl)
+    (λ t. sets ! (of_opd ! (unit_lit !)) refl (tt, tt) $
+    returns_within ! (W.post (y null_ptr None)) refl (look_at ! 0 refl) $ free_all ! refl $
+    suffices ! _ (ends_at 𝓛 f.ended stayed c (y null_ptr None) vunit tt (tt, (tt, tt)) (tt, (tt, tt))) $
+    nothing ! $ feq_i ! (List Val) (vunit ∷ []) (vunit ∷ []) refl $ nothing ! $ nothing ! $ join ! $ nothing ! $ join ! $ nothing ! $
+    group ! 3 $
+    done !)
+    (λ t. absurd t)))
+    (λ b o x h may.
     move ! (1 ∷ []) $ split ! $ move ! (1 ∷ []) $ fsplit ! $ keep ! (0 ∷ 3 ∷ []) $
     -- [the handle of the allocator; the value, and the right to free it]
     enter ! _ _ _ _ _ $ alloc_all ! (λ l. pass_all ! refl ((tt, ((tt, tt), tt)), ((tt, tt), tt)) $
+    sets ! (bin ! (get ! refl) (lit ! tt) (tests_null (block_ptr b o) may)) refl (tt, tt) $
+    first ! $ branches ! (get ! refl) (λ t. absurd t) (λ t. skips ! $
+    exec ! 𝓣.C 𝓣.Λ (env code.Mir.locals l) code.Mir.t-3 (at_ret _ (W.post (y (block_ptr b o) (Some x)))) $
     sets ! (of_opd ! (get ! refl)) refl (tt, tt) $
     sets ! (agg ! (and_then ! (get ! refl) (and_then ! (get ! refl) (no_more !)))) refl (tt, (tt, (((tt, tt), tt), tt))) $
     let d : P.Denot = record { ptr = block_ptr b o; alloc = alloc; value = x } in let v = lowers.lowered d in
@@ -103,6 +118,6 @@ arrow_batch_free_spec 𝓤 𝓛 𝓜 𝓡 wired =
     await ! tt $ pick ! (λ r. split ! $ split ! $ drop ! $ feq_l ! (λ is_unit. pick ! (λ ws. split ! $ drop ! $
     lands_as ! (ap only is_unit) refl (tt, tt) $ sets ! (of_opd ! (unit_lit !)) refl (tt, tt) $
     returns ! (look_at ! 0 refl) $ free_all ! refl $
-    suffices ! _ (ends_at 𝓛 f.ended stayed c (y (block_ptr b o)) vunit tt (tt, (tt, tt)) (tt, (tt, tt))) $
+    suffices ! _ (ends_at 𝓛 f.ended stayed c (y (block_ptr b o) (Some x)) vunit tt (tt, (tt, tt)) (tt, (tt, tt))) $
     feq_i ! (List Val) (vunit ∷ []) (vunit ∷ []) refl $ nothing ! $ nothing ! $ join ! $ nothing ! $ join ! $ nothing ! $ group ! 3 $
-    done !)))))))))
+    done !))))))))

@@ -1,0 +1,40 @@
+//! What calls answer at a null handle, where they have more to answer than a number.
+ghost use Rattle.arrowstream_c.specs.AtNull.{IsNowhere, RefusesColumn, RefusesText, TakesNothing};
+
+use crate::answers::{Column, MISUSE, Progress};
+
+// Copies no byte, and wants none.
+pub(crate) fn no_text(text: &mut [u8], wanted: &mut usize) -> u32
+    ensures { RefusesText text.old text.new wanted.new result }
+{
+    let _text = text;
+    *wanted = 0;
+    MISUSE
+}
+
+// Describes no column.
+pub(crate) fn no_column(out: &mut Column) -> u32
+    ensures { RefusesColumn out.old out.new result }
+{
+    let _out = out;
+    MISUSE
+}
+
+// Says that nothing was taken, and that nothing came.
+pub(crate) fn no_progress(out: &mut Progress) -> u32
+    ensures { IsNowhere out.new result }
+{
+    out.taken = 0;
+    out.wanted = 0;
+    out.messages = 0;
+    out.event = 0;
+    MISUSE
+}
+
+// Moves no byte.
+pub(crate) fn none_taken(bytes: &mut [u8]) -> usize
+    ensures { TakesNothing bytes.old bytes.new result }
+{
+    let _bytes = bytes;
+    0
+}
