@@ -97,7 +97,7 @@ fn rewrite_job<S: Source, W: Sink, N: Progress>(
     (result, source, sink)
 }
 
-// What became of records of CSV, as what became of the job.
+// Converts the result of `from_csv` to that of the job.
 fn csv_result(answer: Result<(), job_from_csv::FromCsvStop>, schema: Schema) -> Result<(), Stop>
     ensures { result ≡ job_result (stop_of_csv schema) answer }
 {

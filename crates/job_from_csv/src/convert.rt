@@ -65,7 +65,7 @@ fn push_rows<R: Read + ReportsFailure, W: Sink>(
     Ok(true)
 }
 
-// Sends a batch of the kept row and those of the next records, and says whether it was full.
+// Sends a batch of the kept row and those of the next records. Returns whether it was full.
 fn send_batch<R: Read + ReportsFailure, W: Sink>(
     alloc: Global,
     dialect: Dialect<'_>,

@@ -33,8 +33,8 @@ pub fn csv_reader<R: Read>(alloc: Global, dialect: Dialect<'_>, input: R) -> Rea
         .from_reader(alloc, input)
 }
 
-// Reads the next record, and says whether there was one. Where the device did not fail, an error is
-// of memory.
+// Reads the next record. Returns false if there is none. If the device did not fail, an error means
+// that memory ran out.
 pub fn next_record<R: Read + ReportsFailure>(
     reader: &mut Reader<R>,
     fields: &mut ByteRecord,

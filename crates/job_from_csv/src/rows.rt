@@ -42,8 +42,8 @@ impl<R: Read + ReportsFailure> RowReader<R> {
         }
     }
 
-    // Reads the next record and makes the kept row the one as which it reads, and says whether
-    // there was a record. A record above 2^64 - 1 has no number, which counts as a want of memory.
+    // Reads the next record into the kept row. Returns false if there is no record. A record above
+    // 2^64 - 1 has no number, which is answered as out of memory.
     pub fn next(
         &mut self,
         alloc: Global,

@@ -16,7 +16,7 @@ pub struct SourceReader<S: Source> {
 }
 
 impl<S: Source> SourceReader<S> {
-    // A reader of this source. One call that asks for no byte tells whether the source had failed.
+    // A reader of this source. One call that asks for no byte shows whether the source had failed.
     pub fn new(source: S) -> SourceReader<S>
         ensures { Keeps (S.remaining source) (S.remaining result.source) }
     {
@@ -34,7 +34,7 @@ impl<S: Source> SourceReader<S> {
     }
 }
 
-// A reader that tells whether the device behind it failed.
+// A reader that reports whether its device failed.
 pub trait ReportsFailure {
     // How often the device failed: 0 or 1.
     ghost failures: { Self → ℕ };

@@ -16,7 +16,7 @@ use Rattle.ipc_model.specs.declared.layout.Layout.TheVariants as l
 use Rattle.ipc_model.specs.declared.schema.IntBits.{IntBits}
 use Rattle.ipc_model.specs.declared.schema.IntBits.TheVariants.{B64}
 use Rattle.ipc_model.specs.Layouts.{number_bytes}
-use Rattle.ipc_column.specs.declared.numbers.Numbers.{Numbers}
+use Rattle.ipc_column.specs.declared.buffers.Numbers.{Numbers}
 use Rattle.ipc_column.specs.Lending.{AreNumbers}
 use Rattle.ipc_column.specs.Lent.{AreOfColumn}
 use Rattle.ipc_column.specs.Nested.{Nested, slot_values}

@@ -132,6 +132,7 @@ fn print_records<W: Sink>(
         (output (W.written sink.old) (W.failures sink.old) lines.old) (W.written sink.new)
         (W.failures sink.new) lines.new result }
 {
+    // Brings the contract of `columns` into the proof.
     let _columns = batch.columns();
     match numbers_of(alloc, batch)? {
         Some(columns) => {

@@ -331,7 +331,7 @@ fn put_cell(
     }
 }
 
-// Sees to the room of a value, and writes the delimiter in front of the column with this number.
+// Reserves room for a value, and writes the delimiter before column `column`.
 #[inline(always)]
 fn start_field(
     text: &mut [u8],

@@ -129,7 +129,7 @@ pub fn put_u64(text: &mut [u8], at: usize, number: u64) -> usize
     put_eight(text, middle, (number % EIGHT_DIGITS) as u32)
 }
 
-/// The same of a signed number, which has a minus sign in front where it is below 0.
+/// Writes the decimal digits of a signed number, after a minus sign if it is below 0.
 #[inline(always)]
 pub fn put_i64(text: &mut [u8], at: usize, number: i64) -> usize
     requires { at + 25 ≤ length text.old }

@@ -45,7 +45,7 @@ fn put_quoted_byte(text: &mut [u8], at: usize, byte: u8) -> usize
     put_word(text, at, &[byte])
 }
 
-// The same of each byte of a field.
+// Writes the bytes of a field from `at` on, each quote doubled, and returns where they end.
 fn put_quoted_bytes(text: &mut [u8], at: usize, field: &[u8]) -> Result<usize, AllocError>
     requires { at ≤ length text.old }
     ensures inside { IfOk result (λ end. end ≤ length text.new) }
@@ -200,7 +200,7 @@ fn put_like_null(
     Ok(put_field(text, at, dialect.delimiter(), chars)?)
 }
 
-// Whether bytes begin with a text, of this length, that does not begin as this text of null does.
+// Whether the first `len` bytes do not begin as this text of null does.
 #[inline(always)]
 fn differs_from_null(null: &[u8], bytes: &[u8], len: usize) -> bool
     requires { len ≤ length bytes.now }
@@ -213,7 +213,8 @@ fn differs_from_null(null: &[u8], bytes: &[u8], len: usize) -> bool
     }
 }
 
-// The same in a dialect, in which the text is then its field unchanged.
+// Whether the first `len` bytes do not begin as the dialect's text of null, so that the text of
+// these bytes is the bytes themselves.
 #[inline(always)]
 fn begins_plainly(dialect: &Dialect<'_>, bytes: &[u8], len: usize) -> bool
     requires { len ≤ length bytes.now }

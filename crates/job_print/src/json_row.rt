@@ -98,7 +98,7 @@ fn write_temporal(text: &mut [u8], at: usize, kind: &DataType, number: i64) -> u
     }
 }
 
-// The same, where most numbers count nothing, which is asked first.
+// Writes a signed number by its type: plain integers first, which are the most frequent.
 #[inline(always)]
 fn put_int(text: &mut [u8], at: usize, kind: &DataType, number: i64) -> usize
     requires { at + 34 ≤ length text.old }
@@ -283,7 +283,7 @@ fn put_items(
     put_slots(text, start, shape, child, column.child(0), from, to - from)
 }
 
-// So many nulls and the closing bracket.
+// Writes `count` nulls and the closing bracket.
 fn put_nulls(text: &mut [u8], start: usize, count: usize) -> Result<usize, AllocError>
     requires start { start ≤ length text.old }
     ensures inside { IfOk result (λ end. end ≤ length text.new) }
@@ -317,6 +317,7 @@ fn put_slots(
         ++ items_text false (items_json (cell_json shape field.now)
         (values_between column.now from count))) }
 {
+    // Brings the contract of `len` into the proof.
     let _slots = column.len();
     let mut at = start;
     let mut later = false;
@@ -565,8 +566,8 @@ fn put_line(
 }
 
 /// Writes the JSON text of a row, in this shape, and a line feed to the front of a buffer, and
-/// returns where it ends. What the buffer holds before means nothing: it is room to be used again.
-/// It refuses only where the buffer ends before the line.
+/// returns where it ends. The buffer's earlier contents are ignored. Returns an error if the buffer
+/// ends before the line.
 ///
 /// The caller gives the columns of a batch, a row below its `rows`, and the fields of the columns.
 pub fn json_line(

@@ -53,7 +53,7 @@ fn double(text: &mut Vec<u8>) -> Result<(), AllocError> {
 // How often a buffer can be doubled at most.
 const DOUBLINGS: usize = 64;
 
-// The same as `line_of` in a buffer that grows until the line fits.
+// Writes the line of a row as `line_of`, in a buffer that grows until the line fits.
 #[cold]
 #[inline(never)]
 fn growing_line_of(
@@ -83,7 +83,7 @@ fn growing_line_of(
     Err(TextFault::OutOfMemory)
 }
 
-/// The same, where most lines fit.
+/// Writes the line of a row as `line_of`, and grows the buffer if the line does not fit.
 pub(crate) fn fitted_line_of(
     form: Form<'_>,
     text: &mut Vec<u8>,

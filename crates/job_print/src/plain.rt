@@ -77,7 +77,7 @@ fn many_are_plain(text: &[u8]) -> bool
     sixteen_are_plain(text, text.len() - 16)
 }
 
-// Writes a text from `at` on, and says whether it is plain. It has three bytes at most.
+// Writes a text of at most three bytes from `at` on, and returns whether it is plain.
 #[inline(always)]
 fn put_up_to_three(text: &mut [u8], at: usize, chars: &[u8]) -> bool
     requires fits { at + length chars.now ≤ length text.old }
@@ -89,7 +89,7 @@ fn put_up_to_three(text: &mut [u8], at: usize, chars: &[u8]) -> bool
     few_are_plain(chars)
 }
 
-// The same of four to eight.
+// Writes a text of four to eight bytes from `at` on, and returns whether it is plain.
 #[inline(always)]
 fn put_up_to_eight(text: &mut [u8], at: usize, chars: &[u8]) -> bool
     requires fits { at + length chars.now ≤ length text.old }
@@ -101,7 +101,7 @@ fn put_up_to_eight(text: &mut [u8], at: usize, chars: &[u8]) -> bool
     four_are_plain(chars, 0) && four_are_plain(chars, chars.len() - 4)
 }
 
-// The same of eight to sixteen.
+// Writes a text of eight to sixteen bytes from `at` on, and returns whether it is plain.
 #[inline(always)]
 fn put_up_to_sixteen(text: &mut [u8], at: usize, chars: &[u8]) -> bool
     requires fits { at + length chars.now ≤ length text.old }
@@ -113,7 +113,7 @@ fn put_up_to_sixteen(text: &mut [u8], at: usize, chars: &[u8]) -> bool
     eight_are_plain(chars, 0) && eight_are_plain(chars, chars.len() - 8)
 }
 
-// The same of sixteen and more.
+// Writes a text of at least sixteen bytes from `at` on, and returns whether it is plain.
 #[inline(always)]
 fn put_many(text: &mut [u8], at: usize, chars: &[u8]) -> bool
     requires fits { at + length chars.now ≤ length text.old }
@@ -125,7 +125,7 @@ fn put_many(text: &mut [u8], at: usize, chars: &[u8]) -> bool
     many_are_plain(chars)
 }
 
-// The same of any length.
+// Writes a text of any length from `at` on, and returns whether it is plain.
 #[inline(always)]
 fn put_any_length(text: &mut [u8], at: usize, chars: &[u8]) -> bool
     requires fits { at + length chars.now ≤ length text.old }

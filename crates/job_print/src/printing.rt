@@ -47,8 +47,8 @@ fn check_end(end: End, require_mark: bool) -> Result<End, Fault>
     }
 }
 
-// Prints the rows of a stream up to the limit, and tells how that ended. The text of each batch is
-// sent before the next one is read, and the batch is reported then.
+// Prints the rows of a stream up to the limit, and returns how that ended. The text of each batch
+// is sent before the next one is read, and the batch is reported then.
 fn print_batches<R: Source, W: Sink, P: Progress>(
     alloc: Global,
     options: PrintOptions<'_>,
@@ -88,7 +88,7 @@ fn print_batches<R: Source, W: Sink, P: Progress>(
                 progress.batch_done(stream.taken(), tally.batches, tally.rows);
                 stream.reuse(batch);
             }
-            // The reader has an end now, so none is made up.
+            // `next` returned None, so `end` is Some: the default is never used.
             Ok(None) => {
                 let end = stream.end().unwrap_or(End::Closed);
                 match check_end(end, options.require_mark) {
@@ -139,7 +139,7 @@ fn counts_line(
     Ok(line)
 }
 
-// Prints what stands behind the rows, once they ended.
+// Prints the text after the rows, if the stream was read to its end.
 fn print_tail<W: Sink>(
     alloc: Global,
     form: Form<'_>,
@@ -165,7 +165,7 @@ fn print_tail<W: Sink>(
     }
 }
 
-/// Prints what stands in front of the rows.
+/// Prints the text before the rows.
 pub(crate) fn print_front<W: Sink>(
     alloc: Global,
     form: Form<'_>,
@@ -191,8 +191,8 @@ pub(crate) fn print_front<W: Sink>(
     }
 }
 
-// Prints a stream behind its schema. The text in front of the rows is sent before the first batch
-// is read, and what comes before a fault before that is returned.
+// Prints what follows the schema of a stream. The text before the rows is sent before the first
+// batch is read, and what precedes a fault is sent before that fault is returned.
 fn print_stream<R: Source, W: Sink, P: Progress>(
     alloc: Global,
     options: PrintOptions<'_>,

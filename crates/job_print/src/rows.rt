@@ -528,7 +528,7 @@ fn print_value_rows<W: Sink>(
     }
 }
 
-/// Text on its way to a sink. What is seen of it is the text that is kept.
+/// A text buffer before a sink. Contracts describe it by the text that it keeps.
 #[derive(Drop)]
 pub struct LineBuffer {
     text: Vec<u8>,
@@ -549,7 +549,7 @@ impl Model for LineBuffer {
 }
 
 impl LineBuffer {
-    /// With no text. Out of memory is answered where the text finds no room.
+    /// Creates an empty buffer of 64 KiB. Returns an error if memory ran out.
     pub fn new(alloc: Global) -> Result<LineBuffer, AllocError>
         ensures { IfOk result (λ lines. lines ≡ []) }
     {
@@ -570,8 +570,8 @@ impl LineBuffer {
         Ok(())
     }
 
-    /// Adds the line of a row in this form, and says whether it did: not where what is kept leaves
-    /// no room, and where the row has no line.
+    /// Adds the line of a row in this form. Returns false, and adds nothing, if the line does not
+    /// fit after the kept text, or if the row has no line.
     ///
     /// The caller gives the columns of a batch, a row below its `rows`, and the fields of the
     /// columns, which the form has a place for.

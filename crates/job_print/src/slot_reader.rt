@@ -15,13 +15,13 @@ pub enum SlotReader {
     Bool,
     /// Texts.
     Utf8,
-    /// So many bytes in each slot.
+    /// Fixed-size binary of this width in bytes.
     Bytes(u32),
-    /// In any other way.
+    /// Any other layout.
     Others,
 }
 
-/// The way of slots of this layout.
+/// Returns the reader of slots of a layout.
 pub fn slot_reader_of(layout: Layout) -> SlotReader
     ensures { IsReaderOf result layout }
 {

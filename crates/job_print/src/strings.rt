@@ -33,7 +33,7 @@ fn put_escape(text: &mut [u8], at: usize, byte: u8) -> usize
     }
 }
 
-// The same of each byte of a text.
+// Writes the bytes of a text from `at` on, each escaped if needed, and returns where they end.
 fn put_each_escape(text: &mut [u8], at: usize, chars: &[u8]) -> Result<usize, AllocError>
     requires { at ≤ length text.old }
     ensures inside { IfOk result (λ end. end ≤ length text.new) }

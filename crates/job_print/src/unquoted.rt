@@ -81,7 +81,7 @@ fn many_need_no_quotes(delimiter: u8, field: &[u8]) -> bool
     sixteen_need_no_quotes(delimiter, field, field.len() - 16)
 }
 
-// Writes a field from `at` on, and says whether it needs no quotes. It has three bytes at most.
+// Writes a field of at most three bytes from `at` on, and returns whether it needs no quotes.
 #[inline(always)]
 fn put_up_to_three(text: &mut [u8], at: usize, delimiter: u8, field: &[u8]) -> bool
     requires fits { at + length field.now ≤ length text.old }
@@ -93,7 +93,7 @@ fn put_up_to_three(text: &mut [u8], at: usize, delimiter: u8, field: &[u8]) -> b
     few_need_no_quotes(delimiter, field)
 }
 
-// The same of four to eight.
+// Writes a field of four to eight bytes from `at` on, and returns whether it needs no quotes.
 #[inline(always)]
 fn put_up_to_eight(text: &mut [u8], at: usize, delimiter: u8, field: &[u8]) -> bool
     requires fits { at + length field.now ≤ length text.old }
@@ -106,7 +106,7 @@ fn put_up_to_eight(text: &mut [u8], at: usize, delimiter: u8, field: &[u8]) -> b
         && four_need_no_quotes(delimiter, field, field.len() - 4)
 }
 
-// The same of eight to sixteen.
+// Writes a field of eight to sixteen bytes from `at` on, and returns whether it needs no quotes.
 #[inline(always)]
 fn put_up_to_sixteen(text: &mut [u8], at: usize, delimiter: u8, field: &[u8]) -> bool
     requires fits { at + length field.now ≤ length text.old }
@@ -119,7 +119,7 @@ fn put_up_to_sixteen(text: &mut [u8], at: usize, delimiter: u8, field: &[u8]) ->
         && eight_need_no_quotes(delimiter, field, field.len() - 8)
 }
 
-// The same of sixteen and more.
+// Writes a field of at least sixteen bytes from `at` on, and returns whether it needs no quotes.
 #[inline(always)]
 fn put_many(text: &mut [u8], at: usize, delimiter: u8, field: &[u8]) -> bool
     requires fits { at + length field.now ≤ length text.old }
@@ -131,7 +131,7 @@ fn put_many(text: &mut [u8], at: usize, delimiter: u8, field: &[u8]) -> bool
     many_need_no_quotes(delimiter, field)
 }
 
-// The same of any length.
+// Writes a field of any length from `at` on, and returns whether it needs no quotes.
 #[inline(always)]
 fn put_any_length(text: &mut [u8], at: usize, delimiter: u8, field: &[u8]) -> bool
     requires fits { at + length field.now ≤ length text.old }
@@ -146,7 +146,7 @@ fn put_any_length(text: &mut [u8], at: usize, delimiter: u8, field: &[u8]) -> bo
     }
 }
 
-/// Writes a field from `at` on, and says whether it needs no quotes.
+/// Writes a field from `at` on, and returns whether it needs no quotes.
 #[inline(always)]
 pub fn put_if_unquoted(text: &mut [u8], at: usize, delimiter: u8, field: &[u8]) -> bool
     requires fits { at + length field.now ≤ length text.old }
@@ -157,8 +157,8 @@ pub fn put_if_unquoted(text: &mut [u8], at: usize, delimiter: u8, field: &[u8]) 
     put_any_length(text, at, delimiter, field)
 }
 
-/// Writes sixteen bytes from `at` on, and says whether none of them calls for quotes, and so none
-/// of the first `len`.
+/// Writes sixteen bytes from `at` on, and returns whether none of them calls for quotes, and so
+/// none of the first `len`.
 #[inline(always)]
 pub fn put_front_if_unquoted(
     text: &mut [u8],

@@ -98,7 +98,7 @@ fn copy_batches<R: Source, W: Sink, P: Progress>(
                 rows = rows.saturating_add(batch.rows() as u64);
                 progress.batch_done(stream.taken(), batches, rows);
             }
-            // The reader has an end now, so none is made up.
+            // `next` returned None, so `end` is Some: the default is never used.
             Ok(None) => match check_end(stream.end().unwrap_or(End::Closed), require_mark) {
                 Ok(_) => return Ok(()),
                 Err(missing) => return Err(RewriteStop::Read(missing, stream.messages())),
