@@ -73,14 +73,14 @@ def shown(program, stream, *words):
 
 def rewritten(arrowstream, stream, by_columns):
     """A stream that is read and written again."""
-    reader = arrowstream.read(io.BytesIO(stream))
-    batches = reader if by_columns else (batch.rows(as_stored=True) for batch in reader)
-    return written(arrowstream, reader.schema, batches)
-
-
-def without_pairs(lines):
-    """The lines of an answer, without the pairs of batches, which rows do not have."""
-    return [" ".join(it.split(" ")[:2]) if it.startswith("batch ") else it for it in lines]
+    reader, file = arrowstream.read(io.BytesIO(stream)), io.BytesIO()
+    with arrowstream.Writer(file, reader.schema) as writer:
+        for batch in reader:
+            if by_columns:
+                writer.write_batch(batch)
+            else:
+                writer.write_batch(batch.rows(as_stored=True), batch.metadata)
+    return file.getvalue()
 
 
 def failed_copies(arrowstream, program, answer):
@@ -103,11 +103,9 @@ def failed_copies(arrowstream, program, answer):
             else:
                 line, second = "written same", answer(again)
                 # The copy has the end-of-stream mark in every case.
-                one, other = first[:-1], second[:-1]
-                is_same = one == other if by_columns else without_pairs(one) == other
+                is_same = first[:-1] == second[:-1]
                 if name.endswith(", answer"):
-                    show = ("show", "--pairs") if by_columns else ("show",)
-                    for job in (show, ("check", "--schema")):
+                    for job in (("show", "--pairs"), ("check", "--schema")):
                         is_same &= shown(program, stream, *job) == shown(program, again, *job)
             if line != wish or not is_same:
                 failed += 1
@@ -259,6 +257,11 @@ def misuses(arrowstream):
     yield stored(("timestamp", "us", None), MOMENT.replace(tzinfo=UTC)), "TypeError"
     yield stored(("timestamp", "us", "UTC"), MOMENT), "TypeError"
     yield lambda: written(arrowstream, number, [], max_body=-1), "ValueError"
+    pairs = [("key", "\ud800")]
+    yield lambda: arrowstream.Writer(io.BytesIO(), number).send(pairs), "UnicodeEncodeError"
+    read = next(arrowstream.read(io.BytesIO(written(arrowstream, number, [[(1,)]]))))
+    writer = arrowstream.Writer(io.BytesIO(), number)
+    yield lambda: writer.write_batch(read, [("key", "value")]), "TypeError"
 
 
 def on_another_thread(call):

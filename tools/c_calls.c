@@ -251,10 +251,44 @@ static size_t decode(char *line) {
     return count;
 }
 
+static int is_nowhere(const arrow_progress *now) {
+    return now->taken == 0 && now->wanted == 0 && now->messages == 0 && now->event == ARROW_NOTHING;
+}
+
+/* Makes each call at NULL. */
+static void call_at_null(void) {
+    const uint64_t path[] = {0};
+    arrow_progress fed = {1, 1, 1, 1}, closed = {1, 1, 1, 1};
+    arrow_batch *batch = (arrow_batch *)&fed;
+    arrow_column column;
+    uint8_t byte = FILL, as_it_was[sizeof column];
+    size_t wanted[4] = {1, 1, 1, 1};
+    memset(&column, FILL, sizeof column);
+    memcpy(as_it_was, &column, sizeof column);
+    if (arrow_reader_feed(NULL, &byte, 1, &fed) != ARROW_MISUSE || !is_nowhere(&fed)
+        || arrow_reader_close(NULL, &closed) != ARROW_MISUSE || !is_nowhere(&closed))
+        stop("a reader at NULL");
+    arrow_reader_take(NULL, &batch);
+    if (batch) stop("a batch of NULL");
+    if (arrow_reader_schema(NULL, &byte, 1, &wanted[0]) != ARROW_MISUSE
+        || arrow_reader_line(NULL, &byte, 1, &wanted[1]) != ARROW_MISUSE
+        || arrow_batch_pairs(NULL, &byte, 1, &wanted[2]) != ARROW_MISUSE
+        || arrow_batch_buffer(NULL, path, 1, 0, &byte, 1, &wanted[3]) != ARROW_MISUSE)
+        stop("a text of NULL");
+    if (wanted[0] || wanted[1] || wanted[2] || wanted[3] || byte != FILL) stop("bytes of NULL");
+    if (arrow_batch_rows(NULL) != 0 || arrow_batch_columns(NULL) != 0) stop("a count of NULL");
+    if (arrow_batch_column(NULL, path, 1, &column) != ARROW_MISUSE
+        || memcmp(as_it_was, &column, sizeof column) != 0)
+        stop("a column of NULL");
+    arrow_reader_free(NULL);
+    arrow_batch_free(NULL);
+}
+
 int main(int count, char **words) {
     static char line[2 * MOST + 2];
     if (count != 3) return 2;
     size_t piece = strtoull(words[2], NULL, 10);
+    call_at_null();
     while (fgets(line, sizeof line, stdin)) {
         size_t bytes = decode(line);
         uint8_t *stream = __real_malloc(bytes + 1);

@@ -83,12 +83,16 @@ static const step steps[] = {
     ROW(2, "Bonn"), {'[', ARROW_OK, 0, NULL, NULL}, {'r', ARROW_MISUSE, 0, NULL, NULL},
     {'e', ARROW_OK, 0, NULL, NULL}, {'r', ARROW_WRITE + 2, 0, NULL, NULL},
     ROW(3, "Kiel"), {'r', ARROW_OK, 0, NULL, NULL},
+    {'p', ARROW_OK, 0, "one", NULL}, {'p', ARROW_NOT_UTF8, 0, "\xff", "text is not UTF-8"},
+    {'p', ARROW_OK, 0, "", NULL}, {'p', ARROW_OK, 0, "one", NULL},
     {'i', ARROW_OK, 4, NULL, NULL}, {'f', ARROW_MISUSE, 0, NULL, "call out of order"},
     {'s', ARROW_OK, TAKEN, NULL, NULL},
     {'n', ARROW_OK, 0, NULL, NULL}, {'n', ARROW_OK, 0, NULL, NULL}, {'n', ARROW_OK, 0, NULL, NULL},
     {'n', ARROW_OK, 0, NULL, NULL}, {'n', ARROW_OK, 0, NULL, NULL}, {'n', ARROW_OK, 0, NULL, NULL},
     {'r', ARROW_OK, 0, NULL, NULL}, {'f', ARROW_MISUSE, 0, NULL, NULL},
-    {'s', ARROW_OK, 0, NULL, NULL}, {'s', ARROW_OK, 0, NULL, NULL},
+    {'s', ARROW_OK, 0, NULL, NULL},
+    {'p', ARROW_OK, 0, "two", NULL}, {'f', ARROW_MISUSE, 0, NULL, "call out of order"},
+    {'s', ARROW_OK, 0, NULL, NULL},
     {'f', ARROW_OK, 0, NULL, NULL},
     {'n', ARROW_WRITE_FAILED, 0, NULL, "call out of order"},
     {'f', ARROW_WRITE_FAILED, 0, NULL, NULL},
@@ -109,6 +113,7 @@ static uint32_t make(arrow_writer *writer, const step *now) {
     case '{': return arrow_writer_begin_struct(writer);
     case 'e': return arrow_writer_end(writer);
     case 'r': return arrow_writer_row(writer);
+    case 'p': return arrow_writer_pair(writer, text, length, text, length);
     case 's': return arrow_writer_send(writer);
     default: return arrow_writer_finish(writer);
     }
@@ -174,6 +179,21 @@ static int write_stream(int writes) {
     return lost;
 }
 
+/* Makes each call at NULL. */
+static void call_at_null(void) {
+    uint8_t bytes[2] = {FILL, FILL};
+    size_t wanted = 1, count = sizeof steps / sizeof *steps;
+    for (size_t at = 0; at < count; at++)
+        if (make(NULL, &steps[at]) != ARROW_MISUSE) stop("another status at NULL", at);
+    if (arrow_writer_columns(NULL, NULL) != ARROW_MISUSE) stop("columns at NULL", 0);
+    if (arrow_writer_ready(NULL) != 0 || arrow_writer_take(NULL, bytes, sizeof bytes) != 0)
+        stop("bytes of NULL", 0);
+    if (arrow_writer_line(NULL, bytes, sizeof bytes, &wanted) != ARROW_MISUSE || wanted != 0)
+        stop("a line of NULL", 0);
+    if (bytes[0] != FILL || bytes[1] != FILL) stop("a byte written at NULL", 0);
+    arrow_writer_free(NULL);
+}
+
 static void copy_schema(arrow_reader *reader, arrow_writer *writer) {
     static uint8_t text[MOST];
     size_t wanted = 0;
@@ -186,6 +206,8 @@ static void copy_batch(arrow_reader *reader, arrow_writer *writer) {
     arrow_reader_take(reader, &batch);
     if (!batch) stop("no batch", 0);
     size_t rows = arrow_batch_rows(batch);
+    if (arrow_writer_columns(writer, NULL) != ARROW_MISUSE) stop("columns of NULL", rows);
+    if (arrow_writer_columns(NULL, batch) != ARROW_MISUSE) stop("columns at NULL", rows);
     if (arrow_writer_columns(writer, batch) != ARROW_OK) stop("refused columns", rows);
     if (arrow_batch_rows(batch) != rows) stop("another batch", rows);
     arrow_batch_free(batch);
@@ -223,6 +245,7 @@ int main(int count, char **words) {
         copy_stream();
         return 0;
     }
+    call_at_null();
     int grows = strcmp(words[1], "growths") == 0;
     if (write_stream(!grows)) stop("out of memory without a refusal", 0);
     if (!grows) return 0;

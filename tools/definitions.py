@@ -6,8 +6,8 @@
 
 A page has the definitions that the contracts of its calls cite, directly or through others, and
 that no earlier page has. A definition's comment is the lines that begin with `--` right above it.
-What it names of a standard is the definition's section. A comment that names none has the section
-that the first comment of its file names, and else the definition is this project's own.
+What it names of a standard is the definition's section. What the first comment of a file names is
+printed once, under the module.
 """
 import pathlib
 import re
@@ -43,6 +43,12 @@ the standard, not by this project's writer, and are read by the calls whose cont
 definitions.
 """
 WIDTH = 100
+# Where to begin on a page.
+FIRST = {
+    "STREAM": """Begin with `Denotes`, `Run` and `Step` of `ipc_stream_read`, then `Frame` of
+`ipc_frame`, `HeadOf` of `ipc_meta` and `Rows` of `ipc_column`. The others are what these use,
+lowest crate first.""",
+}
 
 # The pages in the order of reading: name, title, and the files whose contracts they serve.
 PAGES = [
@@ -91,13 +97,12 @@ def file_comment(lines):
     return " ".join(head)
 
 
-def section_of(text, standard, beginning):
+def section_of(text, standard=None):
     """What a comment names of a standard, as one text; a title alone is of the standard that was
-    named last above it. A comment that names nothing has what the file's first one names."""
+    named last above it."""
     found = [part.strip() for part in SECTION.findall(text)]
     if not found and standard:
         found = [f"{standard}, {title}" for title in QUOTED.findall(text)]
-    found = found or [part.strip() for part in SECTION.findall(beginning)]
     return "; ".join(dict.fromkeys(found))
 
 
@@ -131,19 +136,20 @@ def explained(key, definitions):
         text = ""
     named = [STANDARD.findall(line) for line in lines[:at] if line.lstrip().startswith("--")]
     standard = next((found[-1] for found in reversed(named) if found), None)
-    return section_of(text, standard, beginning), text or None
+    return section_of(text, standard), text or None
 
 
-def page(title, keys, definitions):
+def page(title, first, keys, definitions):
     """A page of these definitions, crate by crate and module by module."""
-    parts, place = [f"# {title}"], (None, None)
+    parts, place = [f"# {title}", *filter(None, [first])], (None, None)
     for key in keys:
         crate, module, name = key
         if crate != place[0]:
             parts.append(f"## `{crate}`")
         if (crate, module) != place:
             parts.append(f"### `{module}`")
-            parts.append("")
+            section = section_of(file_comment(lines_of(definitions.places[key][0])))
+            parts.extend([*filter(None, [textwrap.fill(section, WIDTH)]), ""])
         place = crate, module
         parts[-1] = "\n".join(filter(None, [parts[-1], item(name, *explained(key, definitions))]))
     return "\n\n".join(parts) + "\n"
@@ -158,7 +164,8 @@ def pages(definitions):
         files = [path for pattern in patterns for path in sorted((TOP / "crates").glob(pattern))]
         new = (definitions.of_contracts(files) & definitions.public) - listed
         listed |= new
-        made[FOLDER / f"{name}.md"] = page(title, sorted(new, key=order.get), definitions)
+        keys = sorted(new, key=order.get)
+        made[FOLDER / f"{name}.md"] = page(title, FIRST.get(name), keys, definitions)
         rows.append(f"| [{title}](definitions/{name}.md) | {calls} | {len(new)} |")
     made[PAGE] = HEAD.format(table="\n".join(rows))
     return made

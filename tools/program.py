@@ -8,7 +8,7 @@ CRATE = TOP / "crates/arrowstream"
 PROGRAM = CRATE / "out/arrowstream"
 SOURCES = ("src", "specs")
 # What bin/build takes from nothing: 52 minutes on 4 cores that had other work too.
-COST = "up to an hour and 9 GB of disk on 4 cores"
+COST = "about an hour and 9 GB of disk on 4 cores"
 
 
 def modified(path):
