@@ -21,11 +21,10 @@ use Rattle.ipc_model.specs.declared.schema.Schema.{Schema}
 use Rattle.ipc_text_temporal.specs.declared.fault.TextFault.{TextFault}
 use Rattle.job_print.specs.declared.form.PrintOptions.{PrintOptions}
 use Rattle.job_print.specs.declared.stop.Outcome.TheVariants.{Whole, Limited, Broken, Refused as Lacking}
-use Rattle.job_print.specs.Columns.{AreNumberColumns}
 use Rattle.job_print.specs.FirstRows.{batch_prefix, within, AreWanted, HasReached, WantsMoreRows, wanted_rows}
 use Rattle.job_print.specs.Forms.{batch_heading as heading, line_of, HaveLines, HaveAllLines, row_count}
 use Rattle.job_print.specs.Output.{Output, output, Puts, PutFails}
-use Rattle.job_print.specs.Rows.{AreNumberRows, lines, batch_lines, last_lines}
+use Rattle.job_print.specs.Rows.{lines, batch_lines, last_lines}
 use Rattle.ipc_stream_read.specs.Decoding.{ReportsLastEvent}
 use Rattle.job_print.proofs.Shortest.{last_shortest, none_shorter}
 use Rattle.job_print.specs.Streams.{AreShortest, IsTally, PrintsRows, PrintsPart, PrintsBatches, PutsRows, as_required}
@@ -36,7 +35,6 @@ use Rattle.job_print.proofs.Shown.{all_more}
 use Rattle.job_print.proofs.Lines.{put_at, not_at}
 use Rattle.job_print.proofs.Messages.{Came, Counted, ReadsCounted, came, counted_then, broke, ended, ends_counted, gave, reads_then}
 use Rattle.job_print.proofs.Texts.{batch_lines_more, last_lines_more}
-use Rattle.job_print.proofs.BatchesShown.{batch_shown}
 use Rattle.std.specs.Prelude.{Bool, IsTrue, false, true, unwrap_or}
 use Rattle.ipc_stream_read.specs.declared.end.End.TheVariants.{Closed, Mark}
 use Rattle.ipc_model.specs.declared.fault.Fault.TheVariants.{Read, Truncated}
@@ -171,12 +169,6 @@ module _ (options : PrintOptions) (tally : PrintCounts) (old now new : Reader) (
   found_run found t =
       let h = gave now new now.phase new.phase t.x found b.reading t.gives in
       (h.0, subst (λ limits. Came limits now new t.x (batch_rows found)) b.same_limits (came now new t.x (batch_rows found) h.1))
-
-  -- the rows of a batch whose columns are all shown have values that are shown
-  pub found_shown : (found : ReadRows) → NextCall now new (Ok (Some found)) → AreNumberColumns old.schema.fields
-      → AreNumberRows found.0.rows
-  found_shown found t columns = batch_shown (in_force_of now) (Some (in_force_of new)) t.x (batch_rows found)
-      (subst (λ (s : Schema). AreNumberColumns s.fields) (sym b.same) columns) (found_run found t).1.run.0
 
   -- the messages of the batches before, and of the one that came
   more_run : (found : ReadRows) (t : NextCall now new (Ok (Some found)))

@@ -2,7 +2,6 @@
 use Rattle.std.proofs.Common.{◌≡◌, ◌∙◌, refl, sym, ap, subst, ℕ, zero, suc, ◌+◌, ◌*◌, ◌/◌, ◌<◌, ◌≤◌, List, [], ◌∷◌, ◌++◌, length, take}
 use Rattle.std.proofs.Common.{true, drop, get_or, Some, arith, Bool, if◌then◌else◌, ◌==◌}
 use Rattle.std.specs.Prelude.{ℤ, slice_get, slice_index_or}
-use Rattle.std.specs.Fmt.{signed_decimal}
 use Rattle.std.specs.Int.{w64, cast_signed, from_le_bytes}
 use Rattle.std.specs.List.{AllByRecursion}
 use Rattle.std.specs.Simd.{first_chunks}
@@ -22,11 +21,7 @@ use Rattle.ipc_column.specs.Lent.{AreOfColumn}
 use Rattle.ipc_column.specs.Nested.{Nested, slot_values}
 use Rattle.ipc_column.specs.Values.{is_valid, own_value}
 use Rattle.job_print.specs.Columns.{int64_in, row_in, AreLong, AreLent, IsLane}
-use Rattle.job_print.specs.Output.{Output, Puts}
-use Rattle.job_print.specs.Rows.{comma, row_start}
-use Rattle.job_print.proofs.Puts.{puts_then}
-use Rattle.job_print.proofs.Shown.{all_more, all_at, got_inside, int_text}
-use Rattle.job_print.proofs.Texts.{cell_more}
+use Rattle.job_print.proofs.Shown.{all_more, all_at, got_inside}
 
 -- the chunk behind i others
 pub chunk_at : (k i : ℕ) (xs d : List ℕ) → i < k → get_or (first_chunks 8 k xs) i d ≡ take 8 (drop (8 * i) xs)
@@ -128,53 +123,6 @@ module _ {X : Type 0} (numbers : X → List (List ℕ)) where
     same = λ i h.
         let size : length (slice_index_or rows i []) ≡ count = all_at (λ row. length row ≡ count) rows i [] h wide in
         lent.same i h ∙ take_all count (slice_index_or rows i []) (omega (arith, size));
-  }
-
-  pub got_map : (columns : List X) (row i : ℕ) (x d : X) → i < length columns → x ≡ get_or columns i d
-      → slice_get (row_in numbers columns row) i ≡ Some (int64_in (slice_index_or (numbers x) row []))
-  got_map [] row i x d inside is = absurd (omega (arith, inside))
-  got_map (y ∷ ys) row zero x d inside is = ap (λ (c : X). Some (int64_in (slice_index_or (numbers c) row []))) (sym is)
-  got_map (y ∷ ys) row (suc i) x d inside is = got_map ys row i x d (omega (arith, inside)) is
-
-  -- a row of which the first numbers were put
-  pub record RowPut (columns : List X) (row : ℕ) (old now : Output) (before i : ℕ) : Type 0 where
-    pub text : List ℕ
-    pub puts : Puts old now text
-    pub first : i ≡ 0 → (text ≡ []) × (before ≡ 91)
-    pub later : 0 < i → (text ≡ row_start (take i (row_in numbers columns row))) × (before ≡ 44)
-
-  front : (columns : List X) (row : ℕ) (old now : Output) (before i : ℕ) (put : RowPut columns row old now before i) (t : List ℕ)
-      → put.text ++ (before ∷ t) ≡ row_start (take i (row_in numbers columns row)) ++ (comma i ++ t)
-  front columns row old now before zero put t =
-      let h = put.first refl in
-      ap (λ (x : List ℕ). x ++ (before ∷ t)) h.0 ∙ ap (λ (n : ℕ). n ∷ t) h.1
-  front columns row old now before (suc i) put t =
-      let h = put.later (omega arith) in
-      ap (λ (x : List ℕ). x ++ (before ∷ t)) h.0 ∙ ap (λ (n : ℕ). row_start (take (suc i) (row_in numbers columns row)) ++ (n ∷ t)) h.1
-
-  -- the text of one number more
-  pub number_text : (columns : List X) (row : ℕ) (old now : Output) (before i : ℕ) (x d : X) (z : ℤ)
-      (put : RowPut columns row old now before i) → i < length columns → x ≡ get_or columns i d
-      → int64_in (slice_index_or (numbers x) row []) ≡ Int z
-      → put.text ++ (before ∷ signed_decimal z) ≡ row_start (take (i + 1) (row_in numbers columns row))
-  number_text columns row old now before i x d z put inside is value =
-      let at = got_map columns row i x d inside is ∙ ap (λ (w : Value). Some w) value in
-      let wide : i < length (row_in numbers columns row) =
-      omega (arith, inside, length-map columns (λ c. int64_in (slice_index_or (numbers c) row []))) in
-      front columns row old now before i put (signed_decimal z)
-      ∙ (ap (λ (x : List ℕ). row_start (take i (row_in numbers columns row)) ++ (comma i ++ x)) (sym (int_text z))
-      ∙ cell_more (row_in numbers columns row) i (Int z) wide at)
-
-  -- one number more of a row is put
-  pub number_more : (columns : List X) (row : ℕ) (old now new : Output) (before i : ℕ) (x d : X) (z : ℤ)
-      → RowPut columns row old now before i → i < length columns → x ≡ get_or columns i d
-      → int64_in (slice_index_or (numbers x) row []) ≡ Int z → Puts now new (before ∷ signed_decimal z)
-      → RowPut columns row old new 44 (i + 1)
-  number_more columns row old now new before i x d z put inside is value more = record {
-    text = put.text ++ (before ∷ signed_decimal z);
-    puts = puts_then old now new put.text (before ∷ signed_decimal z) put.puts more;
-    first = λ none. absurd (omega (arith, none));
-    later = λ some. (number_text columns row old now before i x d z put inside is value, refl);
   }
 
   -- columns with a number for each of n rows have one for each of fewer rows

@@ -1,24 +1,22 @@
 //! The rows of a batch as text, in each form.
-ghost use Rattle.std.specs.Prelude.{◌≡◌, ◌≤◌, [], length, take, Bool, IfOk, IfSome, IsSome, IsTrue};
-ghost use Rattle.std.specs.Prelude.{None};
-ghost use Rattle.ipc_text_csv.specs.RowCsv.{flat_fault};
-ghost use Rattle.ipc_text_json.specs.declared.row.RowShape.TheVariants.{Array};
-ghost use Rattle.job_print.specs.Columns.{AreNumberColumns};
+ghost use Rattle.std.specs.Prelude.{◌≡◌, ◌≤◌, [], length, take, IfOk, IfSome, IsSome, IsTrue};
+ghost use Rattle.std.specs.Prelude.{None, Some};
+ghost use Rattle.job_print.specs.Columns as spec;
+ghost use Rattle.job_print.specs.Columns.{AreNumberColumns, IsApart};
 ghost use Rattle.job_print.specs.LentRows.{AreColumnsOfRows};
 ghost use Rattle.job_print.specs.Forms.{form_fault, batch_heading, pairs_line};
 ghost use Rattle.job_print.specs.Streams.{PutsRows};
 ghost use Rattle.job_print.specs.Output.{PrintsAs, output};
-ghost use Rattle.job_print.specs.Rows.{AreNumberRows};
 
 use crate::column_reader::ColumnReader;
 use crate::form::Form;
 use crate::line::{INITIAL_LINE_LEN, fitted_line_of};
-use crate::rows::{LineBuffer, PrintFault, numbers_of};
+use crate::number_rows::{NumberForm, numbers_of};
+use crate::rows::{LineBuffer, PrintFault};
 use crate::types::are_numbers;
 use ipc_column::Batch;
 use ipc_model::{Field, Text};
 use ipc_stream::Sink;
-use ipc_text_csv::Dialect;
 use ipc_text_json::{RowShape, pairs_json};
 use ipc_text_temporal::TextFault;
 use std::alloc::{AllocError, Global};
@@ -75,18 +73,23 @@ fn prints_no_rows(form: Form<'_>) -> bool
     matches!(form, Form::Counts)
 }
 
-// Whether rows of these columns are printed in bulk.
-fn is_numeric(form: Form<'_>, fields: &[Field]) -> bool
-    ensures rows { IsTrue result → (pairs : Bool) × (form.entry ≡ Form.Rows Array pairs) }
-    ensures shown { IsTrue result → AreNumberColumns fields.now }
+// The form in which rows of these columns are printed in bulk, if they are.
+fn number_form(form: Form<'_>, fields: &[Field]) -> Option<NumberForm>
+    ensures form { IfSome result (λ numbers. spec.number_form form.entry ≡ Some numbers) }
+    ensures apart { IfSome result IsApart }
+    ensures shown { IsSome result → AreNumberColumns fields.now }
 {
-    matches!(
-        form,
+    if !are_numbers(fields) {
+        return None;
+    }
+    match form {
         Form::Rows {
             shape: RowShape::Array,
             ..
-        }
-    ) && are_numbers(fields)
+        } => Some(NumberForm::Array),
+        Form::Records(dialect) => Some(NumberForm::Record(dialect.delimiter())),
+        Form::Counts | Form::Rows { .. } => None,
+    }
 }
 
 // The line of a batch's pairs: a JSON object with the one member `metadata`.
@@ -100,35 +103,22 @@ fn line_of_pairs(alloc: Global, pairs: &[(Text, Text)]) -> Result<Vec<u8>, TextF
     Ok(line)
 }
 
-// The dialect of CSV in which rows of these columns are printed as records of numbers, if they are.
-fn record_dialect<'a>(form: Form<'a>, fields: &[Field]) -> Option<Dialect<'a>>
-    ensures form { IfSome result (λ d. form.entry ≡ Form.Records d) }
-    ensures shown { IsSome result → AreNumberColumns fields.now }
-{
-    let Form::Records(dialect) = form else {
-        return None;
-    };
-    if are_numbers(fields) {
-        Some(dialect)
-    } else {
-        None
-    }
-}
-
-// Adds the rows of a batch of numbers as records of CSV: at once where each column lends its
-// numbers.
-fn print_records<W: Sink>(
+// Adds the rows of a batch of numbers: at once if each column lends its numbers.
+fn print_numbers<W: Sink>(
     alloc: Global,
-    dialect: Dialect<'_>,
+    form: Form<'_>,
+    numbers: NumberForm,
     fields: &[Field],
     batch: &Batch,
     lines: &mut LineBuffer,
     sink: &mut W,
 ) -> Result<Option<TextFault>, PrintFault>
     requires columns { batch.now.columns ≡ length fields.now }
-    requires fits { flat_fault fields.now ≡ None }
+    requires fits { form_fault form fields.now ≡ None }
+    requires form { spec.number_form form.entry ≡ Some numbers }
+    requires apart { IsApart numbers }
     requires shown { AreNumberColumns fields.now }
-    ensures { PutsRows (Form.Records dialect.entry) fields.now [] batch.now.rows
+    ensures { PutsRows form.entry fields.now [] batch.now.rows
         (output (W.written sink.old) (W.failures sink.old) lines.old) (W.written sink.new)
         (W.failures sink.new) lines.new result }
 {
@@ -136,18 +126,10 @@ fn print_records<W: Sink>(
     let _columns = batch.columns();
     match numbers_of(alloc, batch)? {
         Some(columns) => {
-            lines.put_records(sink, dialect, &columns, batch)?;
+            lines.put_numbers(sink, numbers, &columns, batch)?;
             Ok(None)
         }
-        None => print_lines(
-            alloc,
-            Form::Records(dialect),
-            fields,
-            batch,
-            batch.rows(),
-            lines,
-            sink,
-        ),
+        None => print_lines(alloc, form, fields, batch, batch.rows(), lines, sink),
     }
 }
 
@@ -183,20 +165,14 @@ fn print_all<W: Sink>(
 ) -> Result<Option<TextFault>, PrintFault>
     requires columns { batch.now.columns ≡ length fields.now }
     requires fits { form_fault form fields.now ≡ None }
-    requires numbers { AreNumberColumns fields.now → AreNumberRows batch.now.rows }
     ensures { PutsRows form.entry fields.now [] batch.now.rows
         (output (W.written sink.old) (W.failures sink.old) lines.old) (W.written sink.new)
         (W.failures sink.new) lines.new result }
 {
-    if is_numeric(form, fields) {
-        let _columns = batch.columns();
-        lines.put_numbers(alloc, sink, batch)?;
-        return Ok(None);
+    match number_form(form, fields) {
+        Some(numbers) => print_numbers(alloc, form, numbers, fields, batch, lines, sink),
+        None => print_lines(alloc, form, fields, batch, batch.rows(), lines, sink),
     }
-    if let Some(dialect) = record_dialect(form, fields) {
-        return print_records(alloc, dialect, fields, batch, lines, sink);
-    }
-    print_lines(alloc, form, fields, batch, batch.rows(), lines, sink)
 }
 
 // Adds the first `count` rows of a batch, as `print_batch`.
@@ -212,7 +188,6 @@ fn print_batch_rows<W: Sink>(
     requires columns { batch.now.columns ≡ length fields.now }
     requires count { count ≤ length batch.now.rows }
     requires fits { form_fault form fields.now ≡ None }
-    requires numbers { AreNumberColumns fields.now → AreNumberRows batch.now.rows }
     ensures { PutsRows form.entry fields.now [] (take count batch.now.rows)
         (output (W.written sink.old) (W.failures sink.old) lines.old) (W.written sink.new)
         (W.failures sink.new) lines.new result }
@@ -246,7 +221,6 @@ pub fn print_batch<W: Sink>(
     requires columns { batch.now.columns ≡ length fields.now }
     requires count { count ≤ length batch.now.rows }
     requires fits { form_fault form fields.now ≡ None }
-    requires numbers { AreNumberColumns fields.now → AreNumberRows batch.now.rows }
     ensures { PutsRows form.entry fields.now (batch_heading form.entry pairs.now) (take count
         batch.now.rows)
         (output (W.written sink.old) (W.failures sink.old) lines.old) (W.written sink.new)

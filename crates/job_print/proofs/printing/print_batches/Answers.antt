@@ -3,10 +3,9 @@ use Rattle.std.proofs.lemmas.Result.{err_from_is_err_and}
 use Rattle.ipc_model.specs.declared.schema.Schema.{Schema}
 use Rattle.ipc_stream.proofs.Reporting.{progressed_all, progressed_break, progressed_end, progressed_less, progressed_more}
 use Rattle.ipc_stream.proofs.Reporting.{progressed_none}
-use Rattle.job_print.specs.Columns.{AreNumberColumns}
 use Rattle.job_print.specs.Output.{output}
 use Rattle.job_print.proofs.BatchesRead.{batches_none, batches_limited, batches_more, batches_cut, batches_unsent}
-use Rattle.job_print.proofs.BatchesRead.{batches_refused, batches_end, batches_unmarked, batches_break, found_shown}
+use Rattle.job_print.proofs.BatchesRead.{batches_refused, batches_end, batches_unmarked, batches_break}
 use Rattle.job_print.proofs.printing.print_batches.Goals as goal
 
 pub loop-form-init : goal.loop-form-init
@@ -14,15 +13,6 @@ loop-form-init g c = record {
   printed = rw c.none-tally.ensures (batches_none c.args.options c.args.stream.now _ c.requires.reading c.requires.empty);
   reported = λ limits start o. rw c.none-tally.ensures (progressed_none start _ _ o);
 }
-
-pub print_batch-requires-clause-numbers : goal.print_batch-requires-clause-numbers
-print_batch-requires-clause-numbers g c =
-    let below = c.has_reached.ensures.below _ c.loop-form.invariant.printed.tallies.1 c.if-has_reached.false in
-    let next = rw c.in-Ok-Some.field-0-is at c.in-Ok-Some.ensures.next in
-    let is : c.fields-fields.result.now ≡ c.args.stream.now.schema.fields =
-    c.fields-fields.ensures ∙ ap (λ (s : Schema). s.fields) (next.same_schema ∙ c.loop-form.invariant.printed.same) in
-    λ columns. found_shown c.args.options _ _ _ _ _ _ c.loop-form.invariant.printed below (c.in-Ok-Some.batch, c.in-Ok-Some.pairs) next
-    (subst AreNumberColumns is columns)
 
 pub returns-in_err-refused-in-Ok-Some-clause-prints : goal.returns-in_err-refused-in-Ok-Some-clause-prints
 returns-in_err-refused-in-Ok-Some-clause-prints g c =

@@ -1,8 +1,0 @@
-use Rattle.std.proofs.lemmas.Result.{err_from_is_err_and}
-use Rattle.job_print.proofs.Puts.{puts_never}
-use Rattle.job_print.proofs.rows.print_value_rows.Goals as goal
-
-pub returns-in_err-columns-clause-puts : goal.returns-in_err-columns-clause-puts
-returns-in_err-columns-clause-puts g c =
-    let p = err_from_is_err_and c.from_residual.result c.from_residual.ensures.1 in
-    rw (p.1, p.2) (puts_never _ _)
