@@ -1,7 +1,7 @@
 -- Rows of signed 64-bit numbers, and the lines that are printed for them.
 use Rattle.std.proofs.Common.{◌≡◌, ◌∙◌, refl, sym, ap, subst, ℕ, zero, suc, ◌+◌, ◌<◌, ◌≤◌, ◌==◌, List, [], ◌∷◌, ◌++◌, length, map, drop}
 use Rattle.std.proofs.Common.{get_or, add-one, Some, None, Ok, false, FitsSigned, if◌then◌else◌, w64, append_assoc, append-nil, arith}
-use Rattle.std.proofs.Common.{length-append}
+use Rattle.std.proofs.Common.{length-append, true}
 use Rattle.std.specs.Prelude.{ℤ, pos, negsuc, slice_index_or}
 use Rattle.std.specs.List.{AllByRecursion}
 use Rattle.std.specs.Fmt.{signed_decimal}
@@ -232,10 +232,10 @@ all_ints : {X : Type 0} (numbers : X → List (List ℕ)) (columns : List X) (ro
 all_ints numbers [] row = tt
 all_ints numbers (x ∷ xs) row = ((_, refl), all_ints numbers xs row)
 
-each_row : {P : List Value → Type 0} (rows : List (List Value)) → ((i : ℕ) → i < length rows → P (slice_index_or rows i []))
+each_row : (P : List Value → Type 0) (rows : List (List Value)) → ((i : ℕ) → i < length rows → P (slice_index_or rows i []))
     → AllByRecursion P rows
-each_row [] h = tt
-each_row (row ∷ rows) h = (h 0 (omega arith), each_row rows (λ i inside. h (suc i) (omega (arith, inside))))
+each_row P [] h = tt
+each_row P (row ∷ rows) h = (h 0 (omega arith), each_row P rows (λ i inside. h (suc i) (omega (arith, inside))))
 
 module _ (form : Form) (numbers : NumberForm) (fs : List Field) where
   -- the lines of rows whose columns lend their numbers are those of the rows in a form
@@ -246,7 +246,7 @@ module _ (form : Form) (numbers : NumberForm) (fs : List Field) where
       → form_fault form fs ≡ None → number_form form ≡ Some numbers → AreNumberColumns fs
       → AllByRecursion (λ row. length row ≡ count) rows → AreLent lent columns rows → AreLinesOf rows
   are_lines lent columns rows count is flat chosen shown wide are =
-      each_row rows
+      each_row (IsLineOf form numbers fs) rows
       (λ i inside. is_line form numbers fs (slice_index_or rows i []) flat chosen shown
       (subst (AllByRecursion IsInt) (are.same i inside) (all_ints lent columns i))
       (all_at (λ row. length row ≡ count) rows i [] inside wide ∙ is))

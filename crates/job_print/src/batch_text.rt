@@ -8,12 +8,11 @@ ghost use Rattle.job_print.specs.Forms.{form_fault, batch_heading, pairs_line};
 ghost use Rattle.job_print.specs.Streams.{PutsRows};
 ghost use Rattle.job_print.specs.Output.{PrintsAs, output};
 
-use crate::column_reader::ColumnReader;
 use crate::form::Form;
 use crate::line::{INITIAL_LINE_LEN, fitted_line_of};
-use crate::number_rows::{NumberForm, numbers_of};
+use crate::number_rows::{NumberForm, are_numbers, numbers_of};
 use crate::rows::{LineBuffer, PrintFault};
-use crate::types::are_numbers;
+use crate::tree::ColumnReader;
 use ipc_column::Batch;
 use ipc_model::{Field, Text};
 use ipc_stream::Sink;
@@ -88,7 +87,7 @@ fn number_form(form: Form<'_>, fields: &[Field]) -> Option<NumberForm>
             ..
         } => Some(NumberForm::Array),
         Form::Records(dialect) => Some(NumberForm::Record(dialect.delimiter())),
-        Form::Counts | Form::Rows { .. } => None,
+        _ => None,
     }
 }
 
@@ -115,7 +114,7 @@ fn print_numbers<W: Sink>(
 ) -> Result<Option<TextFault>, PrintFault>
     requires columns { batch.now.columns ≡ length fields.now }
     requires fits { form_fault form fields.now ≡ None }
-    requires form { spec.number_form form.entry ≡ Some numbers }
+    requires chosen { spec.number_form form ≡ Some numbers }
     requires apart { IsApart numbers }
     requires shown { AreNumberColumns fields.now }
     ensures { PutsRows form.entry fields.now [] batch.now.rows

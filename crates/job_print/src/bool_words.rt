@@ -6,7 +6,7 @@ ghost use Rattle.std.specs.Prelude.{◌≡◌, ◌≤◌, ◌<◌, ◌+◌, ◌+
 ghost use Rattle.std.specs.Int.{w64, to_le_bytes};
 ghost use Rattle.ipc_text_csv.specs.RowCsv.{bool_text};
 
-use crate::rows::put_word;
+use crate::bytes::put_word;
 
 // The words, each in the bytes of a number, the first in the lowest.
 static WORDS: [u64; 2] = [0x2020_2065_736c_6166, 0x2020_2020_6575_7274];

@@ -1,6 +1,12 @@
-//! As many bytes as the code says, at a place of a buffer. An array takes them at once, where a
-//! copy between slices asks first whether they overlap.
-ghost use Rattle.std.specs.Prelude.{◌≡◌, ◌≤◌, ◌+◌, ◌++◌, ◌∷◌, [], length, take, drop};
+//! Bytes that are written at a place of a kept buffer.
+//!
+//! An array is written at once, where a copy between slices first checks whether they overlap. A
+//! short word is two copies of a fixed size that overlap.
+ghost use Rattle.std.specs.Prelude.{◌≡◌, ◌≤◌, ◌<◌, ◌+◌, ◌++◌, ◌∷◌, [], length, take, drop, OnOk};
+ghost use Rattle.json.specs.Filled.{Placed};
+
+use std::alloc::AllocError;
+use std::simd::Simd;
 
 // Fills a place.
 #[inline(always)]
@@ -44,4 +50,78 @@ pub fn put_byte(text: &mut [u8], at: usize, byte: u8) -> usize
 {
     text[at] = byte;
     at + 1
+}
+
+/// Writes a word from `at` on, and returns where it ends.
+#[inline(always)]
+pub(crate) fn put_word(text: &mut [u8], at: usize, word: &[u8]) -> usize
+    requires { at + length word.now ≤ length text.old }
+    ensures end { result ≡ at + length word.now }
+    ensures text { take result text.new ≡ take at text.old ++ word.now }
+{
+    text[at..at + word.len()].copy_from_slice(word);
+    at + word.len()
+}
+
+/// Checks that the buffer has `count` bytes from `at` on. It fails if the buffer ends before.
+#[inline(always)]
+pub fn reserve(text: &[u8], at: usize, count: usize) -> Result<(), AllocError>
+    requires { at ≤ length text.now }
+    ensures { OnOk result (at + count ≤ length text.now) }
+{
+    if text.len() - at < count {
+        return Err(AllocError);
+    }
+    Ok(())
+}
+
+/// Writes a word from `at` on, where there is room for it, and returns where it ends.
+#[inline(always)]
+pub fn put(text: &mut [u8], at: usize, word: &[u8]) -> usize
+    requires { at + length word.now ≤ length text.old }
+    ensures end { result ≡ at + length word.now }
+    ensures inside { result ≤ length text.new }
+    ensures text { take result text.new ≡ take at text.old ++ word.now }
+{
+    put_word(text, at, word)
+}
+
+/// Writes the first N bytes of a word from `at` on, by one load and one store, and returns where
+/// they end.
+#[inline(always)]
+pub fn put_front<const N: usize>(text: &mut [u8], at: usize, word: &[u8]) -> usize
+    requires { (N ≤ length word.now) × (at + N ≤ length text.old) }
+    ensures { Placed text.old text.new at (take N word.now) result }
+{
+    Simd::<u8, N>::from_slice(word).copy_to_slice(&mut text[at..]);
+    at + N
+}
+
+/// Writes a word that has N bytes at least and twice as many at most from `at` on, and returns
+/// where it ends.
+#[inline(always)]
+pub fn put_ends<const N: usize>(text: &mut [u8], at: usize, word: &[u8]) -> usize
+    requires fits { at + length word.now ≤ length text.old }
+    requires covers { (N ≤ length word.now) × (length word.now ≤ N + N) }
+    ensures { Placed text.old text.new at word.now result }
+{
+    let last = word.len() - N;
+    put_front::<N>(text, at, word);
+    put_front::<N>(text, at + last, &word[last..])
+}
+
+/// Writes a word of at most three bytes from `at` on, and returns where it ends.
+#[inline(always)]
+pub fn copy_up_to_3(text: &mut [u8], at: usize, word: &[u8]) -> usize
+    requires fits { at + length word.now ≤ length text.old }
+    requires few { length word.now < 4 }
+    ensures { Placed text.old text.new at word.now result }
+{
+    if word.len() >= 2 {
+        put_ends::<2>(text, at, word)
+    } else if word.len() == 1 {
+        put_ends::<1>(text, at, word)
+    } else {
+        at
+    }
 }

@@ -17,15 +17,12 @@ ghost use Rattle.ipc_text_csv.specs.RowCsv.{bool_text, put_texts, row_csv, csv_t
 ghost use Rattle.ipc_text_csv.specs.RowCsv.{with_field};
 
 use crate::bool_words::put_bool_word;
-use crate::buffer_space::{put, reserve};
-use crate::column_reader::ColumnReader;
-use crate::entry::Entry;
+use crate::bytes::{put, reserve};
 use crate::fields::{
     put_bytes_field, put_end, put_front_field, put_null, put_signed_field, put_text_field,
     put_unsigned_field,
 };
-use crate::slot_reader::SlotReader;
-use crate::tree::ColumnTree;
+use crate::tree::{ColumnReader, ColumnTree, Entry, SlotReader};
 use ipc_column::Slot;
 use ipc_model::{DataType, Field, IntBits, Layout};
 use ipc_text_csv::Dialect;

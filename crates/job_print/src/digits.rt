@@ -139,23 +139,3 @@ pub fn put_i64(text: &mut [u8], at: usize, number: i64) -> usize
     text[at] = b'-';
     put_u64(text, at + usize::from(number < 0), number.unsigned_abs())
 }
-
-/// A signed number in decimal in a buffer with room for it from `at` on.
-#[inline(always)]
-pub(crate) fn put_signed(text: &mut [u8], at: usize, number: i64) -> usize
-    requires { at + 25 ≤ length text.old }
-    ensures inside { result ≤ length text.new }
-    ensures text { take result text.new ≡ take at text.old ++ signed_decimal number }
-{
-    put_i64(text, at, number)
-}
-
-/// An unsigned number in decimal in a buffer with room for it from `at` on.
-#[inline(always)]
-pub(crate) fn put_unsigned(text: &mut [u8], at: usize, number: u64) -> usize
-    requires { at + 24 ≤ length text.old }
-    ensures inside { result ≤ length text.new }
-    ensures text { take result text.new ≡ take at text.old ++ decimal number }
-{
-    put_u64(text, at, number)
-}

@@ -14,11 +14,9 @@ ghost use Rattle.ipc_text_csv.specs.RowCsv.{unless_null, with_field};
 ghost use Rattle.std.specs.Prelude.{ℕ};
 ghost use Rattle.job_print.specs.Unquoted.{BeginsApart};
 
-use crate::buffer_space::{put, reserve};
-use crate::copies::copy_up_to_3;
-use crate::digits::{put_signed, put_unsigned};
+use crate::bytes::{copy_up_to_3, put, put_word, reserve};
+use crate::digits::{put_i64, put_u64};
 use crate::hexadecimal::put_hexadecimal;
-use crate::rows::put_word;
 use crate::unquoted::{put_front_if_unquoted, put_if_unquoted};
 use ipc_text_csv::Dialect;
 use ipc_text_temporal::TextFault;
@@ -302,7 +300,7 @@ pub(crate) fn put_signed_field(text: &mut [u8], at: usize, number: i64) -> usize
     ensures text { (d : Dialect) → take result text.new
         ≡ with_field d.delimiter (take at text.old) (signed_decimal number) }
 {
-    put_signed(text, at, number)
+    put_i64(text, at, number)
 }
 
 // Writes an unsigned number as a field of CSV from `at` on, and returns where it ends.
@@ -313,7 +311,7 @@ pub(crate) fn put_unsigned_field(text: &mut [u8], at: usize, number: u64) -> usi
     ensures text { (d : Dialect) → take result text.new
         ≡ with_field d.delimiter (take at text.old) (decimal number) }
 {
-    put_unsigned(text, at, number)
+    put_u64(text, at, number)
 }
 
 // Writes bytes as a field of CSV from `at` on, two lower-case hexadecimal digits for each, and

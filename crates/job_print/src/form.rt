@@ -1,4 +1,8 @@
-//! The forms in which a stream is printed, and the options of printing.
+//! The forms in which a stream is printed, the options of printing, and its limit of rows.
+ghost use Rattle.std.specs.Prelude.{◌≡◌, ◌≤◌, ℕ, IsFalse, IsTrue};
+ghost use Rattle.ipc_stream_read.specs.Counts.{count_up};
+ghost use Rattle.job_print.specs.FirstRows.{HasReached, WantsMoreRows, wanted_rows};
+
 use ipc_text_csv::Dialect;
 use ipc_text_json::RowShape;
 
@@ -29,4 +33,29 @@ pub struct PrintOptions<'a> {
     pub require_mark: bool,
     /// How many rows are printed at most. All are printed if it is `None`.
     pub limit: Option<u64>,
+}
+
+/// Whether no more rows are printed after `rows` rows. A count of rows stops at 2^64 - 1.
+pub fn has_reached(limit: Option<u64>, rows: u64) -> bool
+    ensures reached { IsTrue result → HasReached limit rows }
+    ensures below { (count : ℕ) → rows ≡ count_up 0 count → IsFalse result
+        → WantsMoreRows limit count }
+{
+    match limit {
+        None => false,
+        Some(limit) => limit <= rows,
+    }
+}
+
+/// How many of a batch's `rows` rows are printed, if `before` rows came before it. A count of rows
+/// stops at 2^64 - 1.
+pub fn count_wanted(limit: Option<u64>, before: u64, rows: usize) -> usize
+    ensures wanted { (count : ℕ) → before ≡ count_up 0 count
+        → result ≡ wanted_rows limit count rows }
+    ensures most { result ≤ rows }
+{
+    match limit {
+        None => rows,
+        Some(limit) => limit.saturating_sub(before).min(rows as u64) as usize,
+    }
 }

@@ -5,8 +5,7 @@ ghost use Rattle.std.specs.Prelude.{◌≡◌, ◌≤◌, ◌<◌, ◌+◌, ◌*
 ghost use Rattle.std.specs.Char.{digit_char};
 ghost use Rattle.hex.specs.Hex.{encode_lower};
 
-use crate::buffer_space::reserve;
-use crate::rows::put_word;
+use crate::bytes::{put_word, reserve};
 use std::alloc::AllocError;
 
 /// The digit of a number below 16, in lower case.

@@ -22,14 +22,11 @@ ghost use Rattle.ipc_text_json.specs.RowTokens.{closing, opening};
 ghost use Rattle.ipc_text_json.specs.declared.row.RowShape.{RowShape};
 
 use crate::bool_words::put_bool_word;
-use crate::buffer_space::{put, reserve};
-use crate::column_reader::ColumnReader;
-use crate::digits::{put_signed, put_unsigned};
-use crate::entry::Entry;
+use crate::bytes::{put, reserve};
+use crate::digits::{put_i64, put_u64};
 use crate::hexadecimal::put_hexadecimal;
-use crate::slot_reader::SlotReader;
 use crate::strings::{put_front, put_string};
-use crate::tree::ColumnTree;
+use crate::tree::{ColumnReader, ColumnTree, Entry, SlotReader};
 use ipc_column::Slot;
 use ipc_model::{DataType, Field, IntBits, Layout};
 use ipc_text_json::RowShape;
@@ -80,7 +77,7 @@ fn write_plain_number(text: &mut [u8], at: usize, number: i64) -> usize
     ensures inside { result ≤ length text.new }
     ensures text { take result text.new ≡ take at text.old ++ signed_decimal number }
 {
-    put_signed(text, at, number)
+    put_i64(text, at, number)
 }
 
 // A date, a time or a point in time as its text where it has one, and else the number.
@@ -107,7 +104,7 @@ fn put_int(text: &mut [u8], at: usize, kind: &DataType, number: i64) -> usize
         ≡ take at text.old ++ compact_text (int_json kind.now number) }
 {
     match kind {
-        DataType::Int { .. } => put_signed(text, at, number),
+        DataType::Int { .. } => put_i64(text, at, number),
         _ => write_temporal(text, at, kind, number),
     }
 }
@@ -224,7 +221,7 @@ fn put_slot(
         Slot::Null => Ok(put_null(text, at)),
         Slot::Bool(truth) => Ok(put_bool(text, at, truth)),
         Slot::Int(number) => Ok(put_int(text, at, &field.kind, number)),
-        Slot::UInt(number) => Ok(put_unsigned(text, at, number)),
+        Slot::UInt(number) => Ok(put_u64(text, at, number)),
         Slot::Bytes(bytes) => put_bytes(text, at, bytes),
         Slot::Text(chars) => put_string(text, at, chars),
         Slot::List { from, to } => {

@@ -3,29 +3,22 @@
 
 mod batch_text;
 mod bool_words;
-mod buffer_space;
 mod bytes;
-mod column_reader;
-mod copies;
 mod csv_row;
 mod digits;
-mod entry;
 mod fields;
 mod form;
 mod hexadecimal;
 mod json_row;
-mod limit;
 mod line;
 mod number_rows;
 mod plain;
 mod printing;
 mod rows;
 mod schema;
-mod slot_reader;
 mod stop;
 mod strings;
 mod tree;
-mod types;
 mod unquoted;
 
 pub use digits::{put_i64, put_u64};

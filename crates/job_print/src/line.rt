@@ -5,10 +5,10 @@ ghost use Rattle.job_print.specs.Forms as spec;
 ghost use Rattle.job_print.specs.Forms.{HasLine, LacksRecord, form_fault};
 ghost use Rattle.job_print.specs.LentRows.{HaveRow, row_at};
 
-use crate::column_reader::ColumnReader;
 use crate::csv_row::csv_line;
 use crate::form::Form;
 use crate::json_row::json_line;
+use crate::tree::ColumnReader;
 use ipc_model::Field;
 use ipc_text_temporal::TextFault;
 use std::alloc::AllocError;

@@ -1,21 +1,22 @@
 //! Rows of signed 64-bit numbers: room is reserved once for a row, and not for each number.
 ghost use Rattle.std.specs.Prelude.{◌≡◌, ◌≤◌, ◌<◌, ◌+◌, ◌*◌, ◌++◌, [], ℕ, List, length, take};
-ghost use Rattle.std.specs.Prelude.{IfOk, IfSome, slice_index_or};
+ghost use Rattle.std.specs.Prelude.{◌↔◌, IfOk, IfSome, IsTrue, slice_index_or, true};
 ghost use Rattle.std.specs.Int.{cast_signed, from_le_bytes, w64};
 ghost use Rattle.ipc_model.specs.declared.value.Value.{Value};
 ghost use Rattle.ipc_column.specs.Lending.{AreNumbers};
 ghost use Rattle.ipc_column.specs.Lent.{AreOfColumn};
 ghost use Rattle.ipc_column.specs.Nested.{Nested, slot_values};
-ghost use Rattle.job_print.specs.Columns.{AreLent, AreLong, IsApart, IsLane, closing_of};
+ghost use Rattle.job_print.specs.Columns.{AreLent, AreLong, AreNumberColumns, IsApart, IsLane};
+ghost use Rattle.job_print.specs.Columns.{IsNumberColumn, closing_of};
 ghost use Rattle.job_print.specs.Columns.{delimiter_of, number_line, opening_of, row_in, separator};
 ghost use Rattle.job_print.specs.Output.{PrintsAt, output};
 ghost use Rattle.job_print.specs.Rows.{lines};
 
-use crate::bytes::{put_array, put_byte};
+use crate::bytes::{put_array, put_byte, put_word};
 use crate::digits::put_i64;
-use crate::rows::{PrintFault, put_word, send};
+use crate::rows::{PrintFault, send};
 use ipc_column::{Batch, Numbers};
-use ipc_model::IntBits;
+use ipc_model::{DataType, Field, IntBits};
 use ipc_stream::Sink;
 use std::alloc::{AllocError, Global};
 
@@ -41,8 +42,35 @@ impl NumberForm {
     }
 }
 
-// The most columns of which rows are written in bulk. A row of 1,000 numbers takes less than half of
-// the kept text.
+// Whether values of a type are signed numbers of 64 bits.
+fn is_number(kind: &DataType) -> bool
+    ensures { IsTrue result ↔ (kind.now ≡ DataType.Int IntBits.B64 true) }
+{
+    matches!(
+        kind,
+        DataType::Int {
+            bits: IntBits::B64,
+            signed: true
+        }
+    )
+}
+
+// Whether a column holds signed numbers of 64 bits, without a dictionary.
+fn is_shown(field: &Field) -> bool
+    ensures { IsTrue result ↔ IsNumberColumn field.now }
+{
+    is_number(&field.kind) && field.dictionary.is_none()
+}
+
+/// Whether each column holds signed numbers of 64 bits, without a dictionary.
+pub fn are_numbers(fields: &[Field]) -> bool
+    ensures { IsTrue result ↔ AreNumberColumns fields.now }
+{
+    fields.iter().all(is_shown)
+}
+
+// The most columns of which rows are written in bulk. A row of 1,000 numbers takes less than half
+// of the kept text.
 const MAX_COLUMNS: usize = 1_000;
 
 // Numbers that were lent, eight bytes each, where they are signed and of 64 bits and none is null.
@@ -215,10 +243,10 @@ fn print_number_row<W: Sink>(
     Ok(put_row(text, at, form, columns, row))
 }
 
-/// Prints the rows of a batch, given its columns' numbers, from `start` on, and returns where the
-/// last one ends. The caller gives a text with room for a row.
-#[inline(never)]
-pub(crate) fn print_number_rows<W: Sink>(
+// Prints the rows of a batch, given its columns' numbers, from `start` on, and returns where the
+// last one ends.
+#[inline(always)]
+fn print_rows<W: Sink>(
     sink: &mut W,
     text: &mut [u8],
     start: usize,
@@ -240,4 +268,34 @@ pub(crate) fn print_number_rows<W: Sink>(
         at = print_number_row(sink, text, at, form, columns, row)?;
     }
     Ok(at)
+}
+
+/// Prints the rows of a batch, given its columns' numbers, from `start` on, and returns where the
+/// last one ends. The caller gives a text with room for a row.
+#[inline(never)]
+pub(crate) fn print_number_rows<W: Sink>(
+    sink: &mut W,
+    text: &mut [u8],
+    start: usize,
+    form: NumberForm,
+    columns: &[&[[u8; 8]]],
+    batch: &Batch,
+) -> Result<usize, PrintFault>
+    requires apart { IsApart form }
+    requires lent { AreLent (λ c. c.now) columns.now batch.now.rows }
+    requires start { start ≤ length text.old }
+    requires room { 26 * length columns.now + 3 ≤ length text.old }
+    ensures inside { IfOk result (λ end. end ≤ length text.new) }
+    ensures puts { PrintsAt (output (W.written sink.old) (W.failures sink.old)
+        (take start text.old)) (W.written sink.new) (W.failures sink.new) text.new
+        (lines (number_line form) batch.now.rows) result }
+{
+    // Each arm is compiled for its form, so that no number asks for it.
+    match form {
+        NumberForm::Array => print_rows(sink, text, start, NumberForm::Array, columns, batch),
+        NumberForm::Record(delimiter) => {
+            let form = NumberForm::Record(delimiter);
+            print_rows(sink, text, start, form, columns, batch)
+        }
+    }
 }

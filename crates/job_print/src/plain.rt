@@ -5,8 +5,7 @@ ghost use Rattle.std.specs.Bool.{OnTrue};
 ghost use Rattle.json.specs.Print.{escape};
 ghost use Rattle.json.specs.Written.{PlainBetween};
 
-use crate::copies::{copy_up_to_3, put_ends, put_front};
-use crate::rows::put_word;
+use crate::bytes::{copy_up_to_3, put_ends, put_front, put_word};
 use std::simd::prelude::*;
 
 // Four bytes from a place on.

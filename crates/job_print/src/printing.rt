@@ -20,8 +20,7 @@ ghost use Rattle.job_print.specs.Streams.{CountsPrintFailures};
 ghost use Rattle.job_print.specs.Streams.{exit_status, outcome_tail, write_fault};
 
 use crate::batch_text::print_batch;
-use crate::form::{Form, PrintOptions};
-use crate::limit::{count_wanted, has_reached};
+use crate::form::{Form, PrintOptions, count_wanted, has_reached};
 use crate::rows::{LineBuffer, PrintFault};
 use crate::stop::{Outcome, PrintCounts, PrintStop};
 use ipc_model::{Fault, Limits, Schema, WriteFault};

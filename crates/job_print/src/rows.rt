@@ -7,10 +7,11 @@ ghost use Rattle.job_print.specs.LentRows.{HaveRow, row_at};
 ghost use Rattle.job_print.specs.Output.{PrintsAs, PrintsAt, output};
 ghost use Rattle.job_print.specs.Rows.{lines};
 
-use crate::column_reader::ColumnReader;
+use crate::bytes::put_word;
 use crate::form::Form;
 use crate::line::add_line;
 use crate::number_rows::{NumberForm, print_number_rows};
+use crate::tree::ColumnReader;
 use ipc_column::Batch;
 use ipc_model::Field;
 use ipc_stream::Sink;
@@ -56,17 +57,6 @@ pub(crate) fn send<W: Sink>(sink: &mut W, text: &[u8]) -> Result<(), PrintFault>
         }
     }
     Ok(())
-}
-
-// Writes a word from `at` on, and returns where it ends.
-#[inline(always)]
-pub(crate) fn put_word(text: &mut [u8], at: usize, word: &[u8]) -> usize
-    requires { at + length word.now ≤ length text.old }
-    ensures end { result ≡ at + length word.now }
-    ensures text { take result text.new ≡ take at text.old ++ word.now }
-{
-    text[at..at + word.len()].copy_from_slice(word);
-    at + word.len()
 }
 
 // Adds a text of any length after the first `start` bytes, and returns where it ends.
@@ -164,9 +154,9 @@ impl LineBuffer {
         }
     }
 
-    /// Adds the line of each row of a batch, whose columns have these numbers. Full text goes to the
-    /// sink. The only error is `Write`, if the sink failed; then a beginning of the rows went out,
-    /// and the kept text is lost.
+    /// Adds the line of each row of a batch, whose columns have these numbers. Full text goes to
+    /// the sink. The only error is `Write`, if the sink failed; then a beginning of the rows went
+    /// out, and the kept text is lost.
     pub(crate) fn put_numbers<W: Sink>(
         &mut self,
         sink: &mut W,

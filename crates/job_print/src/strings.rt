@@ -3,10 +3,9 @@ ghost use Rattle.std.specs.Prelude.{◌≡◌, ◌≤◌, ◌+◌, ◌++◌, len
 ghost use Rattle.std.specs.Bool.{OnTrue};
 ghost use Rattle.json.specs.Print.{escape, escape_byte, quoted};
 
-use crate::buffer_space::{put, reserve};
+use crate::bytes::{put, put_word, reserve};
 use crate::hexadecimal::hex_digit;
 use crate::plain::{put_front_if_plain, put_if_plain};
-use crate::rows::put_word;
 use std::alloc::AllocError;
 
 // Writes a byte as JSON writes it in a string, from `at` on, and returns where it ends.

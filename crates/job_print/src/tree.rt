@@ -1,17 +1,95 @@
-//! The slots of a column and of all columns below it, each found in the body once for all rows.
+//! The columns of a batch and all columns below them, each found in the body once for all rows.
 ghost use Rattle.std.specs.Prelude.{◌≡◌, ◌<◌, ◌≤◌, true, length, slice_get, Some, IfOk, IfSome};
 ghost use Rattle.ipc_column.specs.Nested.{child_columns, slot_values};
 ghost use Rattle.ipc_column.specs.Slots.{HasChildSlots, nested_in, value_in_slot, text_prefix};
 ghost use Rattle.ipc_column.specs.Values.{row};
-ghost use Rattle.job_print.specs.Entries.{IsEntryOf};
+ghost use Rattle.job_print.specs.Entries.{AreTexts, IsEntryOf};
 ghost use Rattle.job_print.specs.SlotReaders.{IsReaderOf};
 
-use crate::entry::{Entry, entry_of, texts_of};
-use crate::slot_reader::{SlotReader, slot_reader_of};
-use ipc_column::{Slot, SlotView};
-use ipc_model::Layout;
+use ipc_column::{ColumnView, Slot, SlotView};
+use ipc_model::{IntBits, Layout};
 use std::alloc::{AllocError, Global};
 use std::marker::Model;
+
+/// The layout of a column's slots, found once for all rows, so that one jump leads to the code that
+/// is compiled for it.
+#[derive(Clone, Copy, Debug, Drop)]
+pub enum SlotReader {
+    /// Signed numbers of 64 bits.
+    Int64,
+    /// Signed numbers of 32 bits.
+    Int32,
+    /// Truth values.
+    Bool,
+    /// Texts.
+    Utf8,
+    /// Fixed-size binary of this width in bytes.
+    Bytes(u32),
+    /// Any other layout.
+    Others,
+}
+
+/// Returns the reader of slots of a layout.
+pub fn slot_reader_of(layout: Layout) -> SlotReader
+    ensures { IsReaderOf result layout }
+{
+    match layout {
+        Layout::Numbers {
+            bits: IntBits::B64,
+            signed: true,
+        } => SlotReader::Int64,
+        Layout::Numbers {
+            bits: IntBits::B32,
+            signed: true,
+        } => SlotReader::Int32,
+        Layout::Bits => SlotReader::Bool,
+        Layout::VariableBytes { utf8: true } => SlotReader::Utf8,
+        Layout::FixedBytes(width) => SlotReader::Bytes(width),
+        _ => SlotReader::Others,
+    }
+}
+
+/// What a slot of a column shows, as its index gives it.
+#[derive(Clone, Copy, Debug, Drop)]
+pub enum Entry<'a> {
+    /// A text of the dictionary: bytes that begin with it, and how many of them it has.
+    Text(&'a [u8], usize),
+    /// The slot is null, or the value of its dictionary is.
+    Null,
+    /// The column has no dictionary of texts.
+    Others,
+}
+
+/// The slots of the values of a column's dictionary, where they are texts.
+pub(crate) fn texts_of<'a>(slots: &SlotView<'a>) -> Option<SlotView<'a>>
+    ensures { IfSome result (λ entries. AreTexts slots.now entries) }
+{
+    let Layout::Indices { .. } = slots.layout() else {
+        return None;
+    };
+    let entries = slots.entries()?;
+    let Layout::VariableBytes { utf8: true } = entries.layout() else {
+        return None;
+    };
+    Some(entries)
+}
+
+/// What a slot shows by its index, where these are the texts of the column's dictionary. The caller
+/// gives a slot below `len`.
+#[inline(always)]
+pub(crate) fn entry_of<'a>(slots: &SlotView<'a>, texts: &SlotView<'a>, slot: usize) -> Entry<'a>
+    requires texts { AreTexts slots.now texts.now }
+    requires slot { slot < length (slot_values slots.now) }
+    ensures { IsEntryOf slots.now slot result }
+{
+    let Some(place) = slots.entry_at(slot) else {
+        return Entry::Null;
+    };
+    match texts.text_at(place) {
+        Some((bytes, len)) => Entry::Text(bytes, len),
+        None => Entry::Null,
+    }
+}
 
 /// A column and all columns below it, lent by their batch: contracts see its buffers and those of
 /// its children, as they do of a `SlotView`.
@@ -156,4 +234,42 @@ pub fn tree_of<'a>(alloc: Global, slots: SlotView<'a>) -> Result<ColumnTree<'a>,
         texts,
         children,
     })
+}
+
+/// A column of a batch, lent, with all columns below it: contracts see it as the list of its
+/// values, as they do of a `ColumnView`.
+#[derive(Drop)]
+pub struct ColumnReader<'a> {
+    tree: ColumnTree<'a>,
+}
+
+impl<'a> Model for ColumnReader<'a> {
+    ghost use Rattle.std.specs.Coded.{codes};
+    ghost use Rattle.ipc_model.specs.contracts.value.Value as value;
+    ghost use Rattle.ipc_column.specs.Nested.{slot_values};
+    ghost use Rattle.ipc_column.specs.Values.{Cells};
+
+    ghost Value = { Cells };
+
+    ghost coded = { Prim.hlevel (codes, value.the_row.coded) };
+
+    ghost view = { λ c. slot_values c.tree };
+}
+
+impl<'a> ColumnReader<'a> {
+    /// Finds all columns below this one. It refuses only where memory ran out.
+    pub fn new(alloc: Global, values: ColumnView<'a>) -> Result<ColumnReader<'a>, AllocError>
+        ensures { IfOk result (λ column. column ≡ values.entry) }
+    {
+        let tree = tree_of(alloc, values.slots())?;
+        Ok(ColumnReader { tree })
+    }
+
+    /// The slots of the column and of those below it.
+    #[inline(always)]
+    pub fn tree(&self) -> &ColumnTree<'a>
+        ensures { slot_values result.now ≡ self.now }
+    {
+        &self.tree
+    }
 }

@@ -6,8 +6,7 @@ ghost use Rattle.csv.specs.Writing.{needs_quotes};
 ghost use Rattle.ipc_text_csv.specs.Dialects.{writer};
 ghost use Rattle.job_print.specs.Unquoted.{NeedNone};
 
-use crate::copies::{copy_up_to_3, put_ends, put_front};
-use crate::rows::put_word;
+use crate::bytes::{copy_up_to_3, put_ends, put_front, put_word};
 use std::simd::prelude::*;
 
 // Four bytes from a place on.

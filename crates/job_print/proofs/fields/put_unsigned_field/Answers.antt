@@ -3,4 +3,4 @@ use Rattle.job_print.proofs.fields.put_unsigned_field.Goals as goal
 
 pub returns-clause-text : goal.returns-clause-text
 returns-clause-text c d = rw (unsigned_as_it_stands d.delimiter d.allowed.apart c.args.number c.ranges.number.fits)
-    c.put_unsigned.ensures.text
+    c.put_u64.ensures.text

@@ -34,7 +34,7 @@ pub put_slot-returns-in-UInt-clause-text : goal.put_slot-returns-in-UInt-clause-
 put_slot-returns-in-UInt-clause-text t c =
     rw (slot_json c.args.shape c.args.field.now c.args.column.now c.args.slot (slot.UInt c.in-UInt.number)
     (rw c.in-UInt.is at c.at.ensures.value))
-    c.put_unsigned.ensures.text
+    c.put_u64.ensures.text
 
 pub put_slot-returns-in-Bytes-clause-text : goal.put_slot-returns-in-Bytes-clause-text
 put_slot-returns-in-Bytes-clause-text t c =

@@ -2,7 +2,7 @@ use Rattle.std.proofs.Common.{◌≤◌, length, take}
 use Rattle.job_print.specs.Output.{output, Puts}
 use Rattle.job_print.specs.Columns.{number_line}
 use Rattle.job_print.specs.Rows.{lines}
-use Rattle.job_print.proofs.number_rows.print_number_rows.Given as goal
+use Rattle.job_print.proofs.number_rows.print_rows.Given as goal
 
 -- the first rows were put
 abbrev pub invariant-loop-row : goal.invariant-loop-row

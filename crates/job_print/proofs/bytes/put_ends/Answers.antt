@@ -1,7 +1,7 @@
 use Rattle.std.proofs.Common.{◌-◌, rules, length}
 use Rattle.std.proofs.lemmas.List.{take_rest}
 use Rattle.json.proofs.Printed.Places.{Placed-ends}
-use Rattle.job_print.proofs.copies.put_ends.Goals as goal
+use Rattle.job_print.proofs.bytes.put_ends.Goals as goal
 
 pub returns : goal.returns
 returns g c =
