@@ -162,9 +162,10 @@ fn put_other(
     }
 }
 
-// What a slot holds, which is this: most often a signed number.
+// Writes what a slot holds, which is this, in a column of numbers, truth values or fixed-size
+// binary. Each call names a layout, so only the arms of that layout are compiled for it.
 #[inline(always)]
-fn put_number_slot(
+fn put_leaf(
     text: &mut [u8],
     at: usize,
     dialect: &Dialect<'_>,
@@ -186,63 +187,7 @@ fn put_number_slot(
 {
     match held {
         Slot::Int(number) => put_int(text, at, column, kind, number),
-        Slot::Null => Ok(put_null(text, at, dialect)?),
-        _ => put_other(text, at, dialect, column, kind, tree, slot),
-    }
-}
-
-// The same, most often a truth value.
-#[inline(always)]
-fn put_bool_slot(
-    text: &mut [u8],
-    at: usize,
-    dialect: &Dialect<'_>,
-    column: u64,
-    kind: &DataType,
-    tree: &ColumnTree<'_>,
-    slot: usize,
-    held: Slot<'_>,
-) -> Result<usize, TextFault>
-    requires room { at + 32 ≤ length text.old }
-    requires slot { slot < length (slot_values tree.now) }
-    requires held { slice_get (slot_values tree.now) slot
-        ≡ Some (value_in_slot (row (child_columns tree.now)) slot held) }
-    ensures inside { IfOk result (λ end. end ≤ length text.new) }
-    ensures ok { IfOk result (λ end. Appended dialect.now.delimiter (take at text.old)
-        (csv_text dialect.now kind.now (slot_value tree.now slot)) (take end text.new)) }
-    ensures refused { IfErr result
-        (RefusesValue column (csv_text dialect.now kind.now (slot_value tree.now slot))) }
-{
-    match held {
         Slot::Bool(truth) => Ok(put_bool(text, at, truth)),
-        Slot::Null => Ok(put_null(text, at, dialect)?),
-        _ => put_other(text, at, dialect, column, kind, tree, slot),
-    }
-}
-
-// The same, most often bytes.
-#[inline(always)]
-fn put_bytes_slot(
-    text: &mut [u8],
-    at: usize,
-    dialect: &Dialect<'_>,
-    column: u64,
-    kind: &DataType,
-    tree: &ColumnTree<'_>,
-    slot: usize,
-    held: Slot<'_>,
-) -> Result<usize, TextFault>
-    requires room { at + 32 ≤ length text.old }
-    requires slot { slot < length (slot_values tree.now) }
-    requires held { slice_get (slot_values tree.now) slot
-        ≡ Some (value_in_slot (row (child_columns tree.now)) slot held) }
-    ensures inside { IfOk result (λ end. end ≤ length text.new) }
-    ensures ok { IfOk result (λ end. Appended dialect.now.delimiter (take at text.old)
-        (csv_text dialect.now kind.now (slot_value tree.now slot)) (take end text.new)) }
-    ensures refused { IfErr result
-        (RefusesValue column (csv_text dialect.now kind.now (slot_value tree.now slot))) }
-{
-    match held {
         Slot::Bytes(bytes) => put_bytes_field(text, at, dialect, column, bytes),
         Slot::Null => Ok(put_null(text, at, dialect)?),
         _ => put_other(text, at, dialect, column, kind, tree, slot),
@@ -303,7 +248,7 @@ fn put_cell(
                 },
                 slot,
             );
-            put_number_slot(text, at, dialect, column, kind, tree, slot, held)
+            put_leaf(text, at, dialect, column, kind, tree, slot, held)
         }
         SlotReader::Int32 => {
             let held = tree.at_layout(
@@ -313,16 +258,16 @@ fn put_cell(
                 },
                 slot,
             );
-            put_number_slot(text, at, dialect, column, kind, tree, slot, held)
+            put_leaf(text, at, dialect, column, kind, tree, slot, held)
         }
         SlotReader::Bool => {
             let held = tree.at_layout(Layout::Bits, slot);
-            put_bool_slot(text, at, dialect, column, kind, tree, slot, held)
+            put_leaf(text, at, dialect, column, kind, tree, slot, held)
         }
         SlotReader::Utf8 => put_text_slot(text, at, dialect, column, tree, slot),
         SlotReader::Bytes(width) => {
             let held = tree.at_layout(Layout::FixedBytes(width), slot);
-            put_bytes_slot(text, at, dialect, column, kind, tree, slot, held)
+            put_leaf(text, at, dialect, column, kind, tree, slot, held)
         }
         SlotReader::Others => put_other(text, at, dialect, column, kind, tree, slot),
     }

@@ -380,9 +380,10 @@ fn put_other(
     }
 }
 
-// What a slot of a row holds, which is this: most often a signed number.
+// Writes what a slot of a row holds, which is this, in a column of numbers, truth values or
+// fixed-size binary. Each call names a layout, so only the arms of that layout are compiled for it.
 #[inline(always)]
-fn put_number_slot(
+fn put_leaf(
     text: &mut [u8],
     at: usize,
     shape: RowShape,
@@ -401,57 +402,7 @@ fn put_number_slot(
 {
     match held {
         Slot::Int(number) => Ok(put_int(text, at, &field.kind, number)),
-        Slot::Null => Ok(put_null(text, at)),
-        _ => put_other(text, at, shape, field, column, slot),
-    }
-}
-
-// The same, most often a truth value.
-#[inline(always)]
-fn put_bool_slot(
-    text: &mut [u8],
-    at: usize,
-    shape: RowShape,
-    field: &Field,
-    column: &ColumnTree<'_>,
-    slot: usize,
-    held: Slot<'_>,
-) -> Result<usize, AllocError>
-    requires room { at + 34 ≤ length text.old }
-    requires slot { slot < length (slot_values column.now) }
-    requires held { slice_get (slot_values column.now) slot
-        ≡ Some (value_in_slot (row (child_columns column.now)) slot held) }
-    ensures inside { IfOk result (λ end. end ≤ length text.new) }
-    ensures text { IfOk result (λ end. take end text.new ≡ take at text.old
-        ++ compact_text (cell_json shape field.now (slot_value column.now slot))) }
-{
-    match held {
         Slot::Bool(truth) => Ok(put_bool(text, at, truth)),
-        Slot::Null => Ok(put_null(text, at)),
-        _ => put_other(text, at, shape, field, column, slot),
-    }
-}
-
-// The same, most often bytes.
-#[inline(always)]
-fn put_bytes_slot(
-    text: &mut [u8],
-    at: usize,
-    shape: RowShape,
-    field: &Field,
-    column: &ColumnTree<'_>,
-    slot: usize,
-    held: Slot<'_>,
-) -> Result<usize, AllocError>
-    requires room { at + 34 ≤ length text.old }
-    requires slot { slot < length (slot_values column.now) }
-    requires held { slice_get (slot_values column.now) slot
-        ≡ Some (value_in_slot (row (child_columns column.now)) slot held) }
-    ensures inside { IfOk result (λ end. end ≤ length text.new) }
-    ensures text { IfOk result (λ end. take end text.new ≡ take at text.old
-        ++ compact_text (cell_json shape field.now (slot_value column.now slot))) }
-{
-    match held {
         Slot::Bytes(bytes) => put_bytes(text, at, bytes),
         Slot::Null => Ok(put_null(text, at)),
         _ => put_other(text, at, shape, field, column, slot),
@@ -505,7 +456,7 @@ fn put_cell(
                 },
                 slot,
             );
-            put_number_slot(text, at, shape, field, column, slot, held)
+            put_leaf(text, at, shape, field, column, slot, held)
         }
         SlotReader::Int32 => {
             let held = column.at_layout(
@@ -515,16 +466,16 @@ fn put_cell(
                 },
                 slot,
             );
-            put_number_slot(text, at, shape, field, column, slot, held)
+            put_leaf(text, at, shape, field, column, slot, held)
         }
         SlotReader::Bool => {
             let held = column.at_layout(Layout::Bits, slot);
-            put_bool_slot(text, at, shape, field, column, slot, held)
+            put_leaf(text, at, shape, field, column, slot, held)
         }
         SlotReader::Utf8 => put_text_slot(text, at, column, slot),
         SlotReader::Bytes(width) => {
             let held = column.at_layout(Layout::FixedBytes(width), slot);
-            put_bytes_slot(text, at, shape, field, column, slot, held)
+            put_leaf(text, at, shape, field, column, slot, held)
         }
         SlotReader::Others => put_other(text, at, shape, field, column, slot),
     }

@@ -2,7 +2,7 @@ use Rattle.std.proofs.Common.{rules, FitsSigned, w64}
 use Rattle.std.proofs.lemmas.Int.{to_z-of_z}
 use Rattle.ipc_column.specs.declared.slot_view.Slot.TheVariants as slot
 use Rattle.job_print.proofs.SlotTexts.{slot_json}
-use Rattle.job_print.proofs.json_row.put_number_slot.Goals as goal
+use Rattle.job_print.proofs.json_row.put_leaf.Goals as goal
 
 pub returns-in-Int-clause-text : goal.returns-in-Int-clause-text
 returns-in-Int-clause-text c =
@@ -10,6 +10,18 @@ returns-in-Int-clause-text c =
     rw (slot_json c.args.shape c.args.field.now c.args.column.now c.args.slot (slot.Int c.in-Int.number)
     (rw c.in-Int.is at c.requires.held))
     (rw (to_z-of_z w64 c.in-Int.number fits) at c.put_int.ensures.text)
+
+pub returns-in-Bool-clause-text : goal.returns-in-Bool-clause-text
+returns-in-Bool-clause-text c =
+    rw (slot_json c.args.shape c.args.field.now c.args.column.now c.args.slot (slot.Bool c.in-Bool.truth)
+    (rw c.in-Bool.is at c.requires.held))
+    c.put_bool.ensures.text
+
+pub returns-in-Bytes-clause-text : goal.returns-in-Bytes-clause-text
+returns-in-Bytes-clause-text c =
+    rw (slot_json c.args.shape c.args.field.now c.args.column.now c.args.slot (slot.Bytes c.in-Bytes.bytes)
+    (rw c.in-Bytes.is at c.requires.held))
+    c.put_bytes.ensures.text
 
 pub returns-in-Null-clause-text : goal.returns-in-Null-clause-text
 returns-in-Null-clause-text c =
