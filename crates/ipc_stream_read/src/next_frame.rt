@@ -1,3 +1,5 @@
+//! The effect of the next frame of a stream on its state. `StreamState` has a file of its own, with
+//! none of the definitions that are named here, because they name it.
 ghost use Rattle.std.specs.Prelude.{◌≡◌, IfErr, IfOk, IfSome, None, Some};
 ghost use Rattle.ipc_stream_read.specs.StreamStates.{Brings, BringsSchema, BringsScope, IsRefused};
 ghost use Rattle.ipc_stream_read.specs.StreamStates.{IsMessageFrame, IsWellFormedFrame, Moves};

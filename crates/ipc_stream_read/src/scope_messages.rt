@@ -1,3 +1,5 @@
+//! What the messages of a stream do to its scope. `Scope` has a file of its own, with none of the
+//! definitions that are named here, because they name it.
 ghost use Rattle.std.specs.Prelude.{◌≡◌, IfOk, IfErr, Some, length};
 ghost use Rattle.ipc_model.specs.WellFormed.{WellFormed};
 ghost use Rattle.ipc_column.specs.DictionaryBatches.{IsDictionary};
