@@ -81,7 +81,7 @@ impl<'a> ProgressLine<'a> {
 }
 
 impl Progress for ProgressLine<'_> {
-    ghost told = { λ _. None };
+    ghost reports = { λ _. None };
 
     fn batch_done(&mut self, bytes: u64, batches: u64, rows: u64) {
         let counts = Counts {

@@ -65,8 +65,8 @@ fn print_batches<R: Source, W: Sink, P: Progress>(
         (output (W.written sink.old) (W.failures sink.old) lines.old)
         (output (W.written sink.new) (W.failures sink.new) lines.new) result }
     ensures reports { (limits : Limits) (start : Option (List ℕ)) → Opens limits start stream.old
-        → ReportsOutcome limits start stream.new.remaining (P.told progress.old)
-        (P.told progress.new) result }
+        → ReportsOutcome limits start stream.new.remaining (P.reports progress.old)
+        (P.reports progress.new) result }
 {
     let form = options.form;
     let mut tally = PrintCounts::none();
@@ -208,8 +208,8 @@ fn print_stream<R: Source, W: Sink, P: Progress>(
         stream.new (output (W.written sink.old) (W.failures sink.old) [])
         (output (W.written sink.new) (W.failures sink.new) []) result }
     ensures reports { (limits : Limits) (start : Option (List ℕ)) → Opens limits start stream.old
-        → ReportsOutcome limits start stream.new.remaining (P.told progress.old)
-        (P.told progress.new) result }
+        → ReportsOutcome limits start stream.new.remaining (P.reports progress.old)
+        (P.reports progress.new) result }
 {
     let mut lines = LineBuffer::new(alloc)?;
     print_front(alloc, options.form, stream.schema(), &mut lines, sink)?;
@@ -264,8 +264,8 @@ fn print_open<R: Source, W: Sink, P: Progress>(
     ensures devices { stream.old.failures ≡ 0 → CountsPrintFailures stream.old.failures
         stream.new.failures (W.failures sink.old) (W.failures sink.new) result }
     ensures reports { (limits : Limits) (start : Option (List ℕ)) → Opens limits start stream.old
-        → ReportsPrintedBatches limits start stream.new.remaining (P.told progress.old)
-        (P.told progress.new) result }
+        → ReportsPrintedBatches limits start stream.new.remaining (P.reports progress.old)
+        (P.reports progress.new) result }
 {
     if let Err(fault) = check_form(options.form, stream.schema()) {
         return Err(PrintStop::Text(fault));
@@ -349,7 +349,7 @@ pub fn print<R: Source, W: Sink, P: Progress>(
     // batches and rows so far. At `Text` and `Write` the last one may have no report. That a report
     // comes after the text of its batch is not stated.
     ensures reports { ReportsPrintedBatches limits (R.remaining source) (R.remaining result.1)
-        (P.told progress.old) (P.told progress.new) result.0 }
+        (P.reports progress.old) (P.reports progress.new) result.0 }
 {
     match StreamReader::open(alloc, limits, source) {
         Ok(stream) => {

@@ -85,8 +85,8 @@ fn copy_batches<R: Source, W: Sink, P: Progress>(
         writer.old.failures
         writer.new.failures result }
     ensures reports { (limits : Limits) (start : Option (List ℕ)) → Opens limits start stream.old
-        → ReportsSentBatches limits start stream.new.remaining (P.told progress.old)
-        (P.told progress.new) result }
+        → ReportsSentBatches limits start stream.new.remaining (P.reports progress.old)
+        (P.reports progress.new) result }
 {
     let mut batches: u64 = 0;
     let mut rows: u64 = 0;
@@ -163,8 +163,8 @@ fn copy_stream<R: Source, W: Sink, P: Progress>(
         (W.failures sink)
         (W.failures result.1) result.0 }
     ensures reports { (limits : Limits) (start : Option (List ℕ)) → Opens limits start stream.old
-        → ReportsSentBatches limits start stream.new.remaining (P.told progress.old)
-        (P.told progress.new) result.0 }
+        → ReportsSentBatches limits start stream.new.remaining (P.reports progress.old)
+        (P.reports progress.new) result.0 }
 {
     let mut writer = match begin_stream(alloc, seed, &stream.limits(), sink, stream.schema()) {
         Ok(writer) => writer,
@@ -236,7 +236,7 @@ pub fn rewrite<R: Source, W: Sink, P: Progress>(
     // batches and rows so far. At `Write` the last one may have no report. That a report comes
     // after the messages of its batch is not stated.
     ensures reports { ReportsSentBatches limits (R.remaining source) (R.remaining result.1)
-        (P.told progress.old) (P.told progress.new) result.0 }
+        (P.reports progress.old) (P.reports progress.new) result.0 }
 {
     match StreamReader::open(alloc, limits, source) {
         Ok(stream) => {

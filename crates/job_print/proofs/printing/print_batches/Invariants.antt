@@ -13,7 +13,8 @@ invariant-loop-form g l = record {
       (output (g.W.Sink.written l.fn.sink) (g.W.Sink.failures l.fn.sink) l.fn.lines)
       (output (g.W.Sink.written l.sink) (g.W.Sink.failures l.sink) l.lines);
   reported : (limits : Limits) (start : Option (List ℕ)) → Opens limits start l.fn.stream
-      → Progressed limits start l.tally.batches l.tally.rows l.stream (g.P.Progress.told l.fn.progress) (g.P.Progress.told l.progress);
+      → Progressed limits start l.tally.batches l.tally.rows l.stream (g.P.Progress.reports l.fn.progress)
+      (g.P.Progress.reports l.progress);
 }
 
 -- each batch leaves fewer bytes to come

@@ -10,7 +10,7 @@ abbrev pub invariant-loop-batch : goal.invariant-loop-batch
 invariant-loop-batch g l = record {
   copied : Copied l.fn.stream l.stream l.fn.writer l.writer;
   reported : (limits : Limits) (start : Option (List ℕ)) → Opens limits start l.fn.stream
-      → Progressed limits start l.batches l.rows l.stream (g.P.Progress.told l.fn.progress) (g.P.Progress.told l.progress);
+      → Progressed limits start l.batches l.rows l.stream (g.P.Progress.reports l.fn.progress) (g.P.Progress.reports l.progress);
 }
 
 -- each batch leaves fewer bytes to come
