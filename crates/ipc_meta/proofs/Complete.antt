@@ -20,6 +20,7 @@ use Rattle.ipc_meta.specs.Totals.{message_pairs}
 use Rattle.ipc_meta.specs.Reading.{batch_read, each, text_read, pair_read, pairs_read, type_read, fields_read, field_read}
 use Rattle.ipc_meta.proofs.Entries.{tables_are}
 use Rattle.ipc_meta.proofs.Sound.{field_roll}
+use Rattle.ipc_meta.proofs.StatedTypes.{type_back}
 use Rattle.ipc_model.specs.declared.limits.Limits.{Limits}
 
 -- so many fields, bytes of text and pairs
@@ -198,7 +199,7 @@ module _ (limit : ℕ) where
       let e2 : length y.metadata + pairs_of below + q ≡ c = ap (λ k. k + q) (sym (sum_by-cons (λ e. e.pairs) head below)) ∙ counted.2 in
       let name = text_complete t 0 y.name a b c (kind_text y.kind + (pair_text y.metadata + (text_of below + m))) here.0 (omega arith) in
       let κ = type_complete t y.kind a (kind_text y.kind + (pair_text y.metadata + (text_of below + m))) c
-      (pair_text y.metadata + (text_of below + m)) here.2 refl in
+      (pair_text y.metadata + (text_of below + m)) (type_back t y.kind here.2) refl in
       let ps = pairs_complete t 6 y.metadata a (pair_text y.metadata + (text_of below + m)) c (text_of below + m)
       (pairs_of below + q) here.4 refl (omega arith) in
       let cs = children_complete t 5 y.children n (d + 1) a (text_of below + m) (pairs_of below + q) r m q here.5 (omega arith) g.1

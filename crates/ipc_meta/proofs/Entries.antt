@@ -7,7 +7,8 @@ use Rattle.ipc_flat.specs.Views.{TableView, Elements, table_from}
 use Rattle.ipc_model.specs.Entries.{Entry, Listing, entry_of, preorder, preorder_step, all_at}
 use Rattle.ipc_model.specs.declared.schema.Field.{Field, roll-Field, ind-Field, fold-roll-Field, map-Field}
 use Rattle.ipc_model.specs.declared.schema.Field.TheOpen.{Field-F}
-use Rattle.ipc_meta.specs.Tables.{vector_at, type_at, dictionary_at}
+use Rattle.ipc_meta.specs.Tables.{vector_at, dictionary_at}
+use Rattle.ipc_meta.specs.Types.{TypeAt}
 use Rattle.ipc_meta.specs.Fields.{TablesAt, VectorAt, FieldAt}
 use Rattle.ipc_meta.specs.Reached.{column, schema, HasTable, IsDeep, at_top, one_deeper, of_child, of_column}
 use Rattle.ipc_meta.proofs.Sound.{field_roll}
@@ -17,7 +18,7 @@ pub record Told (b : List ℕ) (s : TableView) (e : Entry) : Type 0 where
   pub table : TableView
   pub has : HasTable b column table
   pub deep : IsDeep s e.depth table
-  pub kind : type_at table ≡ Ok e.kind
+  pub kind : TypeAt e.kind table
   pub dictionary : dictionary_at table ≡ Ok e.dictionary
   pub elements : Elements
   pub vector : vector_at table 5 ≡ Ok elements

@@ -1,4 +1,6 @@
+pub mod Binds
 pub mod Each
+pub mod StatedTypes
 pub mod Steps
 pub mod Sound
 pub mod Numbers

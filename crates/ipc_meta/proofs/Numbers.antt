@@ -6,12 +6,12 @@ use Rattle.ipc_scalar.specs.Faulty.{◌>>=◌, where_some}
 use Rattle.ipc_scalar.specs.Flat.{slot_of, elements_of}
 use Rattle.ipc_flat.specs.Views.{TableView, Structs, field, structs_from}
 use Rattle.ipc_meta.specs.FlatFaults.{map_fault}
-use Rattle.ipc_meta.proofs.Sound.{lift_ok}
 use Rattle.std.specs.Prelude.{slice_range, ℤ}
 use Rattle.std.specs.Int.{w64, cast_signed}
 use Rattle.std.proofs.lemmas.List.{get_or-drop, get_or-take}
 use Rattle.ipc_scalar.specs.Bytes.{num, int64}
 use Rattle.ipc_meta.specs.Heads.{number_pairs, numbers_at}
+use Rattle.ipc_meta.proofs.Binds.{lift_ok}
 
 -- the number at k of a part that begins at p
 pub part_num : (w k p m : ℕ) (b : List ℕ) → k + w ≤ m → num (take m (drop p b)) k w ≡ num b (p + k) w

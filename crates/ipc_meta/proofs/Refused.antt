@@ -1,6 +1,6 @@
 -- Where reading fails, the fault's cause is true of the metadata.
-use Rattle.std.proofs.Common.{◌≡◌, refl, ap, subst, ℕ, Bool, true, false, List, inl}
-use Rattle.std.specs.Prelude.{pos, Option, None, Some, Result, Ok, Err, if◌then◌else◌}
+use Rattle.std.proofs.Common.{◌≡◌, refl, ap, subst, ℕ, List, inl}
+use Rattle.std.specs.Prelude.{pos, Option, None, Some, Result, Ok, Err}
 use Rattle.ipc_scalar.specs.Bytes.{byte, int64}
 use Rattle.ipc_flat.specs.Views.{TableView, table_from, scalar, field, elements_from, structs_from, or_default}
 use Rattle.ipc_scalar.specs.Flat.{slot_of, text_of}
@@ -20,19 +20,14 @@ use Rattle.ipc_meta.specs.Reached.{buffers}
 use Rattle.ipc_meta.specs.Reached.{HasTable, IsIllFormed, HasIllFormed, at_field, HasOtherText, at_text}
 use Rattle.ipc_meta.specs.Causes.{Cause}
 use Rattle.ipc_meta.proofs.Texts.{no_slot, no_table_in, no_tables_in, no_structs_in}
-use Rattle.ipc_meta.proofs.Sound.{lift_ok}
 use Rattle.ipc_model.specs.declared.limits.Limits.{Limits}
+use Rattle.ipc_meta.proofs.Binds.{lift_ok}
 
 -- a step fails, or the next one does
 pub step : {A B P : Type 0} (r : Result A Fault) (next : A → Result B Fault) (e : Fault) → (r >>= next) ≡ Err e → (r ≡ Err e → P)
     → ((x : A) → r ≡ Ok x → next x ≡ Err e → P) → P
 step (Ok x) next e h here there = there x refl h
 step (Err d) next e h here there = let same : d ≡ e = cc in here (ap Err same)
-
--- one of two cases
-pub choose : {X P : Type 0} (c : Bool) (x y z : X) → (if c then x else y) ≡ z → (c ≡ true → x ≡ z → P) → (c ≡ false → y ≡ z → P) → P
-choose true x y z h this other = this refl h
-choose false x y z h this other = other refl h
 
 -- a FlatBuffer's fault is that of a text, or that something is ill-formed
 pub illegible : (limits : Limits) → {A : Type 0} (b : List ℕ) (r : Result A FlatFault) (e : Fault) → map_fault r ≡ Err e

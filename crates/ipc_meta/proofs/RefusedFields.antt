@@ -21,13 +21,13 @@ use Rattle.ipc_meta.specs.Totals.{total_text}
 use Rattle.ipc_meta.specs.Totals.{total_pairs}
 use Rattle.ipc_meta.specs.Totals.{message_pairs}
 use Rattle.ipc_meta.specs.Causes.{Cause, in_schema, in_batch}
-use Rattle.ipc_meta.proofs.Sound.{lift_ok}
-use Rattle.ipc_meta.proofs.Refused.{step, choose, illegible, bad_flag, bad_text, bad_vector}
+use Rattle.ipc_meta.proofs.Refused.{step, illegible, bad_flag, bad_text, bad_vector}
 use Rattle.ipc_meta.proofs.Texts.{no_table_from}
 use Rattle.ipc_meta.proofs.RefusedTypes.{type_refused, dictionary_refused}
 use Rattle.ipc_meta.proofs.Spent.{Spent, less_pairs_spent, less_fields_spent, text_spent, pair_spent, pairs_spent, type_spent, field_spent}
 use Rattle.ipc_meta.proofs.Spent.{sum_none, children_in, pairs_in}
 use Rattle.ipc_model.specs.declared.limits.Limits.{Limits}
+use Rattle.ipc_meta.proofs.Binds.{choose, lift_ok}
 
 -- how many fields, bytes of text and pairs are stated in all
 pub record Stated : Type 0 where

@@ -23,7 +23,6 @@ use Rattle.ipc_model.proofs.SameTypes.{same_itself}
 use Rattle.ipc_meta.specs.Fields.{VectorAt, FieldAt}
 use Rattle.ipc_meta.specs.Reached.{schema, HasTable}
 use Rattle.ipc_meta.specs.Causes.{HasDictionaryColumn, Cause, in_schema}
-use Rattle.ipc_meta.proofs.Refused.{choose}
 use Rattle.ipc_meta.proofs.GoodTypes.{good_type}
 use Rattle.ipc_meta.proofs.Entries.{Told, entries_told}
 use Rattle.ipc_meta.proofs.Totals.{Totals, schema_totals}
@@ -33,6 +32,7 @@ use Rattle.ipc_meta.specs.Reading.{pairs_read, fields_read, field_read}
 use Rattle.ipc_meta.specs.Totals.{total_fields, total_text, total_pairs}
 use Rattle.std.proofs.lemmas.List.Sums.{sum_by-cons}
 use Rattle.ipc_model.specs.declared.limits.Limits.{Limits}
+use Rattle.ipc_meta.proofs.Binds.{choose}
 
 -- ---- the tests of one field
 

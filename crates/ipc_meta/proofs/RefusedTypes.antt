@@ -22,9 +22,9 @@ use Rattle.ipc_meta.specs.Reached.{HasTable}
 use Rattle.ipc_meta.specs.Reached.{Element}
 use Rattle.ipc_meta.specs.Causes.{Cause, IsNoType, other_width, other_date_unit, other_time_unit, negative_width, no_table, no_type}
 use Rattle.ipc_meta.specs.Causes.{negative_size, other_time_of_day_unit, other_time_of_day_width, other_duration_unit}
-use Rattle.ipc_meta.proofs.Sound.{lift_ok}
-use Rattle.ipc_meta.proofs.Refused.{step, choose, bad_number, bad_flag, bad_table, bad_value, bad_text}
+use Rattle.ipc_meta.proofs.Refused.{step, bad_number, bad_flag, bad_table, bad_value, bad_text}
 use Rattle.ipc_model.specs.declared.limits.Limits.{Limits}
+use Rattle.ipc_meta.proofs.Binds.{choose, lift_ok, ok_or_ok}
 
 ok_or_err : {X : Type 0} (d e : Fault) (o : Option X) → ok_or d o ≡ Err e → (o ≡ None) × (d ≡ e)
 ok_or_err d e None h = (refl, cc)
@@ -65,10 +65,6 @@ timestamp_refused limits b t e has h bad =
     (λ h. let p = ok_or_err f.BadType e (unit_of w) h in bad p.1 (other_time_unit (w, lift_ok (scalar t 0 2 int16 (pos 0)) w i, p.0)))
     (λ x j h.
     step (map_fault (field t 1 text_of)) _ e h (bad_text limits b (type_value 10) t 1 e has r.timezone) (λ g k h. absurd (cc))))
-
-ok_or_ok : {X : Type 0} (d : Fault) (o : Option X) (x : X) → ok_or d o ≡ Ok x → o ≡ Some x
-ok_or_ok d None x h = absurd (cc)
-ok_or_ok d (Some y) x h = cc
 
 time_in_refused : (unit : TimeUnit) (w : ℤ) (e : Fault) → time_in unit w ≡ Err e
     → (f.BadType ≡ e) × (w ≡ pos (width (time_bits unit)) → ⊥)

@@ -1,9 +1,8 @@
 -- What is read is what the tables state.
 use Rattle.std.proofs.Common.{◌≡◌, ◌∙◌, refl, sym, ap, subst, ℕ, zero, suc, ◌+◌, ◌-◌, ◌<◌, List, [], ◌∷◌, map, length, arith}
-use Rattle.std.specs.Prelude.{pos, Option, None, Some, Result, Ok, Err}
+use Rattle.std.specs.Prelude.{pos, Option, None, Some, Result, Ok}
 use Rattle.ipc_scalar.specs.Bytes.{int64}
 use Rattle.ipc_flat.specs.Views.{TableView, Elements, table_from, scalar, field}
-use Rattle.ipc_scalar.specs.declared.fault.FlatFault.{FlatFault}
 use Rattle.ipc_model.specs.Answers.{◌>>=◌}
 use Rattle.ipc_model.specs.declared.fault.Fault.{Fault}
 use Rattle.ipc_model.specs.declared.schema.DataType.{DataType}
@@ -14,20 +13,13 @@ use Rattle.ipc_meta.specs.declared.budget.Budget.{Budget}
 use Rattle.ipc_meta.specs.Budgets.{Reading, less_fields, less_text, less_pairs}
 use Rattle.ipc_meta.specs.FlatFaults.{map_fault}
 use Rattle.ipc_meta.specs.Tables.{text_at, flag_at, vector_at, type_at, dictionary_at}
+use Rattle.ipc_meta.specs.Types.{TypeAt}
 use Rattle.ipc_meta.specs.Fields.{TablesAt, VectorAt, PairAt, field_step, FieldAt}
 use Rattle.ipc_meta.specs.declared.head.BatchHead.{BatchHead}
 use Rattle.ipc_meta.specs.Heads.{BatchAt, numbers_at}
 use Rattle.ipc_meta.specs.Reading.{batch_read, when_plain, each, text_read, pair_read, pairs_read, type_read, fields_read, field_read}
-
--- where two steps together give an answer, the first gives one, and of it the second gives that answer
-pub bind_ok : {A B : Type 0} (r : Result A Fault) (f : A → Result B Fault) (y : B) → (r >>= f) ≡ Ok y → (x : A) × (r ≡ Ok x) × (f x ≡ Ok y)
-bind_ok (Ok x) f y h = (x, refl, h)
-bind_ok (Err e) f y h = absurd (cc)
-
--- what is answered once FlatBuffers faults have the names of the reader's is what was answered before
-pub lift_ok : {A : Type 0} (r : Result A FlatFault) (x : A) → map_fault r ≡ Ok x → r ≡ Ok x
-lift_ok (Ok y) x h = cc
-lift_ok (Err e) x h = absurd (cc)
+use Rattle.ipc_meta.proofs.StatedTypes.{type_stated}
+use Rattle.ipc_meta.proofs.Binds.{bind_ok, lift_ok}
 
 -- an answer with what is left of the budget
 abbrev pub with_left : {X : Type 0} → X → Budget → Result (X × Budget) Fault
@@ -113,7 +105,7 @@ module _ {X Y : Type 0} (v : X → Y) (k : Y → TableView → Type 0) where
 natural : (X : Type 0) (v : X → Field) (k : Field → TableView → Type 0) (x : Field-F X)
     → field_step X v (λ p. k (v p)) x ≡ field_step Field (λ y. y) k (map-Field X Field v x)
 natural X v k x = λ i t.
-    (text_at t 0 ≡ Ok x.name) × (flag_at t 1 ≡ Ok x.nullable) × (type_at t ≡ Ok x.kind) × (dictionary_at t ≡ Ok x.dictionary)
+    (text_at t 0 ≡ Ok x.name) × (flag_at t 1 ≡ Ok x.nullable) × TypeAt x.kind t × (dictionary_at t ≡ Ok x.dictionary)
     × VectorAt PairAt x.metadata t 6 × ((es : Elements) × (vector_at t 5 ≡ Ok es) × tables_map v k es.bytes es.at es.len x.children i)
 
 -- a table states a field where it states the field's own members, and its vector of children the children
@@ -152,7 +144,7 @@ field_sound (suc d) t left after x h =
     let here : field_step Field (λ z. z) FieldAt y t = (
       text_sound t 0 left name.0.1 name.0.0 name.1,
       nullable.1,
-      type_sound t name.0.1 κ.0.1 κ.0.0 κ.1,
+      type_stated t κ.0.0 (type_sound t name.0.1 κ.0.1 κ.0.0 κ.1),
       o.1,
       pairs_sound t 6 κ.0.1 pairs.0.1 pairs.0.0 pairs.1,
       fields_sound (field_read d) (field_sound d) t 5 pairs.0.1 children.0.1 children.0.0 children.1,

@@ -12,8 +12,8 @@ use Rattle.ipc_meta.specs.FlatFaults.{map_fault}
 use Rattle.ipc_meta.specs.Tables.{text_at, flag_at, vector_at, type_at, dictionary_at}
 use Rattle.ipc_meta.specs.Reading.{each, text_read, pair_read, pairs_read, type_read, fields_read, field_read}
 use Rattle.ipc_meta.specs.Totals.{or_zero, sum_tables, count_in, sum_in, text_len_at, pair_text_in, own_text, tree}
-use Rattle.ipc_meta.proofs.Sound.{bind_ok, lift_ok, left_parts}
-use Rattle.ipc_meta.proofs.Refused.{choose}
+use Rattle.ipc_meta.proofs.Sound.{left_parts}
+use Rattle.ipc_meta.proofs.Binds.{bind_ok, choose, lift_ok}
 
 -- left is what is left after, and so many fields, bytes of text and pairs more
 pub record Spent (left after : Budget) (a b c : ℕ) : Type 0 where

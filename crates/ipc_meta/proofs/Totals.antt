@@ -14,10 +14,11 @@ use Rattle.ipc_meta.specs.Reading.{text_read, pairs_read, type_read, fields_read
 use Rattle.ipc_meta.specs.Totals.{or_zero, sum_tables, count_in, sum_in, text_len_at, pair_text_in, own_text, tree, total_fields}
 use Rattle.ipc_meta.specs.Totals.{total_text}
 use Rattle.ipc_meta.specs.Totals.{total_pairs}
-use Rattle.ipc_meta.proofs.Sound.{Sound, bind_ok, left_parts, each_sound, text_sound, type_sound, pairs_sound}
+use Rattle.ipc_meta.proofs.Sound.{Sound, left_parts, each_sound, text_sound, type_sound, pairs_sound}
 use Rattle.ipc_meta.proofs.Entries.{tables_are}
 use Rattle.ipc_meta.proofs.Spent.{children_in, pairs_in}
 use Rattle.ipc_model.specs.declared.limits.Limits.{Limits}
+use Rattle.ipc_meta.proofs.Binds.{bind_ok}
 
 abbrev text_of : List Entry → ℕ
 text_of es = sum_by (λ e. e.text) es

@@ -14,12 +14,14 @@ use Rattle.ipc_model.specs.declared.schema.Field.TheOpen.{Field-F}
 use Rattle.ipc_build.specs.Trees.{Tree}
 use Rattle.ipc_build.specs.Encodes.{HasField, EncodesTable}
 use Rattle.ipc_meta.specs.FlatFaults.{map_fault}
-use Rattle.ipc_meta.specs.Tables.{text_at, flag_at, type_at, dictionary_in, dictionary_at}
+use Rattle.ipc_meta.specs.Tables.{text_at, flag_at, dictionary_in, dictionary_at}
+use Rattle.ipc_meta.specs.Types.{TypeAt}
 use Rattle.ipc_meta.specs.Fields.{VectorAt, PairAt, FieldAt}
 use Rattle.ipc_meta.specs.Written.{flag, with_text, with_byte, with_table, with_tables, with_pairs, with_dictionary, type_tree, field_tree}
 use Rattle.ipc_model.specs.TypeCodes.{type_code}
 use Rattle.ipc_meta.specs.Written as written
 use Rattle.ipc_meta.proofs.Sound.{field_roll}
+use Rattle.ipc_meta.proofs.StatedTypes.{type_stated}
 use Rattle.ipc_meta.proofs.Standing.{tab, Holds, field_absent}
 use Rattle.ipc_meta.proofs.WrittenParts.{States, text_there, flag_there, vector_lies, pairs_there, neither, no_pairs, pairs_absent}
 use Rattle.ipc_meta.proofs.WrittenTypes.{type_there, dictionary_there}
@@ -56,7 +58,7 @@ tree_with name nullable κ o cs ps =
 
 abbrev PartsAt : List ℕ → Bool → DataType → Option Dictionary → List Field → List (List ℕ × List ℕ) → TableView → Type 0
 PartsAt name nullable κ o cs ps t =
-    (text_at t 0 ≡ Ok name) × (flag_at t 1 ≡ Ok nullable) × (type_at t ≡ Ok κ) × (dictionary_at t ≡ Ok o)
+    (text_at t 0 ≡ Ok name) × (flag_at t 1 ≡ Ok nullable) × TypeAt κ t × (dictionary_at t ≡ Ok o)
     × VectorAt PairAt ps t 6 × VectorAt FieldAt cs t 5
 
 no_dictionary : (b : List ℕ) (t : ℕ) → field (tab b t) 4 table_from ≡ Ok None → dictionary_at (tab b t) ≡ Ok None
@@ -77,7 +79,8 @@ parts_there b t name nullable κ (Some d) cs ps good each h =
     let children = h.lies.1.1.1.1.1.0 in (
       text_there b t 0 text.0 name text.1.0 text.3.text,
       flag_there b t 1 null.0 nullable null.1.0 null.3,
-      type_there b t code.0 type.0 type.3.0 κ code.1.0 code.3 type.1.0 type.3.1 good (record { stands = type.3.2; lies = type.3.3 }),
+      type_stated (tab b t) κ
+          (type_there b t code.0 type.0 type.3.0 κ code.1.0 code.3 type.1.0 type.3.1 good (record { stands = type.3.2; lies = type.3.3 })),
       dictionary_there b t encoding.0 encoding.3.0 d encoding.1.0 encoding.3.1 (record { stands = encoding.3.2; lies = encoding.3.3 }),
       pairs_there b t 6 ps h.lies.1.1.1.1.1.1 (λ e. h.stands.absent 6 4
           (neither (λ z. omega (arith, z)) (neither (λ z. omega (arith, z))
@@ -93,7 +96,8 @@ parts_there b t name nullable κ None cs ps good each h =
     let children = h.lies.1.1.1.1.0 in (
       text_there b t 0 text.0 name text.1.0 text.3.text,
       flag_there b t 1 null.0 nullable null.1.0 null.3,
-      type_there b t code.0 type.0 type.3.0 κ code.1.0 code.3 type.1.0 type.3.1 good (record { stands = type.3.2; lies = type.3.3 }),
+      type_stated (tab b t) κ
+          (type_there b t code.0 type.0 type.3.0 κ code.1.0 code.3 type.1.0 type.3.1 good (record { stands = type.3.2; lies = type.3.3 })),
       no_dictionary b t (field_absent b t 4 table_from
           (h.stands.absent 4 4 (neither (λ e. omega (arith, e))
           (neither (λ e. omega (arith, e)) (neither (λ e. omega (arith, e))

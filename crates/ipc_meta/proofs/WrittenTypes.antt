@@ -9,16 +9,11 @@ use Rattle.ipc_scalar.specs.Flat.{slot_of, table_position, text_of}
 use Rattle.ipc_flat.specs.Views.{TableView, table_from, scalar, field}
 use Rattle.ipc_model.specs.Answers.{◌>>=◌}
 use Rattle.ipc_model.specs.WellFormed.{HasGoodType}
-use Rattle.ipc_model.specs.Ranges.{width}
-use Rattle.ipc_model.specs.Layouts.{time_bits}
 use Rattle.ipc_model.specs.declared.fault.Fault.{Fault}
 use Rattle.ipc_model.specs.declared.fault.Fault.TheVariants.{UnsupportedType, BadType, BadIndexType}
 use Rattle.ipc_model.specs.declared.schema.IntBits.{IntBits}
-use Rattle.ipc_model.specs.declared.schema.IntBits.TheVariants.{B8, B16, B32, B64}
 use Rattle.ipc_model.specs.declared.schema.DateUnit.{DateUnit}
-use Rattle.ipc_model.specs.declared.schema.DateUnit.TheVariants as date
 use Rattle.ipc_model.specs.declared.schema.TimeUnit.{TimeUnit}
-use Rattle.ipc_model.specs.declared.schema.TimeUnit.TheVariants as time
 use Rattle.ipc_model.specs.declared.schema.DataType.{DataType}
 use Rattle.ipc_model.specs.declared.schema.DataType.TheVariants as t
 use Rattle.ipc_model.specs.declared.schema.IndexType.{IndexType}
@@ -28,16 +23,12 @@ use Rattle.ipc_meta.specs.FlatFaults.{map_fault}
 use Rattle.ipc_meta.specs.Tables.{bits_of, ok_or, int_at, fixed_at, date_at, unit_of, timestamp_at, type_of, type_in, is_type_code}
 use Rattle.ipc_meta.specs.Tables.{when_type, code_at, type_at, flag_at, index_type_at, index_at, dictionary_in, dictionary_at}
 use Rattle.ipc_meta.specs.Tables.{fixed_list_at, time_in, time_at, duration_at}
-use Rattle.ipc_meta.specs.Written.{int_tree, date_code, time_code, type_tree, dictionary_tree}
+use Rattle.ipc_meta.specs.Types.{date_code}
+use Rattle.ipc_meta.specs.Written.{int_tree, type_tree, dictionary_tree}
 use Rattle.ipc_model.specs.TypeCodes.{type_code}
+use Rattle.ipc_meta.proofs.StatedTypes.{bits_there, date_read, unit_read, width_read}
 use Rattle.ipc_meta.proofs.Standing.{tab, Holds, scalar_there, field_there, field_absent, table_there}
 use Rattle.ipc_meta.proofs.WrittenParts.{flag_there, neither}
-
-bits_there : (e : Fault) (bits : IntBits) → ok_or e (bits_of (pos (width bits))) ≡ Ok bits
-bits_there e B8 = refl
-bits_there e B16 = refl
-bits_there e B32 = refl
-bits_there e B64 = refl
 
 abbrev integer : IntBits → Bool → IndexType
 integer bits signed = record { bits = bits; signed = signed }
@@ -66,20 +57,10 @@ fixed_list_there b u n p s e h =
     ap (λ (r : Result ℤ FlatFault). map_fault r >>= fixed_list_at) (scalar_there b u 0 4 p int32 (pos 0) s)
     ∙ (ap fixed_list_at e ∙ ap fixed_list_at (to_z_pos w32 (omega (arith, h))))
 
-date_read : (unit : DateUnit) → date_at (date_code unit) ≡ Ok (t.Date unit)
-date_read date.Day = refl
-date_read date.Millisecond = refl
-
 date_there : (b : List ℕ) (u p : ℕ) (unit : DateUnit) → slot_of b u 0 2 ≡ Ok (Some p) → int16 b p ≡ date_code unit
     → (map_fault (scalar (tab b u) 0 2 int16 (pos 1)) >>= date_at) ≡ Ok (t.Date unit)
 date_there b u p unit s e = ap (λ (r : Result ℤ FlatFault). map_fault r >>= date_at) (scalar_there b u 0 2 p int16 (pos 1) s)
     ∙ (ap date_at e ∙ date_read unit)
-
-unit_read : (unit : TimeUnit) → ok_or BadType (unit_of (time_code unit)) ≡ Ok unit
-unit_read time.Second = refl
-unit_read time.Millisecond = refl
-unit_read time.Microsecond = refl
-unit_read time.Nanosecond = refl
 
 abbrev timestamp : TimeUnit → Option (List ℕ) → Result DataType Fault
 timestamp unit zone = Ok (t.Timestamp unit zone)
@@ -100,12 +81,6 @@ timestamp_there b u unit zone h =
     ∙ (ap (λ (m : ℤ). ok_or BadType (unit_of m) >>= λ c. map_fault (field (tab b u) 1 text_of) >>= λ z. timestamp c z) place.3
     ∙ (ap (λ (r : Result TimeUnit Fault). r >>= λ c. map_fault (field (tab b u) 1 text_of) >>= λ z. timestamp c z) (unit_read unit)
     ∙ ap (λ (r : Result (Option (List ℕ)) FlatFault). map_fault r >>= λ z. timestamp unit z) (zone_there b u unit zone h)))
-
-width_read : (unit : TimeUnit) → time_in unit (pos (width (time_bits unit))) ≡ Ok (t.Time unit)
-width_read time.Second = refl
-width_read time.Millisecond = refl
-width_read time.Microsecond = refl
-width_read time.Nanosecond = refl
 
 time_there : (b : List ℕ) (u : ℕ) (unit : TimeUnit) → Holds b u (type_tree (t.Time unit)) → time_at (tab b u) ≡ Ok (t.Time unit)
 unfolding EncodesTable

@@ -14,7 +14,8 @@ use Rattle.ipc_model.specs.Ranges.{width}
 use Rattle.ipc_model.specs.declared.schema.Dictionary.{Dictionary}
 use Rattle.ipc_model.specs.WellFormed.{HasFittingChildren, IsLeaf}
 use Rattle.ipc_meta.specs.Tables.{bits_of, unit_of, flag_at, vector_at, code_at, is_type_code}
-use Rattle.ipc_meta.specs.Tables.{type_at, dictionary_at}
+use Rattle.ipc_meta.specs.Tables.{dictionary_at}
+use Rattle.ipc_meta.specs.Types.{TypeAt}
 use Rattle.ipc_meta.specs.Totals.{total_fields, total_text, total_pairs, sum_in, count_in}
 use Rattle.ipc_meta.specs.Totals.{pair_text_in, message_pairs}
 use Rattle.ipc_meta.specs.Reached.{TableKind, HasTable, IsDeep, HasIllFormed, HasOtherText, message}
@@ -79,13 +80,13 @@ pub data HasBadType (b : List ℕ) : Type 0 where
 -- a field has a number of children that its type does not allow (Schema.fbs, table Field, 5
 -- children)
 abbrev pub HasBadChildren : List ℕ → Type 0
-HasBadChildren b = HasTableWith b column (λ t. (κ : DataType) × (es : Elements) × (type_at t ≡ Ok κ)
+HasBadChildren b = HasTableWith b column (λ t. (κ : DataType) × (es : Elements) × TypeAt κ t
     × (vector_at t 5 ≡ Ok es) × (HasFittingChildren κ es.len → ⊥))
 
 -- some field has values of this type in the dictionary with this id (Schema.fbs, table
 -- DictionaryEncoding)
 abbrev pub HasDictionaryColumn : List ℕ → ℤ → DataType → Type 0
-HasDictionaryColumn b id κ = HasTableWith b column (λ t. (type_at t ≡ Ok κ)
+HasDictionaryColumn b id κ = HasTableWith b column (λ t. TypeAt κ t
     × ((d : Dictionary) × (dictionary_at t ≡ Ok (Some d)) × (d.id ≡ id)))
 
 -- the texts or the pairs of a schema, or of the message of a record batch, are above their limits

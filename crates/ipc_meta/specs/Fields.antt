@@ -7,7 +7,8 @@ use Rattle.ipc_model.specs.WellFormed.{WellFormed}
 use Rattle.ipc_model.specs.declared.schema.Field.{Field, rec-Field}
 use Rattle.ipc_model.specs.declared.schema.Field.TheOpen.{Field-F}
 use Rattle.ipc_model.specs.declared.schema.Schema.{Schema}
-use Rattle.ipc_meta.specs.Tables.{text_at, flag_at, vector_at, type_at, dictionary_at}
+use Rattle.ipc_meta.specs.Tables.{text_at, flag_at, vector_at, dictionary_at}
+use Rattle.ipc_meta.specs.Types.{TypeAt}
 use Rattle.ipc_model.specs.declared.limits.Limits.{Limits}
 
 module _ {X : Type 0} (At : X → TableView → Type 0) where
@@ -31,7 +32,7 @@ PairAt p t = (text_at t 0 ≡ Ok p.0) × (text_at t 1 ≡ Ok p.1)
 abbrev pub field_step : (X : Type 0) → (X → Field) → (X → TableView → Type 0) → Field-F X
     → TableView → Type 0
 field_step X field At f t =
-    (text_at t 0 ≡ Ok f.name) × (flag_at t 1 ≡ Ok f.nullable) × (type_at t ≡ Ok f.kind)
+    (text_at t 0 ≡ Ok f.name) × (flag_at t 1 ≡ Ok f.nullable) × TypeAt f.kind t
     × (dictionary_at t ≡ Ok f.dictionary)
     × VectorAt PairAt f.metadata t 6 × VectorAt At f.children t 5
 

@@ -4,6 +4,7 @@ pub mod Tables
 pub mod Fields
 pub mod Reading
 pub mod Heads
+pub mod Types
 pub mod Written
 pub mod Rooms
 pub mod Laws

@@ -121,7 +121,7 @@ duration_at v = map_fault (scalar v 0 2 int16 (pos 1)) >>= λ u. ok_or BadType (
 -- Schema.fbs, union Type: the type with this code and table: Null 1, Int 2, Binary 4, Utf8 5, Bool
 -- 6, Date 8 (its unit is MILLISECOND if absent), Time 9, Timestamp 10, List 12, Struct_ 13,
 -- FixedSizeBinary 15, FixedSizeList 16, Duration 18; other codes are not read. The codes are tested
--- one after another, as the code does
+-- one after another, as the code does; `StatesType` says the same of one type at a time
 unfoldable pub type_of : ℕ → TableView → Result DataType Fault
 type_of code v =
     if code == 1 then Ok t.Null
@@ -162,7 +162,7 @@ abbrev pub when_type : {X : Type 0} → ℕ → Result X Fault → Result X Faul
 when_type code r = if is_type_code code then r else Err (UnsupportedType code)
 
 -- Schema.fbs, table Field: the field's type: 2 the type's code, 3 the type's table, which is read
--- only if the code is a known type's
+-- only if the code is a known type's. It is a type exactly if `TypeAt` holds for that type
 unfoldable pub type_at : TableView → Result DataType Fault
 type_at f = code_at f >>= λ code. when_type code (map_fault (field f 3 table_from) >>= type_in code)
 

@@ -11,10 +11,7 @@ use Rattle.ipc_model.specs.Layouts.{time_bits}
 use Rattle.ipc_model.specs.Ranges.{width}
 use Rattle.ipc_model.specs.TypeCodes.{type_code}
 use Rattle.ipc_model.specs.declared.schema.IntBits.{IntBits}
-use Rattle.ipc_model.specs.declared.schema.DateUnit.{DateUnit}
-use Rattle.ipc_model.specs.declared.schema.DateUnit.TheVariants as date
 use Rattle.ipc_model.specs.declared.schema.TimeUnit.{TimeUnit}
-use Rattle.ipc_model.specs.declared.schema.TimeUnit.TheVariants as time
 use Rattle.ipc_model.specs.declared.schema.DataType.{DataType}
 use Rattle.ipc_model.specs.declared.schema.DataType.TheVariants as t
 use Rattle.ipc_model.specs.declared.schema.Dictionary.{Dictionary}
@@ -22,6 +19,7 @@ use Rattle.ipc_model.specs.declared.schema.Field.{Field, fold-Field}
 use Rattle.ipc_model.specs.declared.schema.Field.TheOpen.{Field-F}
 use Rattle.ipc_model.specs.declared.schema.Schema.{Schema}
 use Rattle.ipc_meta.specs.declared.head.BatchHead.{BatchHead}
+use Rattle.ipc_meta.specs.Types.{date_code, time_code}
 use Rattle.ipc_meta.specs.Version.{v5}
 
 -- these fields, followed by the fields `rest`
@@ -69,18 +67,6 @@ with_pairs k (p ∷ ps) = with_tables k (map pair_tree (p ∷ ps)) none
 -- Schema.fbs, table Int: the table of an integer type: 0 bitWidth, 1 is_signed
 abbrev pub int_tree : IntBits → Bool → Tree
 int_tree bits sign = with_signed 0 w32 (pos (width bits)) (with_byte 1 (flag sign) none)
-
--- Schema.fbs, enum DateUnit: the code of a unit
-abbrev pub date_code : DateUnit → ℤ
-date_code date.Day = pos 0
-date_code date.Millisecond = pos 1
-
--- Schema.fbs, enum TimeUnit: the code of a unit
-abbrev pub time_code : TimeUnit → ℤ
-time_code time.Second = pos 0
-time_code time.Millisecond = pos 1
-time_code time.Microsecond = pos 2
-time_code time.Nanosecond = pos 3
 
 -- Schema.fbs, table Timestamp, 1 timezone: the field is present if there is a timezone
 abbrev pub with_timezone : Option (List ℕ) → Tree

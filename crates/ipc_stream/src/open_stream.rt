@@ -34,10 +34,10 @@ pub(crate) struct OpenStream {
     columns: Dictionaries,
     // What was sent of each dictionary.
     kept: Kept,
-    // The lists of the last batch whose rows were sent, for those of the next.
-    room: BufferPool,
-    // The lists of the last batch whose columns were sent, for those of the next.
-    pool: Vec<Vec<u8>>,
+    // The buffers of the last batch whose rows were sent, which the next one fills anew.
+    row_buffers: BufferPool,
+    // The buffers of the last batch whose columns were sent, which the next one fills anew.
+    column_buffers: Vec<Vec<u8>>,
     // What the values of its dictionaries are hashed with.
     seed: Seed,
     alloc: Global,
@@ -106,8 +106,8 @@ impl OpenStream {
             schema,
             columns,
             kept,
-            room: BufferPool::new(alloc),
-            pool: Vec::new(alloc),
+            row_buffers: BufferPool::new(alloc),
+            column_buffers: Vec::new(alloc),
             seed: Seed::Fixed,
             alloc,
         };
@@ -136,9 +136,9 @@ impl OpenStream {
         if !has_short_messages(self.alloc, &self.limits, &self.schema, &self.columns)? {
             return Err(WriteFault::TooLong);
         }
-        let room = mem::replace(&mut self.room, BufferPool::new(self.alloc));
+        let buffers = mem::replace(&mut self.row_buffers, BufferPool::new(self.alloc));
         let (alloc, limits) = (self.alloc, &self.limits);
-        PendingBatch::new(alloc, limits, &self.schema, pairs, room, self.seed)
+        PendingBatch::new(alloc, limits, &self.schema, pairs, buffers, self.seed)
     }
 
     // Takes one row more into a batch of this stream's. Nothing is sent.
@@ -191,7 +191,7 @@ impl OpenStream {
         )?;
         send_messages(sink, messages.as_slice())?;
         plan.commit(&mut self.kept);
-        self.room = messages.into_pool();
+        self.row_buffers = messages.into_pool();
         Ok(())
     }
 
@@ -248,7 +248,7 @@ impl OpenStream {
             &self.columns,
             &self.kept,
             self.seed,
-            &mut self.pool,
+            &mut self.column_buffers,
             batch,
             pairs,
         )?;
@@ -259,7 +259,7 @@ impl OpenStream {
             messages.segments.as_slice(),
         )?;
         plan.commit(&mut self.kept);
-        messages.give_back(&mut self.pool);
+        messages.give_back(&mut self.column_buffers);
         Ok(())
     }
 }

@@ -128,17 +128,17 @@ stage_of progress phase.Refused = refused
 
 -- the value of a decoder
 abbrev pub decoding_of : Framing → StreamState → Decoding
-decoding_of framing course = record {
-  limits = course.limits;
-  state = state_of course.scope;
-  stage = stage_of framing.progress course.phase;
-  messages = course.messages;
+decoding_of framing stream = record {
+  limits = stream.limits;
+  state = state_of stream.scope;
+  stage = stage_of framing.progress stream.phase;
+  messages = stream.messages;
   room = framing.room;
 }
 
 -- the frames have the same limits. They take bytes while the stream is being read, and keep no list
 -- afterwards
-pub record IsSound (framing : Framing) (course : StreamState) : Type 0 where
-  pub same_limits : framing.limits ≡ course.limits
-  pub takes : course.phase ≡ phase.Reading → (z : List ℕ) × (framing.progress ≡ frames.taking z)
-  pub let_go : course.phase ≢ phase.Reading → framing.room ≡ no_capacity
+pub record IsSound (framing : Framing) (stream : StreamState) : Type 0 where
+  pub same_limits : framing.limits ≡ stream.limits
+  pub takes : stream.phase ≡ phase.Reading → (z : List ℕ) × (framing.progress ≡ frames.taking z)
+  pub let_go : stream.phase ≢ phase.Reading → framing.room ≡ no_capacity

@@ -27,7 +27,7 @@ use std::marker::Model;
 #[derive(Drop)]
 pub struct Decoder {
     frames: Frames,
-    course: StreamState,
+    stream: StreamState,
     alloc: Global,
 }
 
@@ -42,9 +42,9 @@ impl Model for Decoder {
 
     ghost coded = { Prim.hlevel (codes, field.the_row.coded, value.the_row.coded) };
 
-    ghost view = { λ s. decoding_of s.frames s.course };
+    ghost view = { λ s. decoding_of s.frames s.stream };
 
-    ghost invariant = { λ s. IsSound s.frames s.course };
+    ghost invariant = { λ s. IsSound s.frames s.stream };
 }
 
 impl Decoder {
@@ -69,7 +69,7 @@ impl Decoder {
     {
         Decoder {
             frames: Frames::new(alloc, limits),
-            course: StreamState::new(limits),
+            stream: StreamState::new(limits),
             alloc,
         }
     }
@@ -127,13 +127,13 @@ impl Decoder {
             (λ _. self.new.room ≡ no_capacity))
             (λ _. self.new.room ≡ no_capacity) }
     {
-        match self.course.phase {
+        match self.stream.phase {
             StreamPhase::Refused => Err(Fault::Failed),
             StreamPhase::Ended(_) => Ok((0, FeedProgress::More)),
             StreamPhase::Reading => match self.frames.feed(piece) {
-                Err(fault) => Err(self.course.refuse(fault)),
+                Err(fault) => Err(self.stream.refuse(fault)),
                 Ok((taken, None)) => Ok((taken, FeedProgress::More)),
-                Ok((taken, Some(frame))) => match self.course.accept(self.alloc, frame)? {
+                Ok((taken, Some(frame))) => match self.stream.accept(self.alloc, frame)? {
                     Some(event) => Ok((taken, FeedProgress::WithEvent(event))),
                     None => Ok((taken, FeedProgress::WithoutEvent)),
                 },
@@ -165,15 +165,15 @@ impl Decoder {
             (λ _. self.new.room ≡ no_capacity))
             (λ _. self.new.room ≡ no_capacity) }
     {
-        match self.course.phase {
+        match self.stream.phase {
             StreamPhase::Refused => (0, Err(Fault::Failed)),
             StreamPhase::Ended(_) => (0, Ok(None)),
             StreamPhase::Reading => {
                 let (count, answer) = self.frames.feed_from(source);
                 match answer {
-                    Err(fault) => (count, Err(self.course.refuse(fault))),
+                    Err(fault) => (count, Err(self.stream.refuse(fault))),
                     Ok(None) => (count, Ok(None)),
-                    Ok(Some(frame)) => match self.course.accept(self.alloc, frame) {
+                    Ok(Some(frame)) => match self.stream.accept(self.alloc, frame) {
                         Ok(found) => (count, Ok(found)),
                         Err(fault) => (count, Err(fault)),
                     },
@@ -193,7 +193,7 @@ impl Decoder {
         ensures metadata { self.new.room.metadata ≡ self.old.room.metadata }
         ensures let_go { DropsLists self.new.stage self.new.room }
     {
-        if let StreamPhase::Reading = self.course.phase {
+        if let StreamPhase::Reading = self.stream.phase {
             if let Some(body) = batch.into_body() {
                 self.frames.reuse(body);
             }
@@ -205,7 +205,7 @@ impl Decoder {
     pub fn schema(&self) -> Option<&Schema>
         ensures { option_copied result ≡ schema_of self.now.state }
     {
-        match &self.course.scope {
+        match &self.stream.scope {
             Some(scope) => Some(&scope.schema),
             None => None,
         }
@@ -217,7 +217,7 @@ impl Decoder {
     pub fn wants(&self) -> usize
         ensures { Wants self.now.limits self.now.stage result }
     {
-        match self.course.phase {
+        match self.stream.phase {
             StreamPhase::Reading => self.frames.wants(),
             _ => 0,
         }
@@ -231,14 +231,14 @@ impl Decoder {
     pub fn held(&self) -> usize
         ensures { result ≡ held_of self.now }
     {
-        self.course.dictionary_bytes().saturating_add(self.kept())
+        self.stream.dictionary_bytes().saturating_add(self.kept())
     }
 
     // How many bytes are kept of the message at hand.
     fn kept(&self) -> usize
         ensures { result ≡ kept_bytes self.now.stage }
     {
-        match self.course.phase {
+        match self.stream.phase {
             StreamPhase::Reading => self.frames.held(),
             _ => 0,
         }
@@ -248,14 +248,14 @@ impl Decoder {
     pub fn limits(&self) -> Limits
         ensures { result ≡ self.now.limits }
     {
-        self.course.limits
+        self.stream.limits
     }
 
     // Whether messages still come.
     pub(crate) fn phase(&self) -> StreamPhase
         ensures { result ≡ phase_of self.now.stage }
     {
-        self.course.phase
+        self.stream.phase
     }
 
     // The schema that is in force, alone.
@@ -264,10 +264,10 @@ impl Decoder {
     {
         let Decoder {
             frames: _,
-            course,
+            stream,
             alloc: _,
         } = self;
-        course.into_schema()
+        stream.into_schema()
     }
 
     /// Returns the number of messages that came, including the schema's and those of dictionaries.
@@ -275,7 +275,7 @@ impl Decoder {
     pub fn messages(&self) -> u64
         ensures { result ≡ self.now.messages }
     {
-        self.course.messages
+        self.stream.messages
     }
 
     /// Ends the input: no more bytes come. Returns `End::Closed` after the schema and between two
@@ -289,16 +289,16 @@ impl Decoder {
         // No list is kept, whatever the result.
         ensures let_go { self.new.room ≡ no_capacity }
     {
-        match self.course.phase {
+        match self.stream.phase {
             StreamPhase::Refused => Err(Fault::Failed),
             StreamPhase::Ended(end) => Ok(end),
             StreamPhase::Reading => {
                 let closed = self.frames.close();
-                if closed.is_ok() && self.course.scope.is_some() {
-                    self.course.phase = StreamPhase::Ended(End::Closed);
+                if closed.is_ok() && self.stream.scope.is_some() {
+                    self.stream.phase = StreamPhase::Ended(End::Closed);
                     return Ok(End::Closed);
                 }
-                Err(self.course.refuse(Fault::Truncated))
+                Err(self.stream.refuse(Fault::Truncated))
             }
         }
     }

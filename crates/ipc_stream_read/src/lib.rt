@@ -5,9 +5,7 @@
 mod decoder;
 mod end;
 mod event;
-mod events;
 mod feed_progress;
-mod in_force;
 pub mod laws;
 mod reader;
 mod scope;

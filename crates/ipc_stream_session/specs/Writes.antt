@@ -29,7 +29,7 @@ use Rattle.ipc_stream_session.specs.Stages.{HasWritten, IsNotOpen, SendsBatch, e
 use Rattle.ipc_stream_session.specs.Tables.{FinishesTable, Moves, StopsAtStart, TableState}
 use Rattle.ipc_stream_session.specs.WriteErrors.{error_line, error_number}
 use Rattle.ipc_stream_session.specs.declared.batch.ReadBatch.{ReadBatch}
-use Rattle.ipc_stream_session.specs.declared.cells.Around.{Around}
+use Rattle.ipc_stream_session.specs.declared.cells.OpenNesting.{OpenNesting}
 use Rattle.ipc_stream_session.specs.declared.cells.Nesting.{Nesting}
 use Rattle.ipc_stream_session.specs.declared.stage.Stage.{Stage}
 use Rattle.ipc_stream_session.specs.declared.stage.Stage.TheVariants as stage
@@ -43,7 +43,7 @@ pub record IsNew (limits : Limits) (s : WriteSession) : Type 0 where
   pub stage_is : s.stage ≡ stage.New
   pub front_is : s.front ≡ []
   pub cells_are : s.cells ≡ []
-  pub around_is : s.around ≡ []
+  pub nestings_are : s.nestings ≡ []
   pub rows_are : s.rows ≡ []
   pub pairs_are : s.pairs ≡ []
   pub error_is : s.error ≡ None
@@ -152,26 +152,26 @@ AddsText text old new r = OnStage old.stage (λ _. AddsUtf8 text old new r) old 
 
 -- a list or struct is begun after the cells so far; more than 64 of them are a misuse
 abbrev pub BeginsIn : Nesting → WriteSession → WriteSession → Result ⊤ WriteError → Type 0
-BeginsIn begun old new (Ok x) = (length old.around < 64) × (new ≡ record old {
-  around = old.around ++ record { begun = begun; cells = old.cells } ∷ [];
+BeginsIn kind old new (Ok x) = (length old.nestings < 64) × (new ≡ record old {
+  nestings = old.nestings ++ record { kind = kind; cells = old.cells } ∷ [];
   cells = [];
 })
-BeginsIn begun old new (Err error.Misuse) = (64 ≤ length old.around) × (new ≡ old)
-BeginsIn begun old new (Err e) = RunsOut old new e
+BeginsIn kind old new (Err error.Misuse) = (64 ≤ length old.nestings) × (new ≡ old)
+BeginsIn kind old new (Err e) = RunsOut old new e
 
 -- the call that begins a list or a struct
 abbrev pub BeginsCell : Nesting → WriteSession → WriteSession → Result ⊤ WriteError → Type 0
-BeginsCell begun old new r = OnStage old.stage (λ _. BeginsIn begun old new r) old new r
+BeginsCell kind old new r = OnStage old.stage (λ _. BeginsIn kind old new r) old new r
 
 -- the list or struct that was begun last is the next cell of what is around it; if there is none,
 -- the call is a misuse
 abbrev pub EndsIn : WriteSession → WriteSession → Result ⊤ WriteError → Type 0
-EndsIn old new (Ok x) = (outer : List Around) × ((last : Around)
-    × (old.around ≡ outer ++ last ∷ []) × (new ≡ record old {
-      around = outer;
-      cells = last.cells ++ nested_cell last.begun old.cells ∷ [];
+EndsIn old new (Ok x) = (outer : List OpenNesting) × ((last : OpenNesting)
+    × (old.nestings ≡ outer ++ last ∷ []) × (new ≡ record old {
+      nestings = outer;
+      cells = last.cells ++ nested_cell last.kind old.cells ∷ [];
     }))
-EndsIn old new (Err error.Misuse) = (old.around ≡ []) × (new ≡ old)
+EndsIn old new (Err error.Misuse) = (old.nestings ≡ []) × (new ≡ old)
 EndsIn old new (Err e) = RunsOut old new e
 
 -- the call that ends the list or struct that was begun last
@@ -183,12 +183,12 @@ EndsCell old new r = OnStage old.stage (λ _. EndsIn old new r) old new r
 -- the cells are a row that fits, and is the last pending one; or they do not fit, and are dropped;
 -- inside a list or struct the call is a misuse
 abbrev pub TakesRow : TableState → WriteSession → WriteSession → Result ⊤ WriteError → Type 0
-TakesRow t old new (Ok x) = (old.around ≡ []) × RowFits t.schema.fields old.cells
+TakesRow t old new (Ok x) = (old.nestings ≡ []) × RowFits t.schema.fields old.cells
     × (new ≡ record old { cells = []; rows = old.rows ++ old.cells ∷ [] })
-TakesRow t old new (Err (error.Refused (w.Row row fault))) = (old.around ≡ [])
+TakesRow t old new (Err (error.Refused (w.Row row fault))) = (old.nestings ≡ [])
     × (row ≡ length old.rows) × IsFirstRowFault t.schema.fields old.cells fault
     × (new ≡ record old { cells = [] })
-TakesRow t old new (Err error.Misuse) = (old.around ≢ []) × (new ≡ old)
+TakesRow t old new (Err error.Misuse) = (old.nestings ≢ []) × (new ≡ old)
 TakesRow t old new (Err e) = RunsOut old new e
 
 -- the call that ends the row
@@ -257,7 +257,7 @@ SendsColumns b old new r = OnStage old.stage (λ t. SendsRead b t old new r) old
 
 -- no row, no pair and no cell is pending
 abbrev pub HasNonePending : WriteSession → Type 0
-HasNonePending s = (s.rows ≡ []) × (s.pairs ≡ []) × (s.cells ≡ []) × (s.around ≡ [])
+HasNonePending s = (s.rows ≡ []) × (s.pairs ≡ []) × (s.cells ≡ []) × (s.nestings ≡ [])
 
 -- the end mark was sent, or not for this cause, and all bytes that were sent wait
 pub record FinishesWith (t : TableState) (old new : WriteSession) (r : Result ⊤ WriteError) :

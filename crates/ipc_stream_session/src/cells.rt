@@ -30,9 +30,9 @@ impl Nesting {
 /// The cells that come before a list or struct that has not ended, in the row or in what is around
 /// it.
 #[derive(Drop)]
-pub(crate) struct Around {
-    /// What was begun after these cells.
-    pub(crate) begun: Nesting,
+pub(crate) struct OpenNesting {
+    /// Whether a list or a struct follows these cells.
+    pub(crate) kind: Nesting,
     /// The cells.
     pub(crate) cells: Items<Value>,
 }

@@ -3,7 +3,7 @@ ghost use Rattle.std.specs.Prelude.{◌≡◌, ◌⊎◌, IfErr, IfOk, length};
 ghost use Rattle.ipc_stream_session.specs.Writes as w;
 
 use crate::batch::ReadBatch;
-use crate::cells::{Around, Nesting, pop, push};
+use crate::cells::{Nesting, OpenNesting, pop, push};
 use crate::open_table::OpenTable;
 use crate::ready::Ready;
 use crate::stage::Stage;
@@ -33,7 +33,7 @@ pub struct WriteSession {
     // The cells of the innermost list or struct that has not ended, or of the row.
     cells: Items<Value>,
     // The open lists and structs, outermost first.
-    around: Items<Around>,
+    nestings: Items<OpenNesting>,
     rows: Items<Row>,
     // The pairs of the batch that these rows are sent as.
     pairs: Items<(Text, Text)>,
@@ -136,15 +136,15 @@ impl WriteSession {
         }
     }
 
-    fn try_begin_cell(&mut self, begun: Nesting) -> Result<(), WriteError>
-        ensures { w.BeginsCell begun self.old self.new result }
+    fn try_begin_cell(&mut self, kind: Nesting) -> Result<(), WriteError>
+        ensures { w.BeginsCell kind self.old self.new result }
     {
         self.stage.open()?;
-        if self.around.len() >= MAX_NESTING {
+        if self.nestings.len() >= MAX_NESTING {
             return Err(WriteError::Misuse);
         }
         let cells = mem::replace(&mut self.cells, Items::new(self.alloc));
-        if push(&mut self.around, Around { begun, cells }).is_err() {
+        if push(&mut self.nestings, OpenNesting { kind, cells }).is_err() {
             return Err(self.end(WriteFault::OutOfMemory));
         }
         Ok(())
@@ -154,10 +154,10 @@ impl WriteSession {
         ensures { w.EndsCell self.old self.new result }
     {
         self.stage.open()?;
-        let Some(Around { begun, cells }) = pop(&mut self.around) else {
+        let Some(OpenNesting { kind, cells }) = pop(&mut self.nestings) else {
             return Err(WriteError::Misuse);
         };
-        let cell = begun.of(mem::replace(&mut self.cells, cells));
+        let cell = kind.of(mem::replace(&mut self.cells, cells));
         if push(&mut self.cells, cell).is_err() {
             return Err(self.end(WriteFault::OutOfMemory));
         }
@@ -168,7 +168,7 @@ impl WriteSession {
         ensures { w.EndsRow self.old self.new result }
     {
         let table = self.stage.open()?;
-        if !self.around.is_empty() {
+        if !self.nestings.is_empty() {
             return Err(WriteError::Misuse);
         }
         let row = mem::replace(&mut self.cells, Items::new(self.alloc));
@@ -243,7 +243,7 @@ impl WriteSession {
         if !self.rows.is_empty()
             || !self.pairs.is_empty()
             || !self.cells.is_empty()
-            || !self.around.is_empty()
+            || !self.nestings.is_empty()
         {
             self.stage = Stage::Open(table);
             return Err(WriteError::Misuse);
@@ -278,7 +278,7 @@ impl WriteSession {
             stage: Stage::New,
             front: Ready::new(Vec::new(alloc)),
             cells: Items::new(alloc),
-            around: Items::new(alloc),
+            nestings: Items::new(alloc),
             rows: Items::new(alloc),
             pairs: Items::new(alloc),
             error: None,
@@ -347,10 +347,10 @@ impl WriteSession {
 
     /// Begins a list or a struct, whose cells follow. It is a misuse if 64 lists and structs are
     /// open. Returns as `add_null`.
-    pub fn begin_cell(&mut self, begun: Nesting) -> u32
-        ensures { w.Reports (w.BeginsCell begun) self.old self.new result }
+    pub fn begin_cell(&mut self, kind: Nesting) -> u32
+        ensures { w.Reports (w.BeginsCell kind) self.old self.new result }
     {
-        let answer = self.try_begin_cell(begun);
+        let answer = self.try_begin_cell(kind);
         self.report(answer)
     }
 

@@ -3,7 +3,7 @@ use Rattle.std.specs.Int.{w64}
 use Rattle.std.proofs.lemmas.Int.{to_z-of_z}
 use Rattle.std.specs.Prelude.{Ok}
 use Rattle.ipc_meta.specs.FlatFaults.{map_fault}
-use Rattle.ipc_meta.proofs.Sound.{lift_ok, batch_sound}
+use Rattle.ipc_meta.proofs.Sound.{batch_sound}
 use Rattle.ipc_meta.proofs.Unique.{dictionary_same, values_refused}
 use Rattle.std.proofs.lemmas.Result.{err_from_is_err_and}
 use Rattle.std.specs.Prelude.{pos}
@@ -11,6 +11,7 @@ use Rattle.ipc_scalar.specs.Bytes.{int64}
 use Rattle.ipc_meta.specs.Reached.{dictionary_batch, id, is_delta, values, of_values}
 use Rattle.ipc_meta.proofs.Refused.{bad_number, bad_flag, bad_table, batch_refused}
 use Rattle.ipc_meta.proofs.batches.read_dictionary_batch.Goals as goal
+use Rattle.ipc_meta.proofs.Binds.{lift_ok}
 
 pub returns-in_ok-read_batch-in-Some-clause-found : goal.returns-in_ok-read_batch-in-Some-clause-found
 returns-in_ok-read_batch-in-Some-clause-found c = record {

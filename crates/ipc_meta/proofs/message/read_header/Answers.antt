@@ -2,12 +2,12 @@ use Rattle.std.proofs.Common.{◌∙◌, sym, ap}
 use Rattle.std.specs.Prelude.{Ok}
 use Rattle.std.proofs.lemmas.Result.{err_from_is_err_and}
 use Rattle.ipc_meta.specs.FlatFaults.{map_fault}
-use Rattle.ipc_meta.proofs.Sound.{lift_ok}
 use Rattle.ipc_meta.proofs.Unique.{dictionary_refused, record_batch_refused}
 use Rattle.ipc_scalar.specs.Bytes.{byte}
 use Rattle.ipc_meta.specs.Reached.{message, header_type, at_header, of_schema, of_dictionary, of_batch, with_batch}
 use Rattle.ipc_meta.proofs.Refused.{bad_number, bad_value}
 use Rattle.ipc_meta.proofs.message.read_header.Goals as goal
+use Rattle.ipc_meta.proofs.Binds.{lift_ok}
 
 pub returns-in_err-id-in-2-clause-only : goal.returns-in_err-id-in-2-clause-only
 returns-in_err-id-in-2-clause-only c = λ h a.

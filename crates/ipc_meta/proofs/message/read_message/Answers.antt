@@ -3,10 +3,10 @@ use Rattle.std.proofs.lemmas.Bool.{lt-ltb}
 use Rattle.std.proofs.lemmas.Result.{err_from_is_err_and}
 use Rattle.ipc_meta.specs.FlatFaults.{map_fault}
 use Rattle.ipc_meta.specs.Reached.{of_root, no_root}
-use Rattle.ipc_meta.proofs.Sound.{lift_ok}
 use Rattle.ipc_meta.proofs.Refused.{illegible}
 use Rattle.ipc_meta.proofs.Texts.{no_table_from}
 use Rattle.ipc_meta.proofs.message.read_message.Goals as goal
+use Rattle.ipc_meta.proofs.Binds.{lift_ok}
 
 pub returns-in_err-root-clause-refused : goal.returns-in_err-root-clause-refused
 returns-in_err-root-clause-refused c =

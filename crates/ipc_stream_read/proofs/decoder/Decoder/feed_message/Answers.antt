@@ -9,8 +9,8 @@ pub returns-in_err-event-in-Ok-default-Some-clause-fed :
 returns-in_err-event-in-Ok-default-Some-clause-fed c =
     let p = err_from_is_err_and c.from_residual.result c.from_residual.ensures.1 in
     rw (p.1, p.2)
-    (feeds_frame_refused c.self.inside.frames c.feed.new.self c.self.inside.course c.accept.new.self c.self.invariant c.in-Reading.is
-    c.self.inside.course.counted _ c.self.view_is c.in-Ok-default-Some.taken _ _
+    (feeds_frame_refused c.self.inside.frames c.feed.new.self c.self.inside.stream c.accept.new.self c.self.invariant c.in-Reading.is
+    c.self.inside.stream.counted _ c.self.view_is c.in-Ok-default-Some.taken _ _
     c.in-Ok-default-Some.frame c.in_err-event-in-Ok-default-Some.field-0.0 c.in-Ok-default-Some.field-0-1-is
     c.in-Ok-default-Some.ensures.feeds
     c.in_err-event-in-Ok-default-Some.ensures.brings c.in_err-event-in-Ok-default-Some.ensures.moves
@@ -18,25 +18,25 @@ returns-in_err-event-in-Ok-default-Some-clause-fed c =
 
 pub returns-in-Err-clause-fed : goal.returns-in-Err-clause-fed
 returns-in-Err-clause-fed c =
-    feeds_refused c.self.inside.frames c.feed.new.self c.self.inside.course c.refuse.new.self c.self.invariant c.in-Reading.is
-    c.self.inside.course.counted _ c.self.view_is _ c.in-Err.fault _ c.refuse.ensures.fault
+    feeds_refused c.self.inside.frames c.feed.new.self c.self.inside.stream c.refuse.new.self c.self.invariant c.in-Reading.is
+    c.self.inside.stream.counted _ c.self.view_is _ c.in-Err.fault _ c.refuse.ensures.fault
     c.in-Err.ensures.feeds c.in-Err.ensures.memory c.refuse.ensures.refused
 
 pub returns-in-Ok-default-None-clause-fed : goal.returns-in-Ok-default-None-clause-fed
 returns-in-Ok-default-None-clause-fed c =
-    feeds_none c.self.inside.frames c.feed.new.self c.self.inside.course c.self.inside.course c.self.invariant c.in-Reading.is
-    c.self.inside.course.counted _ c.self.view_is c.in-Ok-default-None.taken _ _
+    feeds_none c.self.inside.frames c.feed.new.self c.self.inside.stream c.self.inside.stream c.self.invariant c.in-Reading.is
+    c.self.inside.stream.counted _ c.self.view_is c.in-Ok-default-None.taken _ _
     c.in-Ok-default-None.field-0-1-is c.in-Ok-default-None.ensures.feeds refl
 
 pub returns-after-branch-2-clause-fed : goal.returns-after-branch-2-clause-fed
 returns-after-branch-2-clause-fed c = elim c.match-branch-2.branch [
-  | in-Some w ↦ rw w.result-is (feeds_event c.self.inside.frames c.feed.new.self c.self.inside.course c.accept.new.self c.self.invariant
-      c.in-Reading.is c.self.inside.course.counted _ c.self.view_is c.in-Ok-default-Some.taken _ _
+  | in-Some w ↦ rw w.result-is (feeds_event c.self.inside.frames c.feed.new.self c.self.inside.stream c.accept.new.self c.self.invariant
+      c.in-Reading.is c.self.inside.stream.counted _ c.self.view_is c.in-Ok-default-Some.taken _ _
       c.in-Ok-default-Some.frame c.in_ok-event-in-Ok-default-Some.field-0 w.in-Some.event w.in-Some.is
       c.in-Ok-default-Some.field-0-1-is c.in-Ok-default-Some.ensures.feeds
       c.in_ok-event-in-Ok-default-Some.ensures.brings c.in_ok-event-in-Ok-default-Some.ensures.moves)
-  | in-None w ↦ rw w.result-is (feeds_silent c.self.inside.frames c.feed.new.self c.self.inside.course c.accept.new.self c.self.invariant
-      c.in-Reading.is c.self.inside.course.counted _ c.self.view_is c.in-Ok-default-Some.taken _ _
+  | in-None w ↦ rw w.result-is (feeds_silent c.self.inside.frames c.feed.new.self c.self.inside.stream c.accept.new.self c.self.invariant
+      c.in-Reading.is c.self.inside.stream.counted _ c.self.view_is c.in-Ok-default-Some.taken _ _
       c.in-Ok-default-Some.frame c.in_ok-event-in-Ok-default-Some.field-0 w.in-None.is
       c.in-Ok-default-Some.field-0-1-is c.in-Ok-default-Some.ensures.feeds
       c.in_ok-event-in-Ok-default-Some.ensures.brings c.in_ok-event-in-Ok-default-Some.ensures.moves)
