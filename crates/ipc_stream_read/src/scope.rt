@@ -1,23 +1,11 @@
-//! What is in force after the schema: its columns and the values of its dictionaries.
 ghost use Rattle.std.specs.Coded.{codes};
-ghost use Rattle.std.specs.Prelude.{◌≡◌, ◌≤◌, true, length, IfOk, IfErr, Some};
+ghost use Rattle.std.specs.Prelude.{◌≡◌, ◌≤◌, true, length};
 ghost use Rattle.ipc_model.specs.Entries.{entries};
 ghost use Rattle.ipc_model.specs.contracts.schema.Field.{the_row};
 ghost use Rattle.ipc_stream_read.specs.Alone.{HasColumnsOf, are_alone};
-ghost use Rattle.ipc_model.specs.WellFormed.{WellFormed};
-ghost use Rattle.ipc_column.specs.DictionaryBatches.{IsDictionary};
-ghost use Rattle.ipc_column.specs.Rows.{RefusesParts, Rows};
-ghost use Rattle.ipc_stream_read.specs.StreamStates.{GivesValues, RefusesValues, SetsValues};
-ghost use Rattle.ipc_stream_read.specs.Decoding.{dictionary_bytes};
-ghost use Rattle.ipc_stream_read.specs.Scopes.{in_scope, state_of};
-ghost use Rattle.ipc_stream_read.specs.Stream.{initial_state, values_in};
 
-use ipc_column::Batch;
 use ipc_dict_read::Dictionaries;
-use ipc_meta::BatchHead;
-use ipc_model::{Fault, Limits, Schema};
-use std::alloc::Global;
-use std::collections::BTreeMap;
+use ipc_model::{Limits, Schema};
 
 // What is in force after the schema's message: the schema, with no more fields than the limits
 // allow, and the dictionaries that were set. The values of each are one column without children or
@@ -30,101 +18,4 @@ pub struct Scope {
     ghost few_fields: { length (entries schema.fields) ≤ limits.fields },
     ghost columns: { HasColumnsOf schema dictionaries } by { Prim.hlevel (codes, the_row.coded) },
     ghost alone: { are_alone dictionaries.columns ≡ true },
-}
-
-impl Scope {
-    // What a schema puts in force under these limits: no dictionary yet. Refused with `OutOfMemory`
-    // where the columns of its dictionaries find no room.
-    pub fn new(alloc: Global, limits: Limits, schema: Schema) -> Result<Scope, Fault>
-        requires { WellFormed limits schema }
-        ensures begun { IfOk result (λ scope. in_scope scope ≡ initial_state schema) }
-        ensures limits { IfOk result (λ scope. scope.limits ≡ limits) }
-        ensures memory { IfErr result (λ fault. fault ≡ Fault.OutOfMemory) }
-    {
-        let dictionaries = Dictionaries::new(alloc, &schema)?;
-        Ok(Scope {
-            limits,
-            schema,
-            dictionaries,
-        })
-    }
-
-    // The batch that a head and a body give under the dictionaries in force. Refused as
-    // `Batch::check` says.
-    pub fn read_batch(&self, alloc: Global, head: BatchHead, body: Vec<u8>) -> Result<Batch, Fault>
-        ensures rows { IfOk result (λ batch. Rows self.now.limits
-            (values_in (in_scope self.now).dictionaries)
-            self.now.schema.fields head body.items batch.rows) }
-        ensures refused { IfErr result (λ fault. RefusesParts self.now.limits fault
-            (values_in (in_scope self.now).dictionaries) self.now.schema.fields head body.items) }
-        ensures columns { IfOk result (λ batch. batch.columns ≡ length self.now.schema.fields) }
-    {
-        Batch::check(
-            alloc,
-            &self.limits,
-            self.schema.fields.as_slice(),
-            head,
-            body,
-            self.dictionaries.current(),
-        )
-    }
-
-    // The values that a head and a body give for the dictionary with the id, by its one column.
-    // Refused with `UnknownDictionary` where no field names it, else as `Batch::check` says.
-    fn read_values(
-        &self,
-        alloc: Global,
-        id: i64,
-        head: BatchHead,
-        body: Vec<u8>,
-    ) -> Result<Batch, Fault>
-        ensures values { IfOk result (λ batch. GivesValues self.now.limits (in_scope self.now) id
-            head body.items batch) }
-        ensures dictionary { IfOk result (λ batch. IsDictionary batch) }
-        ensures refused { IfErr result (λ fault. RefusesValues self.now.limits (in_scope self.now)
-            id head body.items fault) }
-    {
-        let Some(columns) = self.dictionaries.fields_of(id) else {
-            return Err(Fault::UnknownDictionary);
-        };
-        let none = BTreeMap::new(alloc);
-        Batch::check(alloc, &self.limits, columns.as_slice(), head, body, &none)
-    }
-
-    // Sets the dictionary with the id to the values that a head and a body give, in the place of
-    // those before. Refused as `read_values` says, or with `OutOfMemory` where the values find no
-    // place; then all is as before.
-    pub fn set(
-        &mut self,
-        alloc: Global,
-        id: i64,
-        head: BatchHead,
-        body: Vec<u8>,
-    ) -> Result<(), Fault>
-        ensures sets { SetsValues self.old.limits (in_scope self.old) (in_scope self.new) id head
-            body.items result }
-        ensures limits { self.new.limits ≡ self.old.limits }
-    {
-        let values = self.read_values(alloc, id, head, body)?;
-        self.dictionaries.apply(alloc, id, values)
-    }
-
-    // How many bytes the bodies have together that set the dictionaries.
-    pub fn held(&self) -> usize
-        ensures { result ≡ dictionary_bytes (state_of (Some self.now)) }
-    {
-        self.dictionaries.held()
-    }
-
-    // The schema alone.
-    pub fn into_schema(self) -> Schema
-        ensures { result ≡ self.schema }
-    {
-        let Scope {
-            limits: _,
-            schema,
-            dictionaries: _,
-        } = self;
-        schema
-    }
 }

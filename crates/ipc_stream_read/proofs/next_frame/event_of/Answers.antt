@@ -3,7 +3,7 @@ use Rattle.ipc_stream_read.specs.declared.event.Event.TheVariants as told
 use Rattle.ipc_stream_read.specs.StreamStates.{Brings}
 use Rattle.ipc_stream_read.specs.Scopes.{in_scope, state_of}
 use Rattle.ipc_stream_read.proofs.Scoped.{first_brings}
-use Rattle.ipc_stream_read.proofs.stream_state.event_of.Goals as goal
+use Rattle.ipc_stream_read.proofs.next_frame.event_of.Goals as goal
 
 pub returns-in_ok-scope_of-in-None-clause-brings : goal.returns-in_ok-scope_of-in-None-clause-brings
 returns-in_ok-scope_of-in-None-clause-brings c =

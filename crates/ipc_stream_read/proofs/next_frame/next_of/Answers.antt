@@ -4,7 +4,7 @@ use Rattle.ipc_stream_read.specs.declared.event.Event.TheVariants as told
 use Rattle.ipc_stream_read.specs.StreamStates.{Brings}
 use Rattle.ipc_stream_read.specs.Scopes.{in_scope}
 use Rattle.ipc_stream_read.specs.Stream.{came}
-use Rattle.ipc_stream_read.proofs.stream_state.next_of.Goals as goal
+use Rattle.ipc_stream_read.proofs.next_frame.next_of.Goals as goal
 
 pub returns-in-Batch-clause-next : goal.returns-in-Batch-clause-next
 returns-in-Batch-clause-next c =
