@@ -163,6 +163,11 @@ module _ (limits : Limits) (fields : List Field) where
   over_first t ps fault over (inl long) (inr many) = over-all t ps fault (over long)
   over_first t ps fault over (inr memory) (inr many) = absurd cc
 
+-- entries that were written back over as many are these entries
+pub written_back : (new old : List TallyEntry) (n : ℕ) → n ≡ length new → take n (new ++ drop (length new) old) ≡ new
+written_back new old n len =
+    ap (λ (k : ℕ). take k (new ++ drop (length new) old)) len ∙ take-append_seam new (drop (length new) old)
+
 -- ---- the columns of a tally
 
 pub grow_length : (t u : List TallyEntry) → AllGrow t u → length u ≡ length t
@@ -193,6 +198,5 @@ module _ (fields : List Field) where
   pub within_again : (fs : List Field) (new old : List TallyEntry) (n : ℕ) (columns : EntryColumns) → fs ≡ fields → n ≡ length new
       → AreEntriesCounted fs new columns → AllWithin columns.limits fields (take n (new ++ drop (length new) old))
   within_again fs new old n columns same len h =
-      let whole = ap (λ (k : ℕ). take k (new ++ drop (length new) old)) len ∙ take-append_seam new (drop (length new) old) in
-      subst (λ (es : List TallyEntry). AllWithin columns.limits fields es) (sym whole)
+      subst (λ (es : List TallyEntry). AllWithin columns.limits fields es) (sym (written_back new old n len))
       (counted_within new columns (subst (λ (xs : List Field). AreEntriesCounted xs new columns) same h))

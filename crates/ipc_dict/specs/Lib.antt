@@ -1,5 +1,6 @@
 pub mod Distinct
 pub mod Noting
+pub mod NotesPairs
 pub mod Pairs
 pub mod TallyState
 pub mod Planning

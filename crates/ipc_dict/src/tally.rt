@@ -3,6 +3,7 @@ ghost use Rattle.std.specs.Prelude.{◌↔◌, [], IsTrue};
 ghost use Rattle.std.specs.Prelude.{◌≡◌, true, false, length, IfOk, IfErr, OnOk, OnErr, ◌⊎◌, Err};
 ghost use Rattle.ipc_dict.specs.Noting.{note_all, AllFit, IsIndexOverflow, HoldsDistinct};
 ghost use Rattle.ipc_dict.specs.Noting.{tally_lengths, truncated_tally};
+ghost use Rattle.ipc_dict.specs.NotesPairs.{NotesPairs};
 ghost use Rattle.ipc_dict.specs.Noting.{AllGrow, KeepsPlaces, PlacesAll};
 ghost use Rattle.ipc_dict.specs.Pairs.{row_pairs, rows_pairs};
 ghost use Rattle.ipc_dict.specs.SchemaIds.{ids_of, empty_entries, kept_ids, tally_bounds};
@@ -134,35 +135,7 @@ impl Tally {
     /// - W10 `Failed`: the call comes after W11.
     #[inline(always)]
     pub fn note(&mut self, row: &[Value]) -> Result<(), PushFault>
-        ensures noted { OnOk result (self.new ≡ record self.old {
-          entries = note_all self.old.entries (row_pairs self.old.fields row.now);
-        }) }
-        // The fields, the limits and the ids never change, whatever the result is.
-        ensures fields { self.new.fields ≡ self.old.fields }
-        ensures limits { self.new.limits ≡ self.old.limits }
-        ensures ids { tally_ids self.new.entries ≡ tally_ids self.old.entries }
-        ensures fits { AllFit self.new.entries }
-        ensures within { AllWithin self.new.limits self.new.fields self.new.entries }
-        ensures unchanged { IfErr result
-            (λ fault. write_fault fault ≡ WriteFault.DictionaryFull → self.new ≡ self.old) }
-        ensures as_before { IfErr result
-            (λ fault. IsOfLimits (write_fault fault) → self.new ≡ self.old) }
-        ensures full { IfErr result (λ fault. write_fault fault ≡ WriteFault.DictionaryFull
-            → IsIndexOverflow (note_all self.old.entries (row_pairs self.old.fields row.now))) }
-        // At W6 and W8 a dictionary's column would be longer than the limits allow.
-        ensures over { IfErr result (λ fault. IsOfLimits (write_fault fault)
-            → IsOverLimit self.old.limits self.old.fields
-            (note_all self.old.entries (row_pairs self.old.fields row.now)) (write_fault fault)) }
-        ensures failed { IfErr result
-            (λ fault. write_fault fault ≡ WriteFault.OutOfMemory → self.new.failed ≡ true) }
-        // A tally that has failed counts no row.
-        ensures refused { self.old.failed ≡ true → result ≡ Err PushFault.Failed }
-        ensures still_failed { self.old.failed ≡ true → self.new.failed ≡ true }
-        ensures before { IfErr result
-            (λ fault. write_fault fault ≡ WriteFault.Failed → self.old.failed ≡ true) }
-        ensures only { IfErr result (λ fault. ((write_fault fault ≡ WriteFault.DictionaryFull)
-            ⊎ IsOfLimits (write_fault fault)) ⊎ ((write_fault fault ≡ WriteFault.OutOfMemory)
-            ⊎ (write_fault fault ≡ WriteFault.Failed))) }
+        ensures { NotesPairs self.old (row_pairs self.old.fields row.now) self.new result }
     {
         if self.failed {
             return Err(PushFault::Failed);
@@ -196,38 +169,7 @@ impl Tally {
     /// - W11 `OutOfMemory`: memory for a value or a mark ran out.
     /// - W10 `Failed`: the call comes after W11.
     pub fn note_columns(&mut self, batch: &Batch) -> Result<(), PushFault>
-        ensures noted { OnOk result (self.new ≡ record self.old {
-          entries = note_all self.old.entries (rows_pairs self.old.fields batch.now.rows);
-        }) }
-        // The fields, the limits and the ids never change, whatever the result is.
-        ensures fields { self.new.fields ≡ self.old.fields }
-        ensures limits { self.new.limits ≡ self.old.limits }
-        ensures ids { tally_ids self.new.entries ≡ tally_ids self.old.entries }
-        ensures fits { AllFit self.new.entries }
-        ensures within { AllWithin self.new.limits self.new.fields self.new.entries }
-        ensures unchanged { IfErr result
-            (λ fault. write_fault fault ≡ WriteFault.DictionaryFull → self.new ≡ self.old) }
-        ensures as_before { IfErr result
-            (λ fault. IsOfLimits (write_fault fault) → self.new ≡ self.old) }
-        ensures full { IfErr result (λ fault. write_fault fault ≡ WriteFault.DictionaryFull
-            → IsIndexOverflow (note_all self.old.entries
-            (rows_pairs self.old.fields batch.now.rows))) }
-        // At W6 and W8 a dictionary's column would be longer than the limits allow.
-        ensures over { IfErr result (λ fault. IsOfLimits (write_fault fault)
-            → IsOverLimit self.old.limits self.old.fields
-            (note_all self.old.entries (rows_pairs self.old.fields batch.now.rows))
-            (write_fault fault)) }
-        ensures failed { IfErr result
-            (λ fault. write_fault fault ≡ WriteFault.OutOfMemory → self.new.failed ≡ true) }
-        // A tally that has failed counts no row.
-        ensures refused { self.old.failed ≡ true → result ≡ Err PushFault.Failed }
-        ensures still_failed { self.old.failed ≡ true → self.new.failed ≡ true }
-        ensures before { IfErr result
-            (λ fault. write_fault fault ≡ WriteFault.Failed → self.old.failed ≡ true) }
-        ensures only { IfErr result (λ fault. ((write_fault fault ≡ WriteFault.DictionaryFull)
-            ⊎ IsOfLimits (write_fault fault))
-            ⊎ ((write_fault fault ≡ WriteFault.OutOfMemory)
-            ⊎ (write_fault fault ≡ WriteFault.Failed))) }
+        ensures { NotesPairs self.old (rows_pairs self.old.fields batch.now.rows) self.new result }
     {
         if self.failed {
             return Err(PushFault::Failed);

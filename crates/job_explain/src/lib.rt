@@ -12,8 +12,6 @@ mod message_record;
 mod numbers;
 mod recorder;
 mod stream_context;
-#[cfg(test)]
-mod tests;
 mod writes;
 
 pub use recorder::Recorder;

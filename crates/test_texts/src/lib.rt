@@ -1,6 +1,8 @@
-//! Tests of `ipc_text`: texts of schemas, rows, dates and times, and what is read back of them.
+//! Tests of `ipc_text`, and of the jobs of the command.
 #![tactic(auto)]
 
+#[cfg(test)]
+mod explained;
 #[cfg(test)]
 mod first_rows;
 #[cfg(test)]

@@ -1,12 +1,10 @@
-//! Streams that are refused while a recorder keeps their messages.
-ghost use Rattle.std.specs.Prelude.{◌≤◌, ◌-◌, None, length, vec_len};
-
-use crate::recorder::Recorder;
-use crate::writes::explain_write;
-use ipc_frame::{Failed, Frames, Source};
+//! Lines that explain why a stream is refused, or why rows are not written.
+use ipc_frame::Frames;
 use ipc_model::{
     DataType, Dictionary, Fault, Field, IndexType, IntBits, Limits, Schema, WriteFault,
 };
+use ipc_stream::Memory;
+use job_explain::{Recorder, explain_write};
 use std::alloc::Global;
 use std::test::Fail;
 
@@ -19,36 +17,9 @@ const FLOATING_POINT: [u8; 128] = [
     0, 0, 0, 10, 0, 0, 0, 0, 0, 0, 0,
 ];
 
-// A source of bytes in memory.
-#[derive(Drop)]
-struct Bytes {
-    bytes: Vec<u8>,
-    at: usize,
-    ghost in_range: { at ≤ vec_len bytes },
-}
-
-impl Source for Bytes {
-    ghost remaining = { λ _. None };
-
-    ghost failures = { λ s. 0 };
-
-    ghost bound = { λ s. length s.bytes.items - s.at };
-
-    fn read(&mut self, into: &mut [u8]) -> Result<usize, Failed> {
-        let unread = &self.bytes[self.at..];
-        let count = unread.len().min(into.len());
-        into[..count].copy_from_slice(&unread[..count]);
-        self.at += count;
-        Ok(count)
-    }
-}
-
 // The lines for the refusal of the first message of a stream.
 fn explained(alloc: Global, stream: &[u8], on: bool) -> Result<Vec<u8>, Fault> {
-    let source = Bytes {
-        bytes: Vec::from_slice(alloc, stream)?,
-        at: 0,
-    };
+    let source = Memory::new(Vec::from_slice(alloc, stream)?);
     let mut recorder = Recorder::new(alloc, Limits::standard(), source, on);
     let mut frames = Frames::new(alloc, Limits::standard());
     for _ in 0..100 {
