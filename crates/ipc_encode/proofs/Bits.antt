@@ -12,7 +12,7 @@ use Rattle.std.proofs.lemmas.Nat.{one_shl, and_le_l}
 use Rattle.std.proofs.lemmas.Nat.Bits.{bit_at-zero, bit_at_lowest, bit_at-suc, bit_at-lt, bit_at_and}
 use Rattle.std.specs.Int.{bit_at, from_bool}
 use Rattle.std.specs.Int.Bits.{or_shifted_r}
-use Rattle.std.specs.Prelude.{◌==◌, slice_set, bit_or, ◌&&◌, bit_and, min, not}
+use Rattle.std.specs.Prelude.{◌==◌, slice_set, bit_or, ◌&&◌, bit_and, min}
 use Rattle.ipc_scalar.specs.Bytes.{bit, clear}
 use Rattle.ipc_model.specs.declared.value.Value.{Value}
 use Rattle.ipc_model.specs.declared.value.Value.TheVariants.{Null}

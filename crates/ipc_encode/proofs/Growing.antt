@@ -16,14 +16,14 @@ use Rattle.ipc_model.specs.declared.value.Value.{Value}
 use Rattle.ipc_column.specs.Shapes.{Shape, bare, field, shapes, field_shape, shape_of}
 use Rattle.ipc_encode.specs.Buffers.{padded_buffer, padded_bytes, ranges_from, child_values, row_columns, column_buffers, buffers_of}
 use Rattle.ipc_encode.specs.Buffers.{rows_body, nodes_of}
-use Rattle.ipc_encode.specs.Built.{AreNodes, IsNode, HasTaken, IsPushRefused, ArePushesRefused}
+use Rattle.ipc_encode.specs.Built.{AreNodes, IsNode, HasTaken, IsPushRefused, ArePushesRefused, data_layout}
 use Rattle.ipc_encode.specs.Cells.{nulls}
 use Rattle.ipc_encode.specs.Columns.{bits_length, padded_length, validity_length, offsets_length, values_length, column_length, data_in}
 use Rattle.ipc_encode.specs.Columns.{ExceedsOffsets}
 use Rattle.ipc_encode.specs.Limits.{HasLongData, HasLongItems, HasLongNode, HasExcessData, AreRowsRefused, SomeColumn, SomeExcessData}
 use Rattle.ipc_encode.specs.Numbers.{Numbering}
 use Rattle.ipc_encode.specs.Writing.{Adds}
-use Rattle.ipc_encode.specs.declared.column_builder.ColumnBuilder.{ColumnBuilder}
+use Rattle.ipc_encode.specs.declared.column.ColumnBuilder.{ColumnBuilder}
 use Rattle.ipc_encode.specs.declared.column_builder.Purpose.{Purpose}
 use Rattle.ipc_encode.specs.declared.column_builder.Purpose.TheVariants as purpose
 use Rattle.ipc_encode.specs.declared.fault.PushFault.{PushFault}
@@ -32,7 +32,7 @@ use Rattle.ipc_encode.specs.declared.tree.Node.{Node, out-Node}
 use Rattle.ipc_encode.specs.declared.tree.Node.TheOpen.{Node-F}
 use Rattle.ipc_encode.specs.declared.tree.Node.TheViews.{out-roll-Node, roll-Node}
 use Rattle.ipc_encode.specs.declared.parts.Draft.{Draft}
-use Rattle.ipc_encode.proofs.Sizes.{column_size, long_is, long_from}
+use Rattle.ipc_encode.proofs.Sizes.{column_short, column_size, long_is, long_from}
 use Rattle.ipc_encode.proofs.Steps.{below_none, nulls_push, data_push, below_append, cells_append}
 
 -- ---- buffers that are added one after another
@@ -218,7 +218,7 @@ lent_node P l c vs ws node lent new e size h more = (
 -- the layout of a column that has taken values
 pub taken_laid : (known : Numbering) (p : Purpose) (limits : Limits) (l : Layout) (vs : List Value) (column : ColumnBuilder)
     → HasTaken known p limits l vs column
-    → column.layout ≡ l
+    → data_layout column.data ≡ l
 taken_laid known purpose.Keep limits l vs column h = h.laid
 taken_laid known purpose.Count limits l vs column h = h.laid
 
@@ -247,8 +247,6 @@ node_more P fs ns f n h one =
 pub below_nothing : (P : Layout → List Value → ColumnBuilder → Type 0) (l : Layout) (c : Shape) (ns : List Node) → AreNodes P c ns (λ j. [])
     → AreNodes P c ns (child_values l [])
 below_nothing P l c ns h = subst (λ (given : ℕ → List Value). AreNodes P c ns given) (λ d j. sym (below_none l j) d) h
-
--- ---- what is refused of some values is refused of them with more
 
 -- ---- one value more
 
@@ -654,7 +652,7 @@ past_next i shape given l c bytes left at so more =
 counted_of : (known : Numbering) (p : Purpose) (limits : Limits) (l : Layout) (vs : List Value) (column : ColumnBuilder)
     → HasTaken known p limits l vs column
     → (limits.slots < length vs → ⊥) × (HasExcessData l vs → ⊥)
-counted_of known purpose.Keep limits l vs column h = (h.counted.few, h.counted.short)
+counted_of known purpose.Keep limits l vs column h = (h.few, column_short known limits l vs column h)
 counted_of known purpose.Count limits l vs column h = (h.counted.few, h.counted.short)
 
 pub taken_few : (known : Numbering) (p : Purpose) (limits : Limits) (shape : Shape) (nodes : List Node) (given : ℕ → List Value)

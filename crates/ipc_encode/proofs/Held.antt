@@ -16,15 +16,15 @@ use Rattle.ipc_encode.specs.ColumnSizes.{as_rows}
 use Rattle.ipc_encode.specs.Faults.{write_fault}
 use Rattle.ipc_encode.specs.Limits.{IsTooMany, AreColumnsTooLong, IsWithin, AreRowsRefused}
 use Rattle.ipc_encode.specs.Numbers.{Numbering}
-use Rattle.ipc_encode.specs.Writing.{AllStored}
+use Rattle.ipc_encode.specs.Writing.{AllStored, AreStored}
 use Rattle.ipc_encode.specs.declared.column_builder.Purpose.TheVariants as purpose
-use Rattle.ipc_encode.specs.declared.counts.ColumnCounts.{ColumnCounts}
+use Rattle.ipc_encode.specs.declared.column.ColumnCounts.{ColumnCounts}
 use Rattle.ipc_encode.specs.declared.fault.PushFault.{PushFault}
 use Rattle.ipc_encode.specs.declared.fault.PushFault.TheVariants as push
-use Rattle.ipc_encode.specs.declared.tree.Node.{Node}
+use Rattle.ipc_encode.specs.declared.tree.Node.{Node, out-Node}
 use Rattle.ipc_encode.proofs.Growing.{refused_grow, taken_few, taken_short, all_refused, first_refused, own_refused, parts_length}
 use Rattle.ipc_encode.proofs.Growing.{few_leaf, short_leaf}
-use Rattle.ipc_encode.proofs.Sizes.{data_some, items_some}
+use Rattle.ipc_encode.proofs.Sizes.{data_some, held_stored, items_some}
 use Rattle.ipc_encode.proofs.Steps.{cells_append, cells_length}
 
 -- ---- the columns of the rows that a builder holds
@@ -41,7 +41,9 @@ pub all_stored : (known : Numbering) (limits : Limits) (shape : Shape) (nodes : 
 all_stored known limits bare nodes given h = tt
 all_stored known limits (field l c rest) [] given h = absurd h
 all_stored known limits (field l c rest) (m ∷ ms) given h =
-    (h.0.0.stored, (all_stored known limits c _ (child_values l (given 0)) h.0.1, all_stored known limits rest ms (λ j. given (suc j)) h.1))
+    let own = subst (λ (lay : Layout). AreStored lay (given 0)) h.0.0.laid
+    (held_stored known (given 0) (out-Node m).column.data h.0.0.holds) in
+    (own, (all_stored known limits c _ (child_values l (given 0)) h.0.1, all_stored known limits rest ms (λ j. given (suc j)) h.1))
 
 -- rows that are few enough, and whose columns are within the limits, are within them
 pub rows_within : (limits : Limits) (fields : List Field) (rows : List (List Value)) → length rows ≤ limits.slots

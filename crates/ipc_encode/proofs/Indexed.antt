@@ -1,5 +1,5 @@
 -- Columns whose values of dictionaries stand as the numbers of their indices.
-use Rattle.std.proofs.Common.{◌≡◌, ◌∙◌, refl, sym, ap, ℕ, zero, suc, ◌+◌, ◌<◌, ◌≤◌, Bool, true, false, cond, Option, Some, None}
+use Rattle.std.proofs.Common.{◌≡◌, ◌∙◌, refl, sym, ap, subst, ℕ, zero, suc, ◌+◌, ◌<◌, ◌≤◌, Bool, true, false, cond, Option, Some, None}
 use Rattle.std.proofs.Common.{List, [], ◌∷◌, ◌++◌, length, map, take, get_or, append_assoc, length-append, arith, inl, inr}
 use Rattle.std.specs.Prelude.{ℤ, not, ◌==◌}
 use Rattle.std.specs.List.{AllByRecursion}
@@ -12,23 +12,25 @@ use Rattle.ipc_model.specs.declared.value.Value.TheOpen.{Value-F}
 use Rattle.ipc_model.specs.declared.value.Value.TheVariants as v
 use Rattle.ipc_model.specs.declared.layout.Layout.{Layout}
 use Rattle.ipc_model.specs.declared.layout.Layout.TheVariants as l
-use Rattle.ipc_model.specs.Layouts.{number_bytes}
+use Rattle.ipc_model.specs.Layouts.{has_validity, number_bytes}
 use Rattle.ipc_column.specs.Shapes.{Shape, bare, field, shape_of}
-use Rattle.ipc_encode.specs.declared.column_builder.ColumnBuilder.{ColumnBuilder}
+use Rattle.ipc_encode.specs.declared.column.ColumnBuilder.{ColumnBuilder}
 use Rattle.ipc_encode.specs.declared.tree.Node.{Node}
 use Rattle.ipc_encode.specs.Pieces.{Valid, Number}
 use Rattle.ipc_encode.specs.Pieces as p
 use Rattle.ipc_encode.specs.Bitmaps.{bitmap}
 use Rattle.ipc_encode.specs.Cells.{is_null, is_set, flags, nulls, slots, slot_bytes}
 use Rattle.ipc_encode.specs.Buffers.{child_values, column_buffers, padded_bytes, buffers_of, buffers_with, written_values, rows_body}
-use Rattle.ipc_encode.specs.Buffers.{body_with}
+use Rattle.ipc_encode.specs.Buffers.{body_with, data_buffers}
 use Rattle.ipc_encode.specs.Buffers.{piece_bytes, row_columns}
-use Rattle.ipc_encode.specs.Columns.{validity_bytes, validity_in, indices_in, data_in, column_length, values_length}
+use Rattle.ipc_encode.specs.Columns.{validity_bytes, validity_in, data_in, column_length, values_length}
+use Rattle.ipc_encode.specs.declared.column.ColumnData.{ColumnData}
+use Rattle.ipc_encode.specs.declared.column.ColumnData.TheVariants as kind
 use Rattle.ipc_encode.specs.Numbers.{Numbering, number_or, new_indices, index_unless_null, index_of, indices_of, as_number, numbers_of}
 use Rattle.ipc_encode.specs.Numbers.{new_index}
 use Rattle.ipc_encode.specs.Indices.{InColumn, InColumns}
 use Rattle.ipc_encode.specs.Limits.{IsWithin}
-use Rattle.ipc_encode.specs.Built.{HoldColumns, IsColumn}
+use Rattle.ipc_encode.specs.Built.{HoldColumns, HoldsValues, IsColumn, data_layout}
 use Rattle.ipc_encode.proofs.Growing.{joined_append, IsAt, first}
 use Rattle.ipc_encode.proofs.Steps.{slots_push}
 use Rattle.ipc_encode.proofs.Sizes.{column_size}
@@ -174,20 +176,20 @@ module _ (known others : Numbering) where
       let rest = values_agree id vs h.1 in
       λ q. here q ∷ rest q
 
-  indices_agree : (lay : Layout) (vs : List Value) → InColumn Same lay vs → indices_in known lay vs ≡ indices_in others lay vs
-  indices_agree (l.Indices bits signed id) vs h = values_agree id vs h
-  indices_agree _ vs h = refl
+  held_agrees : (vs : List Value) (held : ColumnData) → InColumn Same (data_layout held) vs → HoldsValues known vs held
+      → HoldsValues others vs held
+  held_agrees vs (kind.Indices held) same h = h ∙ values_agree held.id vs same
+  held_agrees vs _ same h = h
 
   column_agrees : (limits : Limits) (lay : Layout) (vs : List Value) (column : ColumnBuilder) → InColumn Same lay vs
       → IsColumn known limits lay vs column → IsColumn others limits lay vs column
   column_agrees limits lay vs column same h = record {
     laid = h.laid;
-    counted = h.counted;
+    slots_are = h.slots_are;
+    nulls_are = h.nulls_are;
+    few = h.few;
     validity_are = h.validity_are;
-    offsets_are = h.offsets_are;
-    values_are = h.values_are;
-    indices_are = h.indices_are ∙ indices_agree lay vs same;
-    stored = h.stored;
+    holds = held_agrees vs column.data (subst (λ (l : Layout). InColumn Same l vs) (sym h.laid) same) h.holds;
   }
 
   -- columns are the same under numbers that agree on their values
@@ -241,15 +243,26 @@ slots_more f bits xs i value old so_far new k e s n =
     ∙ (ap (λ (v : Value). old ++ slots (Number bits) (before ++ v ∷ [])) e
     ∙ ap (λ (vs : List Value). old ++ slots (Number bits) vs) (sym (numbers_more f xs i k))))))
 
--- the buffers of a column of indices are its validity bitmap and the numbers of its indices
-pub index_buffers : (number : ℤ → ℕ → Option ℕ) (known : Numbering) (lay : Layout) (bits : IntBits) (signed : Bool) (id : ℤ)
-    (vs : List Value) (valid : List ℕ) (held : List (Option ℕ)) → lay ≡ l.Indices bits signed id → valid ≡ validity_in lay vs
-    → held ≡ indices_in known lay vs
-    → (valid ∷ []) ++ (slots (Number bits) (map as_number (map (new_index (number id)) held)) ∷ [])
-    ≡ column_buffers lay (written_values (new_indices number known) lay vs)
-index_buffers number known lay bits signed id vs valid held is v h =
-    let first : valid ≡ validity_bytes (numbers_of (new_indices number known id) vs) =
-    (rw is at v) ∙ sym (validity_same (new_indices number known id) vs) in
-    let second : map as_number (map (new_index (number id)) held) ≡ numbers_of (new_indices number known id) vs =
-    ap (λ (xs : List (Option ℕ)). map as_number (map (new_index (number id)) xs)) (rw is at h) ∙ changed_are number known id vs in
-    rw is (λ i. first i ∷ slots (Number bits) (second i) ∷ [])
+-- the buffer of a column of indices has the numbers of its indices
+pub index_data : (number : ℤ → ℕ → Option ℕ) (known : Numbering) (bits : IntBits) (signed : Bool) (id : ℤ) (vs : List Value)
+    (held : List (Option ℕ)) → held ≡ indices_of (known id) vs
+    → slots (Number bits) (map as_number (map (new_index (number id)) held)) ∷ []
+    ≡ data_buffers (l.Indices bits signed id) (written_values (new_indices number known) (l.Indices bits signed id) vs)
+index_data number known bits signed id vs held h =
+    ap (λ (xs : List (Option ℕ)). slots (Number bits) (map as_number (map (new_index (number id)) xs)) ∷ []) h
+    ∙ ap (λ (ws : List Value). slots (Number bits) ws ∷ []) (changed_are number known id vs)
+
+-- a column without a validity bitmap has no buffers
+pub no_buffers : (known : Numbering) (lay : Layout) (vs : List Value) → has_validity lay ≡ false
+    → [] ≡ column_buffers lay (written_values known lay vs)
+no_buffers known l.Null vs none = refl
+no_buffers known _ vs none = absurd cc
+
+-- the buffers of any other column are the bitmap and those of its data
+pub with_bitmap : (known : Numbering) (lay : Layout) (vs : List Value) (valid : List ℕ) → has_validity lay ≡ true
+    → valid ≡ validity_in lay vs
+    → valid ∷ data_buffers lay (written_values known lay vs) ≡ column_buffers lay (written_values known lay vs)
+with_bitmap known l.Null vs valid some v = absurd cc
+with_bitmap known (l.Indices bits signed id) vs valid some v =
+    ap (λ (bs : List ℕ). bs ∷ slots (Number bits) (numbers_of (known id) vs) ∷ []) (v ∙ sym (validity_same (known id) vs))
+with_bitmap known lay vs valid some v = ap (λ (bs : List ℕ). bs ∷ data_buffers lay vs) v

@@ -15,7 +15,7 @@ use Rattle.ipc_model.specs.Layouts.{number_bytes}
 use Rattle.ipc_model.specs.declared.layout.Layout.{Layout}
 use Rattle.ipc_model.specs.declared.layout.Layout.TheVariants as l
 use Rattle.ipc_model.specs.declared.schema.IntBits.{IntBits}
-use Rattle.ipc_model.specs.declared.schema.IntBits.TheVariants.{B8, B16, B32, B64}
+use Rattle.ipc_model.specs.declared.schema.IntBits.TheVariants.{B8, B32}
 use Rattle.ipc_model.specs.declared.value.Value.{Value, out-Value, out-roll-Value}
 use Rattle.ipc_model.specs.declared.value.Value.TheOpen.{Value-F}
 use Rattle.ipc_model.specs.declared.value.Value.TheVariants.{Null}

@@ -33,7 +33,7 @@ use Rattle.ipc_encode.specs.Cells as cells
 use Rattle.ipc_encode.specs.Marks.{MarksNulls}
 use Rattle.ipc_encode.specs.Pieces.{Valid}
 use Rattle.ipc_encode.specs.WholeColumns.{AreFullColumns, IsFullColumn}
-use Rattle.ipc_encode.specs.declared.column_builder.ColumnBuilder.{ColumnBuilder}
+use Rattle.ipc_encode.specs.declared.column.ColumnBuilder.{ColumnBuilder}
 use Rattle.ipc_encode.specs.declared.tree.Node.{Node}
 use Rattle.ipc_encode.proofs.Growing.{IsAt}
 use Rattle.ipc_encode.proofs.LentBuffers.{buffers_at, list_out, slot_count, slot_is, struct_out, place_is, start_of, own_set}

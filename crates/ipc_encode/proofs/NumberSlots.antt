@@ -1,12 +1,11 @@
 -- What a slot of a column that was read holds.
 use Rattle.std.proofs.Common.{◌≡◌, ◌∙◌, refl, sym, ap, ℕ, zero, suc, ◌+◌, ◌-◌, ◌*◌, ◌/◌, ◌%◌, ◌^◌, ◌<◌, ◌≤◌, List, ◌∷◌, length, take}
-use Rattle.std.proofs.Common.{drop, get_or, drop-cons, arith, inl, inr, Bool, true, false, cond, Ok, Err, [], ◌++◌, add-one, append_assoc}
+use Rattle.std.proofs.Common.{drop, get_or, drop-cons, arith, inl, inr, Bool, true, false, cond, Ok, Err, [], ◌++◌, append_assoc}
 use Rattle.std.proofs.Common.{replicate, Option, ℤ}
 use Rattle.std.proofs.Math.Nat.{pow-succ', div-div-eq-div-mul, mul_assoc, mul-le-mul_left}
-use Rattle.std.proofs.Math.Seq.{take-add}
 use Rattle.std.proofs.lemmas.Bool.{cases_lt}
 use Rattle.std.proofs.lemmas.Int.{ints, of_z-to_z, to_z-of_z, to_z_pos}
-use Rattle.std.proofs.lemmas.List.{take_more, take_all}
+use Rattle.std.proofs.lemmas.List.{take_more}
 use Rattle.std.proofs.lemmas.Option.{get_or_from_slice_get}
 use Rattle.std.specs.Int.{w8, w16, w32, w64, cast_signed, cast_unsigned, byte_at, bytes_low_first}
 use Rattle.std.specs.Prelude.{negsuc, not, OnOk, is_some}
@@ -138,8 +137,6 @@ pub unsigned_bytes : (bits : IntBits) (b : List ℕ) (p : ℕ) → ((k : ℕ) �
 unsigned_bytes bits b p small h =
     let none : num b p (number_bytes bits) ≡ num b p (number_bytes bits) + 256 ^ number_bytes bits * 0 = omega arith in
     ap (λ (n : ℕ). bytes_low_first 0 (number_bytes bits) n) none ∙ low_bytes (number_bytes bits) p 0 b small h
-
--- ---- the slots of numbers that were read, as the bytes that they are written as
 
 -- ---- values, opened
 

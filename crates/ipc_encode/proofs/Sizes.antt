@@ -1,6 +1,6 @@
 -- How long the buffers of a column are, and what surely fits.
 use Rattle.std.proofs.Common.{◌≡◌, ◌∙◌, refl, sym, ap, ℕ, ◌+◌, ◌-◌, ◌*◌, ◌/◌, ◌%◌, ◌≤◌, Bool, true, false, cond, List, [], ◌∷◌, ◌++◌}
-use Rattle.std.proofs.Common.{length, length-append, replicate, arith, subst, zero, suc, get_or, ◌<◌, inl, inr}
+use Rattle.std.proofs.Common.{length, length-append, replicate, arith, subst, zero, suc, get_or, inl, inr}
 use Rattle.std.proofs.lemmas.List.{length-replicate}
 use Rattle.std.specs.Int.{bytes_low_first}
 use Rattle.std.specs.Prelude.{◌==◌, ℤ, ⊤}
@@ -20,17 +20,20 @@ use Rattle.ipc_model.specs.declared.value.Value.TheOpen.{Value-F}
 use Rattle.ipc_column.specs.Shapes.{Shape, bare, field}
 use Rattle.ipc_encode.specs.Bitmaps.{bitmap}
 use Rattle.ipc_encode.specs.Buffers.{padded_buffer, padded_bytes, piece_bytes, column_buffers, child_values}
-use Rattle.ipc_encode.specs.Built.{AreCountsOf, AreColumnsWithin, TakeAtMost, IsPushRefused}
+use Rattle.ipc_encode.specs.Built.{AreCountsOf, AreColumnsWithin, HoldsValues, IsColumn, TakeAtMost, data_layout}
 use Rattle.ipc_encode.specs.Cells.{flags, nulls, content, fixed_bytes, items, slot_bytes, slots, ends, offsets, extent, number_bits}
 use Rattle.ipc_encode.specs.Cells.{all_items}
-use Rattle.ipc_encode.specs.Columns.{validity_bytes, values_in, bits_length, padded_length, data_in, values_length, column_length}
+use Rattle.ipc_encode.specs.Columns.{validity_bytes, bits_length, padded_length, data_in, values_length, column_length}
 use Rattle.ipc_encode.specs.Columns.{ExceedsOffsets, offsets_length, validity_length}
 use Rattle.ipc_encode.specs.Limits.{HasExcessData, HasLongData, HasLongItems, SomeColumn, SomeExcessData}
+use Rattle.ipc_encode.specs.Numbers.{Numbering}
+use Rattle.ipc_encode.specs.Writing.{AreStored}
 use Rattle.ipc_encode.specs.Pieces.{Valid, True, Number, Fixed, Content}
 use Rattle.ipc_encode.specs.Pieces as p
-use Rattle.ipc_encode.specs.declared.counts.ColumnCounts.{ColumnCounts}
-use Rattle.ipc_encode.specs.declared.fault.PushFault.{PushFault}
-use Rattle.ipc_encode.specs.declared.fault.PushFault.TheVariants as push
+use Rattle.ipc_encode.specs.declared.column.ColumnBuilder.{ColumnBuilder}
+use Rattle.ipc_encode.specs.declared.column.ColumnCounts.{ColumnCounts}
+use Rattle.ipc_encode.specs.declared.column.ColumnData.{ColumnData}
+use Rattle.ipc_encode.specs.declared.column.ColumnData.TheVariants as kind
 use Rattle.ipc_encode.proofs.Bits.{length_bytes, flags_length}
 
 -- ---- how long the buffers of a column are
@@ -116,7 +119,7 @@ indices_data : (bits : IntBits) (signed : Bool) (id : ℤ) (vs : List Value)
     → length (slots (Number bits) vs) ≡ data_in (l.Indices bits signed id) vs
 indices_data bits signed id vs = numbers_data bits signed vs ∙ same_data bits signed id vs
 
-items_data : (vs : List Value) → length (all_items vs) ≡ data_in l.Lists vs
+pub items_data : (vs : List Value) → length (all_items vs) ≡ data_in l.Lists vs
 items_data [] = refl
 items_data (v ∷ vs) =
     let more = items_data vs in
@@ -136,8 +139,8 @@ column_size l.Lists vs = joined_run (validity_bytes vs) (offsets p.Items vs)
     ∙ (ap (λ (n : ℕ). padded_length n + padded_length (length (offsets p.Items vs)) + padded_length 0) (validity_is vs)
     ∙ ap (λ (n : ℕ). padded_length (cond (nulls vs == 0) 0 (bits_length (length vs))) + padded_length n + padded_length 0)
     (offsets_size p.Items vs))
-column_size l.Bits vs = joined_two (validity_bytes vs) (values_in l.Bits vs)
-    ∙ (ap (λ (n : ℕ). padded_length n + padded_length 0 + padded_length (length (values_in l.Bits vs))) (validity_is vs)
+column_size l.Bits vs = joined_two (validity_bytes vs) (bitmap (flags True vs))
+    ∙ (ap (λ (n : ℕ). padded_length n + padded_length 0 + padded_length (length (bitmap (flags True vs)))) (validity_is vs)
     ∙ ap (λ (n : ℕ). padded_length (cond (nulls vs == 0) 0 (bits_length (length vs))) + padded_length 0 + padded_length n)
     (bitmap_bytes True vs))
 column_size (l.Numbers bits signed) vs = joined_two (validity_bytes vs) (slots (Number bits) vs)
@@ -193,13 +196,31 @@ long_from l.Lists vs h = let size = items_data vs in omega (arith, size, h)
 long_from (l.VariableBytes utf8) vs h = let size = content_data utf8 vs in omega (arith, size, h)
 long_from _ vs h = h
 
+-- the data of a column can be addressed by its offsets
+held_short : (known : Numbering) (vs : List Value) (held : ColumnData) → HoldsValues known vs held
+    → HasExcessData (data_layout held) vs → ⊥
+held_short known vs (kind.VariableBytes utf8 ends bytes) h long =
+    omega (arith, h.short, ap (λ (bs : List ℕ). length bs) h.bytes_are, long)
+held_short known vs (kind.Lists ends count) h long = omega (arith, h.short, h.items_are, items_data vs, long)
+held_short known vs _ h long = long
+
+pub column_short : (known : Numbering) (limits : Limits) (layout : Layout) (vs : List Value) (column : ColumnBuilder)
+    → IsColumn known limits layout vs column
+    → HasExcessData layout vs → ⊥
+column_short known limits layout vs column h long =
+    held_short known vs column.data h.holds (subst (λ (l : Layout). HasExcessData l vs) (sym h.laid) long)
+
+-- its texts are UTF-8
+pub held_stored : (known : Numbering) (vs : List Value) (held : ColumnData) → HoldsValues known vs held
+    → AreStored (data_layout held) vs
+held_stored known vs (kind.VariableBytes utf8 ends bytes) h = h.texts
+held_stored known vs _ h = tt
+
 -- the numbers of a column give the length of its buffers
 pub counted_size : (limits : Limits) (layout : Layout) (vs : List Value) (counts : ColumnCounts) → AreCountsOf limits layout vs counts
     → column_length layout counts.slots counts.nulls (values_length layout counts.slots counts.amount)
     ≡ length (padded_bytes (column_buffers layout vs))
 counted_size limits layout vs counts h = rw (h.slots_are, h.nulls_are, h.amount_is) (sym (column_size layout vs))
-
--- ---- columns whose values are surely within the limits
 
 -- ---- buffers
 
@@ -313,27 +334,3 @@ data_some shape given h = some_past HasLongData data_past shape given h
 
 pub items_some : (shape : Shape) (given : ℕ → List Value) → SomeColumn HasLongItems shape given → SomeExcessData shape given
 items_some shape given h = some_past HasLongItems items_past shape given h
-
--- the fault of data that passes its offsets: too many items of lists, or too many bytes
-pub past_refused : (limits : Limits) (layout : Layout) (vs : List Value) (e : PushFault) → (layout ≡ l.Lists → e ≡ push.TooMany)
-    → (¬ (layout ≡ l.Lists) → e ≡ push.TooLong) → HasExcessData layout vs → IsPushRefused limits layout vs e
-past_refused limits (l.VariableBytes utf8) vs e lists bytes h =
-    subst (λ (x : PushFault). IsPushRefused limits (l.VariableBytes utf8) vs x) (sym (bytes (λ same. absurd cc))) (inl h)
-past_refused limits l.Lists vs e lists bytes h =
-    subst (λ (x : PushFault). IsPushRefused limits l.Lists vs x) (sym (lists refl_lists)) (inr h)
-  where
-    refl_lists : l.Lists ≡ l.Lists
-    refl_lists = cc
-past_refused limits l.Null vs e lists bytes h = absurd h
-past_refused limits l.Bits vs e lists bytes h = absurd h
-past_refused limits (l.Numbers bits signed) vs e lists bytes h = absurd h
-past_refused limits (l.FixedBytes width) vs e lists bytes h = absurd h
-past_refused limits l.Structs vs e lists bytes h = absurd h
-past_refused limits (l.FixedLists size) vs e lists bytes h = absurd h
-past_refused limits (l.Indices bits signed id) vs e lists bytes h = absurd h
-
--- more bytes than a body may have
-pub body_refused : (limits : Limits) (layout : Layout) (vs : List Value) (e : PushFault) → (¬ (layout ≡ l.Lists) → e ≡ push.TooLong)
-    → ¬ (layout ≡ l.Lists) → limits.body < length (padded_bytes (column_buffers layout vs)) → IsPushRefused limits layout vs e
-body_refused limits layout vs e bytes other h =
-    subst (λ (x : PushFault). IsPushRefused limits layout vs x) (sym (bytes other)) (inr h)

@@ -1,13 +1,12 @@
 -- One value more in a column, and what it gives to the columns below.
-use Rattle.std.proofs.Common.{◌≡◌, ◌∙◌, refl, sym, ap, ℕ, suc, ◌+◌, Bool, cond, List, [], ◌∷◌, ◌++◌, length, append_assoc, arith, inl}
-use Rattle.std.proofs.Common.{inr, zero, ◌*◌, ◌≤◌, replicate, take, subst, true, false}
+use Rattle.std.proofs.Common.{◌≡◌, ◌∙◌, refl, sym, ap, ℕ, suc, ◌+◌, Bool, cond, List, [], ◌∷◌, ◌++◌, length, append_assoc, arith}
+use Rattle.std.proofs.Common.{zero, ◌*◌, ◌≤◌, replicate, take, subst, true, false}
 use Rattle.std.proofs.Math.Nat.{suc-mul}
 use Rattle.std.proofs.lemmas.Bool.{ne_eqb}
 use Rattle.std.proofs.lemmas.List.{append-nil, replicate-append-replicate, take-replicate}
 use Rattle.std.specs.Int.{bytes_low_first}
-use Rattle.std.specs.Prelude.{◌⊎◌}
 use denote.Hole.Carrier
-use Rattle.ipc_model.specs.Layouts.{own_buffers}
+use Rattle.ipc_model.specs.Layouts.{has_validity}
 use Rattle.ipc_model.specs.declared.layout.Layout.{Layout}
 use Rattle.ipc_model.specs.declared.layout.Layout.TheVariants as l
 use Rattle.ipc_model.specs.declared.limits.Limits.{Limits}
@@ -22,12 +21,11 @@ use Rattle.ipc_encode.specs.Buffers.{child_values, nulls_below}
 use Rattle.ipc_encode.specs.Built.{IsColumn}
 use Rattle.ipc_encode.specs.Cells.{cell, cells, is_set, flags, nulls, content, slot_bytes, slots, extent, ends, offsets, items}
 use Rattle.ipc_encode.specs.Cells.{struct_member, fixed_items, all_fixed_items, all_items, all_parts, fixed_items_in, part_in}
-use Rattle.ipc_encode.specs.Columns.{value_len, data_in, offsets_in, validity_bytes, validity_in, values_in, indices_in}
+use Rattle.ipc_encode.specs.Columns.{value_len, data_in, validity_bytes, validity_in}
 use Rattle.ipc_encode.specs.Numbers.{Numbering}
 use Rattle.ipc_encode.specs.Pieces.{Flag, Run, Valid, ValueSlot}
 use Rattle.ipc_encode.specs.Pieces as p
-use Rattle.ipc_encode.specs.Writing.{AreStored}
-use Rattle.ipc_encode.specs.declared.column_builder.ColumnBuilder.{ColumnBuilder}
+use Rattle.ipc_encode.specs.declared.column.ColumnBuilder.{ColumnBuilder}
 
 -- ---- what one more value, or one more row, gives
 
@@ -132,28 +130,12 @@ below_none _ j = refl
 
 -- ---- the offsets of a column
 
--- one offset more where a column has offsets
-pub offsets_in_push : (layout : Layout) (vs : List Value) (v : Value) (end : ℕ) (old new : List ℕ)
-    → ((utf8 : Bool) × (layout ≡ l.VariableBytes utf8)) ⊎ (layout ≡ l.Lists)
-    → end ≡ data_in layout (vs ++ v ∷ []) → old ≡ offsets_in layout vs
-    → new ≡ old ++ bytes_low_first 0 4 end → new ≡ offsets_in layout (vs ++ v ∷ [])
-offsets_in_push layout vs v end old new (inr e) amount o n =
-    let size : end ≡ extents p.Items (vs ++ v ∷ []) = (rw e at amount) ∙ items_extents (vs ++ v ∷ []) in
-    rw e (n ∙ (ap (λ (k : ℕ). old ++ bytes_low_first 0 4 k) size
-    ∙ (ap (λ (bs : List ℕ). bs ++ bytes_low_first 0 4 (extents p.Items (vs ++ v ∷ []))) (rw e at o) ∙ sym (offsets_push p.Items vs v))))
-offsets_in_push layout vs v end old new (inl e) amount o n =
-    let size : end ≡ extents p.Bytes (vs ++ v ∷ []) = (rw e.1 at amount) ∙ bytes_extents e.0 (vs ++ v ∷ []) in
-    rw e.1 (n ∙ (ap (λ (k : ℕ). old ++ bytes_low_first 0 4 k) size
-    ∙ (ap (λ (bs : List ℕ). bs ++ bytes_low_first 0 4 (extents p.Bytes (vs ++ v ∷ []))) (rw e.1 at o) ∙ sym (offsets_push p.Bytes vs v))))
-
--- the first offset where a column has offsets
-pub offsets_in_none : (layout : Layout) (old new : List ℕ)
-    → ((utf8 : Bool) × (layout ≡ l.VariableBytes utf8)) ⊎ (layout ≡ l.Lists)
-    → old ≡ [] → new ≡ old ++ bytes_low_first 0 4 0 → new ≡ offsets_in layout []
-offsets_in_none layout old new (inl e) o n = rw (e.1, n, o) refl
-offsets_in_none layout old new (inr e) o n = rw (e, n, o) refl
-
--- ---- what one value gives to the columns below its own
+-- one offset more
+pub offsets_more : (run : Run) (vs : List Value) (v : Value) (end : ℕ) (old new : List ℕ) → end ≡ extents run (vs ++ v ∷ [])
+    → old ≡ offsets run vs → new ≡ old ++ bytes_low_first 0 4 end → new ≡ offsets run (vs ++ v ∷ [])
+offsets_more run vs v end old new size o n =
+    n ∙ (ap (λ (k : ℕ). old ++ bytes_low_first 0 4 k) size
+    ∙ (ap (λ (bs : List ℕ). bs ++ bytes_low_first 0 4 (extents run (vs ++ v ∷ []))) o ∙ sym (offsets_push run vs v)))
 
 -- ---- a null
 
@@ -318,13 +300,13 @@ nulls_stay vs v some none = let more = nulls_push vs v in some (omega (arith, mo
 
 -- ---- layouts with a bitmap
 
-pub has_bitmap : (layout : Layout) (vs : List Value) → (own_buffers layout ≡ 0 → ⊥) → validity_in layout vs ≡ validity_bytes vs
-has_bitmap l.Null vs some = absurd (some refl)
+pub has_bitmap : (layout : Layout) (vs : List Value) → has_validity layout ≡ true → validity_in layout vs ≡ validity_bytes vs
+has_bitmap l.Null vs some = absurd cc
 has_bitmap _ vs some = refl
 
-pub no_bitmap : (layout : Layout) (vs : List Value) → own_buffers layout ≡ 0 → validity_in layout vs ≡ []
+pub no_bitmap : (layout : Layout) (vs : List Value) → has_validity layout ≡ false → validity_in layout vs ≡ []
 no_bitmap l.Null vs none = refl
-no_bitmap _ vs none = absurd (omega arith)
+no_bitmap _ vs none = absurd cc
 
 -- a column of one layout is one of the same layout
 pub laid_as : {column : ColumnBuilder} → (known : Numbering) (limits : Limits) (lay layout : Layout) (vs : List Value) → lay ≡ layout
@@ -337,16 +319,3 @@ laid_as {column} known limits lay layout vs e h = subst (λ (x : Layout). IsColu
 pub validity_none : (layout : Layout) → validity_in layout [] ≡ []
 validity_none l.Null = refl
 validity_none _ = refl
-
-pub values_none : (layout : Layout) → values_in layout [] ≡ []
-values_none l.Null = refl
-values_none _ = refl
-
-pub stored_none : (layout : Layout) → AreStored layout []
-stored_none (l.VariableBytes false) = tt
-stored_none (l.VariableBytes true) = tt
-stored_none _ = tt
-
-pub indices_none : (known : Numbering) (layout : Layout) → indices_in known layout [] ≡ []
-indices_none known l.Null = refl
-indices_none known _ = refl

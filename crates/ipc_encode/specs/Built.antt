@@ -1,13 +1,18 @@
 -- The rows that a builder stores (Message.fbs, RecordBatch).
 use Rattle.std.specs.Prelude.{◌≡◌, ℕ, suc, ◌<◌, ◌≤◌, true, false}
 use Rattle.std.specs.Prelude.{List, [], ◌∷◌, ◌++◌, length, ◌⊎◌, ⊤}
+use Rattle.std.specs.List.{AllByRecursion}
+use Rattle.ipc_model.specs.Limits.{max_data}
 use Rattle.ipc_model.specs.declared.limits.Limits.{Limits}
 use Rattle.ipc_model.specs.declared.schema.Field.{Field}
 use Rattle.ipc_model.specs.declared.value.Value.{Value}
 use Rattle.ipc_model.specs.declared.layout.Layout.{Layout}
+use Rattle.ipc_model.specs.declared.layout.Layout.TheVariants as l
 use Rattle.ipc_encode.specs.declared.builder.Builder.{Builder}
-use Rattle.ipc_encode.specs.declared.column_builder.ColumnBuilder.{ColumnBuilder}
-use Rattle.ipc_encode.specs.declared.counts.ColumnCounts.{ColumnCounts}
+use Rattle.ipc_encode.specs.declared.column.ColumnBuilder.{ColumnBuilder}
+use Rattle.ipc_encode.specs.declared.column.ColumnCounts.{ColumnCounts}
+use Rattle.ipc_encode.specs.declared.column.ColumnData.{ColumnData}
+use Rattle.ipc_encode.specs.declared.column.ColumnData.TheVariants as kind
 use Rattle.ipc_encode.specs.declared.fault.PushFault.{PushFault}
 use Rattle.ipc_encode.specs.declared.fault.PushFault.TheVariants as fault
 use Rattle.ipc_encode.specs.declared.tree.Node.{Node, out-Node}
@@ -16,14 +21,15 @@ use Rattle.ipc_encode.specs.declared.column_builder.Purpose.TheVariants as purpo
 use Rattle.ipc_column.specs.Shapes.{Shape, bare, field, shape_of}
 use Rattle.ipc_encode.specs.Buffers.{child_values, row_columns, padded_bytes, column_buffers}
 use Rattle.ipc_encode.specs.Buffers.{buffers_of}
-use Rattle.ipc_encode.specs.Cells.{nulls}
-use Rattle.ipc_encode.specs.Columns.{validity_in, offsets_in, values_in, indices_in, data_in}
-use Rattle.ipc_encode.specs.Numbers.{Numbering}
+use Rattle.ipc_encode.specs.Bitmaps.{bitmap}
+use Rattle.ipc_encode.specs.Cells.{HasUtf8, flags, nulls, offsets, slots}
+use Rattle.ipc_encode.specs.Columns.{validity_in, data_in}
+use Rattle.ipc_encode.specs.Numbers.{Numbering, indices_of}
+use Rattle.ipc_encode.specs.Pieces.{Bytes, Content, Fixed, Items, Number, True}
 use Rattle.ipc_encode.specs.Indices.{AgreeOn}
 use Rattle.ipc_encode.specs.Limits.{HasLongData, HasLongItems, HasLongNode, HasExcessData}
 use Rattle.ipc_encode.specs.Limits.{IsWithin, SomeColumn, SomeExcessData}
 use Rattle.ipc_encode.specs.Weights.{weight_of}
-use Rattle.ipc_encode.specs.Writing.{AreStored}
 
 -- the counts of a column of this layout with these values, which are within the limits
 pub record AreCountsOf (limits : Limits) (layout : Layout) (values : List Value)
@@ -34,22 +40,62 @@ pub record AreCountsOf (limits : Limits) (layout : Layout) (values : List Value)
   pub few : ¬ (limits.slots < length values)
   pub short : ¬ HasExcessData layout values
 
--- the buffers of a column of this layout with these values; indices are stored as numbers until the
--- column is written (Arrow Columnar Format, "Buffer Listing for Each Layout")
+-- the layout of a column that holds this
+abbrev pub data_layout : ColumnData → Layout
+data_layout kind.Null = l.Null
+data_layout (kind.Bits bytes) = l.Bits
+data_layout (kind.Numbers bits signed bytes) = l.Numbers bits signed
+data_layout (kind.FixedBytes width bytes) = l.FixedBytes width
+data_layout (kind.VariableBytes utf8 ends bytes) = l.VariableBytes utf8
+data_layout (kind.Lists ends count) = l.Lists
+data_layout (kind.FixedLists size) = l.FixedLists size
+data_layout kind.Structs = l.Structs
+data_layout (kind.Indices held) = l.Indices held.bits held.signed held.id
+
+-- the offsets and the bytes of values, which the offsets can address; texts are UTF-8 (Arrow
+-- Columnar Format, "Variable-size Binary Layout")
+pub record AreContents (values : List Value) (ends bytes : List ℕ) : Type 0 where
+  pub offsets_are : ends ≡ offsets Bytes values
+  pub bytes_are : bytes ≡ slots Content values
+  pub texts : AllByRecursion HasUtf8 values
+  pub short : length bytes ≤ max_data
+
+-- the offsets of lists, and the number of their items, which the offsets can address (Arrow
+-- Columnar Format, "Variable-size List Layout")
+pub record AreListEnds (values : List Value) (ends : List ℕ) (count : ℕ) : Type 0 where
+  pub offsets_are : ends ≡ offsets Items values
+  pub items_are : count ≡ data_in l.Lists values
+  pub short : count ≤ max_data
+
+-- a column holds this for these values; indices are stored as numbers until it is written (Arrow
+-- Columnar Format, "Buffer Listing for Each Layout")
+abbrev pub HoldsValues : Numbering → List Value → ColumnData → Type 0
+HoldsValues indices values (kind.Bits bytes) = bytes.items ≡ bitmap (flags True values)
+HoldsValues indices values (kind.Numbers bits signed bytes) =
+    bytes.items ≡ slots (Number bits) values
+HoldsValues indices values (kind.FixedBytes width bytes) =
+    bytes.items ≡ slots (Fixed width) values
+HoldsValues indices values (kind.VariableBytes utf8 ends bytes) =
+    AreContents values ends.items bytes.items
+HoldsValues indices values (kind.Lists ends count) = AreListEnds values ends.items count
+HoldsValues indices values (kind.Indices held) =
+    held.indices.items ≡ indices_of (indices held.id) values
+HoldsValues indices values _ = ⊤
+
+-- a column of this layout with these values, which are within the limits
 pub record IsColumn (indices : Numbering) (limits : Limits) (layout : Layout) (values : List Value)
     (column : ColumnBuilder) : Type 0 where
-  pub laid : column.layout ≡ layout
-  pub counted : AreCountsOf limits layout values column.counts
+  pub laid : data_layout column.data ≡ layout
+  pub slots_are : column.slots ≡ length values
+  pub nulls_are : column.nulls ≡ nulls values
+  pub few : ¬ (limits.slots < length values)
   pub validity_are : column.validity.items ≡ validity_in layout values
-  pub offsets_are : column.offsets.items ≡ offsets_in layout values
-  pub values_are : column.values.items ≡ values_in layout values
-  pub indices_are : column.indices.items ≡ indices_in indices layout values
-  pub stored : AreStored layout values
+  pub holds : HoldsValues indices values column.data
 
 -- the column has this layout, and its counts with the next row are those of these values
 pub record IsNext (limits : Limits) (layout : Layout) (values : List Value)
     (column : ColumnBuilder) : Type 0 where
-  pub laid : column.layout ≡ layout
+  pub laid : data_layout column.data ≡ layout
   pub counted : AreCountsOf limits layout values column.next
 
 -- the nodes have this shape, and the property holds for each column with its values, at every

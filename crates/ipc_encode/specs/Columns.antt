@@ -1,18 +1,15 @@
 -- The buffers of one column as it is built (Arrow Columnar Format, "Buffer Listing for Each
 -- Layout").
 use Rattle.std.specs.Prelude.{ℕ, ◌+◌, ◌-◌, ◌*◌, ◌/◌, ◌%◌, ◌<◌, ◌==◌, List, [], ◌∷◌, length}
-use Rattle.std.specs.Prelude.{Option, if◌then◌else◌}
+use Rattle.std.specs.Prelude.{if◌then◌else◌}
 use Rattle.ipc_model.specs.Limits.{max_data}
 use Rattle.ipc_model.specs.declared.value.Value.{Value}
 use Rattle.ipc_model.specs.declared.layout.Layout.{Layout}
 use Rattle.ipc_model.specs.declared.layout.Layout.TheVariants as l
 use Rattle.ipc_model.specs.Layouts.{number_bytes}
-use Rattle.ipc_encode.specs.Pieces.{True, Number, Fixed, Content}
 use Rattle.ipc_encode.specs.Pieces as p
-use Rattle.ipc_encode.specs.Bitmaps.{bitmap}
-use Rattle.ipc_encode.specs.Cells.{flags, nulls, content, fixed_bytes, items, slots, offsets}
+use Rattle.ipc_encode.specs.Cells.{nulls, content, fixed_bytes, items, offsets}
 use Rattle.ipc_encode.specs.Buffers.{validity, piece_bytes}
-use Rattle.ipc_encode.specs.Numbers.{Numbering, indices_of}
 
 -- the bytes of a validity bitmap, or none if no value is null
 abbrev pub validity_bytes : List Value → List ℕ
@@ -41,30 +38,6 @@ offsets_in l.Lists values = offsets p.Items values
 offsets_in l.Structs values = []
 offsets_in (l.FixedLists size) values = []
 offsets_in (l.Indices bits signed id) values = []
-
--- the bytes of the values in a column of this layout; none for indices, which are stored as numbers
-abbrev pub values_in : Layout → List Value → List ℕ
-values_in l.Null values = []
-values_in l.Bits values = bitmap (flags True values)
-values_in (l.Numbers bits signed) values = slots (Number bits) values
-values_in (l.FixedBytes width) values = slots (Fixed width) values
-values_in (l.VariableBytes utf8) values = slots Content values
-values_in l.Lists values = []
-values_in l.Structs values = []
-values_in (l.FixedLists size) values = []
-values_in (l.Indices bits signed id) values = []
-
--- the indices of the values, if the column is one of indices
-abbrev pub indices_in : Numbering → Layout → List Value → List (Option ℕ)
-indices_in indices (l.Indices bits signed id) values = indices_of (indices id) values
-indices_in indices l.Null values = []
-indices_in indices l.Bits values = []
-indices_in indices (l.Numbers bits signed) values = []
-indices_in indices (l.FixedBytes width) values = []
-indices_in indices (l.VariableBytes utf8) values = []
-indices_in indices l.Lists values = []
-indices_in indices l.Structs values = []
-indices_in indices (l.FixedLists size) values = []
 
 -- ---- lengths
 

@@ -1,11 +1,11 @@
 //! Packed bits, and the validity bitmaps of columns that were read.
 ghost use Rattle.std.specs.Prelude.{◌≡◌, ◌+◌, ◌++◌, Bool, true, List, [], ◌∷◌, length, replicate};
-ghost use Rattle.std.specs.Prelude.{OnOk, ◌≤◌, ◌<◌, take, IfOk, IfNone, IfSome, IsTrue, ℕ, ◌*◌};
+ghost use Rattle.std.specs.Prelude.{OnOk, ◌≤◌, ◌<◌, take, IfOk, IsTrue, ℕ, ◌*◌};
 ghost use Rattle.ipc_scalar.specs.Bytes.{bit};
 ghost use Rattle.ipc_model.specs.declared.value.Value.{Value};
 ghost use Rattle.ipc_column.specs.Values.{is_valid};
 ghost use Rattle.ipc_encode.specs.Bitmaps.{bitmap};
-ghost use Rattle.ipc_encode.specs.Cells.{flags, nulls};
+ghost use Rattle.ipc_encode.specs.Cells.{flags};
 ghost use Rattle.ipc_encode.specs.Marks.{HasBits, MarksNulls};
 ghost use Rattle.ipc_encode.specs.Pieces.{Valid};
 

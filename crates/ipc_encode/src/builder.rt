@@ -1,10 +1,10 @@
 //! Builds a record batch from rows.
 ghost use Rattle.std.specs.List.{AllByRecursion};
 ghost use Rattle.std.specs.Prelude.{◌≡◌, ◌≤◌, ◌<◌, ◌↔◌, ◌+◌, ◌++◌, List, [], ◌∷◌, true, pos};
-ghost use Rattle.std.specs.Prelude.{length, IsTrue, Ok, Err, IfOk, IfErr, IfSome, OnOk, OnErr};
+ghost use Rattle.std.specs.Prelude.{length, IsTrue, Ok, Err, IfOk, IfErr, OnOk};
 ghost use Rattle.std.specs.Prelude.{◌^◌};
 ghost use Rattle.ipc_model.specs.Entries.{entries};
-ghost use Rattle.ipc_model.specs.Fits.{EachFits, Fits, RowFits};
+ghost use Rattle.ipc_model.specs.Fits.{RowFits};
 ghost use Rattle.ipc_model.specs.WellFormed.{IsFieldWellFormed};
 ghost use Rattle.ipc_model.specs.declared.limits.Limits.{Limits};
 ghost use Rattle.ipc_model.specs.declared.schema.Field.{Field};
@@ -13,7 +13,7 @@ ghost use Rattle.ipc_column.specs.Dictionaries.{Dictionaries};
 ghost use Rattle.ipc_column.specs.Rows.{Rows};
 ghost use Rattle.ipc_column.specs.Shapes.{Shape, shape_of};
 ghost use Rattle.ipc_encode.specs.Buffers.{AreLaidOut, row_columns};
-ghost use Rattle.ipc_encode.specs.Built.{HoldColumns, ArePushesRefused, AreColumnsWithin};
+ghost use Rattle.ipc_encode.specs.Built.{HoldColumns, ArePushesRefused};
 ghost use Rattle.ipc_encode.specs.Built.{HasFailed, StoresRows, HoldsAgreeing};
 ghost use Rattle.ipc_encode.specs.Faults.{write_fault};
 ghost use Rattle.ipc_encode.specs.Indices.{FindsRows};

@@ -1,24 +1,27 @@
 //! The buffers of one column, and the values that are added to it.
 ghost use Rattle.std.specs.Int.{bytes_low_first};
-ghost use Rattle.std.specs.Prelude.{◌≡◌, ◌++◌, List, [], ◌∷◌, length, IfOk, IfErr, OnOk, false};
-ghost use Rattle.std.specs.Prelude.{IsTrue};
+ghost use Rattle.std.specs.Prelude.{◌≡◌, ◌≤◌, ◌<◌, ◌^◌, ◌++◌, List, [], ◌∷◌, length, IfOk, IfErr};
+ghost use Rattle.std.specs.Prelude.{OnOk, IsTrue, false};
 ghost use Rattle.ipc_model.specs.Layouts.{number_bytes};
+ghost use Rattle.ipc_model.specs.Layouts as layouts;
+ghost use Rattle.ipc_model.specs.MaxLimits.{max_slots};
 ghost use Rattle.ipc_model.specs.declared.layout.Layout.{Layout};
+ghost use Rattle.ipc_model.specs.declared.layout.Layout.TheVariants.{Lists, VariableBytes};
 ghost use Rattle.ipc_model.specs.declared.limits.Limits.{Limits};
-ghost use Rattle.ipc_model.specs.declared.schema.IntBits.{IntBits};
 ghost use Rattle.ipc_model.specs.declared.value.Value.{Value};
 ghost use Rattle.ipc_column.specs.Shapes.{Shape, bare, field};
+ghost use Rattle.ipc_encode.specs.Built.{AreContents, AreListEnds, HoldsValues, data_layout};
 ghost use Rattle.ipc_encode.specs.Built.{IsColumn, IsPushRefused, ArePushesRefused};
-ghost use Rattle.ipc_encode.specs.Cells.{nulls, number_bits, slot_bytes, content, HasUtf8, slots};
-ghost use Rattle.ipc_encode.specs.Columns.{validity_bytes, validity_in, offsets_in, values_in};
-ghost use Rattle.ipc_encode.specs.Columns.{data_in, indices_in};
-ghost use Rattle.ipc_encode.specs.Numbers.{Numbering, index_of, index_or_zero};
+ghost use Rattle.ipc_encode.specs.Cells.{nulls, slot_bytes, slots};
+ghost use Rattle.ipc_encode.specs.Columns.{validity_in, data_in};
+ghost use Rattle.ipc_encode.specs.Numbers.{Numbering, index_of, index_or_zero, indices_of};
 ghost use Rattle.ipc_encode.specs.Pieces.{Number, Fixed};
-ghost use Rattle.ipc_encode.specs.Writing.{AreStored};
 
 use crate::bitmaps::{push_bit, set_bits};
-use crate::counting::{content, is_true, is_valid, null_count, number_bits};
-use crate::counts::ColumnCounts;
+use crate::column::{ColumnBuilder, ColumnCounts, ColumnData, IndexData};
+use crate::counting::{
+    check_amount, content, fixed_len, is_true, is_valid, items, null_count, number_bits,
+};
 use crate::fault::PushFault;
 use crate::index::IndexOf;
 use ipc_model::{IntBits, Layout, Limits, Value};
@@ -26,21 +29,6 @@ use std::alloc::{AllocError, Global};
 
 /// The maximum number of bytes or items that offsets of 32 bits reach.
 pub(crate) const MAX_DATA: usize = ipc_model::MAX_DATA as usize;
-
-/// The buffers of one column with the values so far, each without padding.
-#[derive(Debug, Drop)]
-pub(crate) struct ColumnBuilder {
-    pub(crate) layout: Layout,
-    pub(crate) counts: ColumnCounts,
-    /// The sizes with a row that is being checked.
-    pub(crate) next: ColumnCounts,
-    /// The validity bitmap. It is empty while no value is null.
-    pub(crate) validity: Vec<u8>,
-    pub(crate) offsets: Vec<u8>,
-    pub(crate) values: Vec<u8>,
-    /// In a column of indices, the index of each value. A null has none.
-    pub(crate) indices: Vec<Option<u64>>,
-}
 
 /// What a column does with a value.
 #[derive(Clone, Copy, Debug, PartialEq, Eq, Drop)]
@@ -66,18 +54,24 @@ impl Purpose {
     }
 }
 
-// Records whether one more slot is valid, after `slots` slots with `null_count` nulls.
+// Appends whether one more slot is valid, after `slots` slots with `null_count` nulls, if the
+// column has a validity bitmap.
 #[inline(always)]
-fn push_validity_bit(
+fn push_validity(
     validity: &mut Vec<u8>,
+    has_validity: bool,
     slots: usize,
     null_count: usize,
     value: &Value,
 ) -> Result<(), AllocError>
-    ensures { (values : List Value) → length values ≡ slots → nulls values ≡ null_count
-        → validity.old.items ≡ validity_bytes values
-        → OnOk result (validity.new.items ≡ validity_bytes (values ++ value.now ∷ [])) }
+    ensures { (layout : Layout) (values : List Value) → has_validity ≡ layouts.has_validity layout
+        → length values ≡ slots → nulls values ≡ null_count
+        → validity.old.items ≡ validity_in layout values
+        → OnOk result (validity.new.items ≡ validity_in layout (values ++ value.now ∷ [])) }
 {
+    if !has_validity {
+        return Ok(());
+    }
     let is_valid = is_valid(value);
     if null_count == 0 {
         if is_valid {
@@ -86,26 +80,6 @@ fn push_validity_bit(
         set_bits(validity, slots)?;
     }
     push_bit(validity, slots, is_valid)
-}
-
-// Records whether one more slot is valid in a column of this layout, which may have no validity
-// bitmap.
-#[inline(always)]
-fn push_validity(
-    layout: Layout,
-    validity: &mut Vec<u8>,
-    slots: usize,
-    null_count: usize,
-    value: &Value,
-) -> Result<(), AllocError>
-    ensures { (values : List Value) → length values ≡ slots → nulls values ≡ null_count
-        → validity.old.items ≡ validity_in layout values
-        → OnOk result (validity.new.items ≡ validity_in layout (values ++ value.now ∷ [])) }
-{
-    if layout.own_buffers() == 0 {
-        return Ok(());
-    }
-    push_validity_bit(validity, slots, null_count, value)
 }
 
 // Appends a number of 64 bits. It is not `inline(always)`, and neither is `push_u32`: so the
@@ -152,6 +126,14 @@ pub(crate) fn push_number(
     push_bits(values, number_bits(value), bits)
 }
 
+/// Appends the offset at which a slot ends.
+#[inline(always)]
+pub(crate) fn push_offset(offsets: &mut Vec<u8>, end: usize) -> Result<(), AllocError>
+    ensures { OnOk result (offsets.new.items ≡ offsets.old.items ++ bytes_low_first 0 4 end) }
+{
+    push_u32(offsets, end as u64)
+}
+
 // Appends the bytes of a binary value, or `width` zeros.
 fn push_fixed(values: &mut Vec<u8>, value: &Value, width: u32) -> Result<(), AllocError>
     ensures { OnOk result (values.new.items
@@ -163,62 +145,46 @@ fn push_fixed(values: &mut Vec<u8>, value: &Value, width: u32) -> Result<(), All
     }
 }
 
-// Appends the bytes of a binary value or a text.
-fn push_content(values: &mut Vec<u8>, value: &Value) -> Result<(), AllocError>
-    ensures values { OnOk result (values.new.items ≡ values.old.items ++ content value.now) }
-    ensures text { HasUtf8 value.now }
-{
-    values.extend_from_slice(content(value))
-}
-
-/// Appends the offset at which a slot ends.
+// Appends the bytes of a binary value or a text, and the offset at which they end.
 #[inline(always)]
-pub(crate) fn push_offset(offsets: &mut Vec<u8>, end: usize) -> Result<(), AllocError>
-    ensures { OnOk result (offsets.new.items ≡ offsets.old.items ++ bytes_low_first 0 4 end) }
-{
-    push_u32(offsets, end as u64)
-}
-
-// Appends the bytes of a value, whose number has these bits, to the values of a column of `slots`
-// slots.
-#[inline(always)]
-fn push_value(
-    layout: Layout,
-    slots: usize,
+fn push_content(
+    offsets: &mut Vec<u8>,
     values: &mut Vec<u8>,
     value: &Value,
-    number: u64,
-) -> Result<(), AllocError>
-    requires { number ≡ number_bits value.now }
-    ensures values { (vs : List Value) → length vs ≡ slots → values.old.items ≡ values_in layout vs
-        → OnOk result (values.new.items ≡ values_in layout (vs ++ value.now ∷ [])) }
-    ensures stored { (vs : List Value) → AreStored layout vs
-        → OnOk result (AreStored layout (vs ++ value.now ∷ [])) }
+    utf8: bool,
+    limits: &Limits,
+) -> Result<(), PushFault>
+    ensures pushed { (vs : List Value) → AreContents vs offsets.old.items values.old.items
+        → OnOk result
+        (AreContents (vs ++ value.now ∷ []) offsets.new.items values.new.items) }
+    ensures refused { (vs : List Value) → AreContents vs offsets.old.items values.old.items
+        → IfErr result (IsPushRefused limits.now (VariableBytes utf8) (vs ++ value.now ∷ [])) }
 {
-    match layout {
-        Layout::Null
-        | Layout::Lists
-        | Layout::FixedLists(_)
-        | Layout::Structs
-        | Layout::Indices { .. } => Ok(()),
-        Layout::Bits => push_bit(values, slots, is_true(value)),
-        Layout::Numbers { bits, .. } => push_bits(values, number, bits),
-        Layout::FixedBytes(width) => push_fixed(values, value, width),
-        Layout::VariableBytes { .. } => push_content(values, value),
-    }
+    let bytes = content(value);
+    let end = values.len() + bytes.len();
+    check_amount(Layout::VariableBytes { utf8 }, end, limits)?;
+    values.extend_from_slice(bytes)?;
+    Ok(push_offset(offsets, end)?)
 }
 
-// Appends where the data of a column ends, if it has offsets.
+// Appends the offset at which the items of a list end, and adds their number to `count`.
 #[inline(always)]
-fn push_end(layout: Layout, offsets: &mut Vec<u8>, end: usize) -> Result<(), AllocError>
-    ensures { (vs : List Value) (value : Value) → end ≡ data_in layout (vs ++ value ∷ [])
-        → offsets.old.items ≡ offsets_in layout vs
-        → OnOk result (offsets.new.items ≡ offsets_in layout (vs ++ value ∷ [])) }
+fn push_items(
+    offsets: &mut Vec<u8>,
+    count: &mut u32,
+    value: &Value,
+    limits: &Limits,
+) -> Result<(), PushFault>
+    ensures pushed { (vs : List Value) → AreListEnds vs offsets.old.items count.old
+        → OnOk result (AreListEnds (vs ++ value.now ∷ []) offsets.new.items count.new) }
+    ensures refused { (vs : List Value) → AreListEnds vs offsets.old.items count.old
+        → IfErr result (IsPushRefused limits.now Lists (vs ++ value.now ∷ [])) }
 {
-    match layout {
-        Layout::VariableBytes { .. } | Layout::Lists => push_offset(offsets, end),
-        _ => Ok(()),
-    }
+    let end = *count as usize + items(value).len();
+    check_amount(Layout::Lists, end, limits)?;
+    push_offset(offsets, end)?;
+    *count = end as u32;
+    Ok(())
 }
 
 /// Returns the index of a value that is not null. A value that is not known has index 0.
@@ -231,64 +197,191 @@ pub(crate) fn known_index<I: IndexOf>(indices: &I, id: i64, value: &Value) -> Op
     }
 }
 
-// Appends the index of a value, if the column is one of indices.
-#[inline(always)]
-fn push_index<I: IndexOf>(
-    layout: Layout,
-    held: &mut Vec<Option<u64>>,
-    value: &Value,
-    indices: &I,
-) -> Result<(), AllocError>
-    ensures { (vs : List Value)
-        → held.old.items ≡ indices_in (index_or_zero (I.IndexOf.index indices.now)) layout vs
-        → OnOk result (held.new.items
-        ≡ indices_in (index_or_zero (I.IndexOf.index indices.now)) layout (vs ++ value.now ∷ [])) }
-{
-    match layout {
-        Layout::Indices { id, .. } => {
-            held.push(known_index(indices, id, value))?;
-            Ok(())
+impl IndexData {
+    // Appends the index of a value.
+    #[inline(always)]
+    fn push<I: IndexOf>(&mut self, value: &Value, indices: &I) -> Result<(), AllocError>
+        ensures indices { (vs : List Value)
+            → self.old.indices.items
+            ≡ indices_of (index_or_zero (I.IndexOf.index indices.now) self.old.id) vs
+            → OnOk result (self.new.indices.items
+            ≡ indices_of (index_or_zero (I.IndexOf.index indices.now) self.old.id)
+            (vs ++ value.now ∷ [])) }
+        ensures id { self.new.id ≡ self.old.id }
+        ensures bits { self.new.bits ≡ self.old.bits }
+        ensures signed { self.new.signed ≡ self.old.signed }
+    {
+        self.indices.push(known_index(indices, self.id, value))?;
+        Ok(())
+    }
+}
+
+impl ColumnData {
+    // Creates the data of a column of this layout. Its lists are empty.
+    fn new(alloc: Global, layout: Layout) -> ColumnData
+        ensures { data_layout result ≡ layout }
+    {
+        match layout {
+            Layout::Null => ColumnData::Null,
+            Layout::Bits => ColumnData::Bits(Vec::new(alloc)),
+            Layout::Numbers { bits, signed } => ColumnData::Numbers {
+                bits,
+                signed,
+                values: Vec::new(alloc),
+            },
+            Layout::FixedBytes(width) => ColumnData::FixedBytes {
+                width,
+                values: Vec::new(alloc),
+            },
+            Layout::VariableBytes { utf8 } => ColumnData::VariableBytes {
+                utf8,
+                offsets: Vec::new(alloc),
+                values: Vec::new(alloc),
+            },
+            Layout::Lists => ColumnData::Lists {
+                offsets: Vec::new(alloc),
+                items: 0,
+            },
+            Layout::FixedLists(size) => ColumnData::FixedLists(size),
+            Layout::Structs => ColumnData::Structs,
+            Layout::Indices { bits, signed, id } => ColumnData::Indices(IndexData {
+                bits,
+                signed,
+                id,
+                indices: Vec::new(alloc),
+            }),
         }
-        _ => Ok(()),
     }
-}
 
-// Begins the offsets of a column without values, if it has any.
-fn begin_offsets(layout: Layout, offsets: &mut Vec<u8>) -> Result<(), AllocError>
-    ensures { offsets.old.items ≡ []
-        → OnOk result (offsets.new.items ≡ offsets_in layout []) }
-{
-    match layout {
-        Layout::VariableBytes { .. } | Layout::Lists => push_offset(offsets, 0),
-        _ => Ok(()),
+    // Drops the values, and keeps the memory of the lists. Offsets begin with 0.
+    fn clear(&mut self) -> Result<(), AllocError>
+        ensures layout { data_layout self.new ≡ data_layout self.old }
+        ensures holds { (known : Numbering) → OnOk result (HoldsValues known [] self.new) }
+    {
+        match self {
+            ColumnData::Null | ColumnData::FixedLists(_) | ColumnData::Structs => (),
+            ColumnData::Bits(values) => values.clear(),
+            ColumnData::Numbers { values, .. } => values.clear(),
+            ColumnData::FixedBytes { values, .. } => values.clear(),
+            ColumnData::VariableBytes {
+                offsets,
+                values,
+                ..
+            } => {
+                values.clear();
+                offsets.clear();
+                push_offset(offsets, 0)?;
+            }
+            ColumnData::Lists { offsets, items } => {
+                *items = 0;
+                offsets.clear();
+                push_offset(offsets, 0)?;
+            }
+            ColumnData::Indices(held) => held.indices.clear(),
+        }
+        Ok(())
     }
-}
 
-// A column of this layout without values, over lists that may hold others.
-fn empty_column(
-    layout: Layout,
-    mut validity: Vec<u8>,
-    mut offsets: Vec<u8>,
-    mut values: Vec<u8>,
-    mut indices: Vec<Option<u64>>,
-) -> Result<ColumnBuilder, AllocError>
-    ensures { (known : Numbering) (limits : Limits)
-        → IfOk result (IsColumn known limits layout []) }
-{
-    validity.clear();
-    offsets.clear();
-    values.clear();
-    indices.clear();
-    begin_offsets(layout, &mut offsets)?;
-    Ok(ColumnBuilder {
-        layout,
-        counts: ColumnCounts::none(),
-        next: ColumnCounts::none(),
-        validity,
-        offsets,
-        values,
-        indices,
-    })
+    /// Returns the layout of the column.
+    #[inline(always)]
+    pub(crate) fn layout(&self) -> Layout
+        ensures { result ≡ data_layout self.now }
+    {
+        match self {
+            ColumnData::Null => Layout::Null,
+            ColumnData::Bits(_) => Layout::Bits,
+            ColumnData::Numbers { bits, signed, .. } => Layout::Numbers {
+                bits: *bits,
+                signed: *signed,
+            },
+            ColumnData::FixedBytes { width, .. } => Layout::FixedBytes(*width),
+            ColumnData::VariableBytes { utf8, .. } => Layout::VariableBytes { utf8: *utf8 },
+            ColumnData::Lists { .. } => Layout::Lists,
+            ColumnData::FixedLists(size) => Layout::FixedLists(*size),
+            ColumnData::Structs => Layout::Structs,
+            ColumnData::Indices(held) => Layout::Indices {
+                bits: held.bits,
+                signed: held.signed,
+                id: held.id,
+            },
+        }
+    }
+
+    // Returns whether the column has this layout.
+    fn has_layout(&self, layout: Layout) -> bool
+        ensures { IsTrue result → data_layout self.now ≡ layout }
+    {
+        self.layout() == layout
+    }
+
+    /// Returns whether the column has a validity bitmap.
+    #[inline(always)]
+    pub(crate) fn has_validity(&self) -> bool
+        ensures { result ≡ layouts.has_validity (data_layout self.now) }
+    {
+        !matches!(self, ColumnData::Null)
+    }
+
+    /// Returns the number of bytes, or of items of lists, in a column of `slots` slots.
+    pub(crate) fn amount(&self, slots: usize) -> usize
+        requires { slots ≤ max_slots }
+        ensures is { (known : Numbering) (vs : List Value) → HoldsValues known vs self.now
+            → length vs ≡ slots → result ≡ data_in (data_layout self.now) vs }
+        ensures small { result < 2 ^ 63 }
+    {
+        match self {
+            ColumnData::Null => 0,
+            ColumnData::Bits(_) => 0,
+            ColumnData::FixedLists(_) => 0,
+            ColumnData::Structs => 0,
+            ColumnData::Numbers { values, .. } => values.len(),
+            ColumnData::FixedBytes { values, .. } => values.len(),
+            ColumnData::VariableBytes { values, .. } => values.len(),
+            ColumnData::Lists { items, .. } => *items as usize,
+            ColumnData::Indices(held) => held.bits.bytes() * slots,
+        }
+    }
+
+    // Appends a value after `slots` others. The slots bound the size of bits, numbers and indices,
+    // so only the amount of other data is checked.
+    #[inline(always)]
+    fn push<I: IndexOf>(
+        &mut self,
+        slots: usize,
+        value: &Value,
+        limits: &Limits,
+        indices: &I,
+    ) -> Result<(), PushFault>
+        ensures pushed { (vs : List Value)
+            → HoldsValues (index_or_zero (I.IndexOf.index indices.now)) vs self.old
+            → length vs ≡ slots
+            → OnOk result (HoldsValues (index_or_zero (I.IndexOf.index indices.now))
+            (vs ++ value.now ∷ []) self.new) }
+        ensures layout { data_layout self.new ≡ data_layout self.old }
+        ensures refused { (vs : List Value)
+            → HoldsValues (index_or_zero (I.IndexOf.index indices.now)) vs self.old
+            → length vs ≡ slots
+            → IfErr result
+            (IsPushRefused limits.now (data_layout self.old) (vs ++ value.now ∷ [])) }
+    {
+        match self {
+            ColumnData::Null | ColumnData::FixedLists(_) | ColumnData::Structs => Ok(()),
+            ColumnData::Bits(bits) => Ok(push_bit(bits, slots, is_true(value))?),
+            ColumnData::Numbers { bits, values, .. } => Ok(push_number(values, value, *bits)?),
+            ColumnData::FixedBytes { width, values } => {
+                let amount = values.len() + fixed_len(value, *width);
+                check_amount(Layout::FixedBytes(*width), amount, limits)?;
+                Ok(push_fixed(values, value, *width)?)
+            }
+            ColumnData::VariableBytes {
+                utf8,
+                offsets,
+                values,
+            } => push_content(offsets, values, value, *utf8, limits),
+            ColumnData::Lists { offsets, items } => push_items(offsets, items, value, limits),
+            ColumnData::Indices(held) => Ok(held.push(value, indices)?),
+        }
+    }
 }
 
 impl ColumnBuilder {
@@ -297,90 +390,36 @@ impl ColumnBuilder {
         ensures { (known : Numbering) (limits : Limits)
             → IfOk result (IsColumn known limits layout []) }
     {
-        empty_column(
-            layout,
-            Vec::new(alloc),
-            Vec::new(alloc),
-            Vec::new(alloc),
-            Vec::new(alloc),
-        )
+        ColumnBuilder::empty(Vec::new(alloc), ColumnData::new(alloc, layout))
     }
 
-    /// Creates a column of this layout without values, in the memory of this one.
-    pub(crate) fn emptied(self, layout: Layout) -> Result<ColumnBuilder, AllocError>
+    /// Creates a column of this layout without values, in the memory of this one if it has the
+    /// layout.
+    pub(crate) fn emptied(self, layout: Layout, alloc: Global) -> Result<ColumnBuilder, AllocError>
         ensures { (known : Numbering) (limits : Limits)
             → IfOk result (IsColumn known limits layout []) }
     {
-        let ColumnBuilder {
-            validity,
-            offsets,
-            values,
-            indices,
-            ..
-        } = self;
-        empty_column(layout, validity, offsets, values, indices)
-    }
-
-    // Takes one value more into a column of this layout, as `push` does. Where the caller has
-    // matched the layout, nothing below it asks again.
-    #[inline(always)]
-    fn push_with_layout<I: IndexOf>(
-        &mut self,
-        layout: Layout,
-        value: &Value,
-        limits: &Limits,
-        indices: &I,
-    ) -> Result<(), PushFault>
-        ensures pushed { (values : List Value)
-            → IsColumn (index_or_zero (I.IndexOf.index indices.now)) limits.now layout values
-            self.old
-            → OnOk result (IsColumn (index_or_zero (I.IndexOf.index indices.now)) limits.now layout
-            (values ++ value.now ∷ []) self.new) }
-        ensures refused { (values : List Value)
-            → IsColumn (index_or_zero (I.IndexOf.index indices.now)) limits.now layout values
-            self.old
-            → IfErr result (IsPushRefused limits.now layout (values ++ value.now ∷ [])) }
-    {
-        let ColumnCounts { slots, nulls, .. } = self.counts;
-        let counts = self.counts.with(layout, value, limits)?;
-        // The value is read before anything is written, and so once.
-        let number = number_bits(value);
-        push_value(layout, slots, &mut self.values, value, number)?;
-        push_end(layout, &mut self.offsets, counts.amount)?;
-        push_index(layout, &mut self.indices, value, indices)?;
-        push_validity(layout, &mut self.validity, slots, nulls, value)?;
-        self.counts = counts;
-        Ok(())
-    }
-
-    // Adds one value to a column that does not hold numbers of 32 or 64 bits, as `push` does. Each
-    // frequent layout has code of its own.
-    #[inline(never)]
-    fn push_other<I: IndexOf>(
-        &mut self,
-        value: &Value,
-        limits: &Limits,
-        indices: &I,
-    ) -> Result<(), PushFault>
-        ensures pushed { (layout : Layout) (values : List Value)
-            → IsColumn (index_or_zero (I.IndexOf.index indices.now)) limits.now layout values
-            self.old
-            → OnOk result (IsColumn (index_or_zero (I.IndexOf.index indices.now)) limits.now layout
-            (values ++ value.now ∷ []) self.new) }
-        ensures refused { (layout : Layout) (values : List Value)
-            → IsColumn (index_or_zero (I.IndexOf.index indices.now)) limits.now layout values
-            self.old
-            → IfErr result (IsPushRefused limits.now layout (values ++ value.now ∷ [])) }
-    {
-        match self.layout {
-            Layout::Bits => self.push_with_layout(Layout::Bits, value, limits, indices),
-            Layout::VariableBytes { utf8 } => {
-                self.push_with_layout(Layout::VariableBytes { utf8 }, value, limits, indices)
-            }
-            Layout::Lists => self.push_with_layout(Layout::Lists, value, limits, indices),
-            Layout::Structs => self.push_with_layout(Layout::Structs, value, limits, indices),
-            layout => self.push_with_layout(layout, value, limits, indices),
+        let ColumnBuilder { validity, data, .. } = self;
+        if data.has_layout(layout) {
+            return ColumnBuilder::empty(validity, data);
         }
+        ColumnBuilder::new(alloc, layout)
+    }
+
+    // Drops the values of a column, and keeps the memory of its lists.
+    fn empty(mut validity: Vec<u8>, mut data: ColumnData) -> Result<ColumnBuilder, AllocError>
+        ensures { (known : Numbering) (limits : Limits) → IfOk result
+            (IsColumn known limits (data_layout «data») []) }
+    {
+        validity.clear();
+        data.clear()?;
+        Ok(ColumnBuilder {
+            slots: 0,
+            nulls: 0,
+            next: ColumnCounts::none(),
+            validity,
+            data,
+        })
     }
 
     /// Adds one value. After an error the column is unusable.
@@ -403,35 +442,22 @@ impl ColumnBuilder {
             self.old
             → IfErr result (IsPushRefused limits.now layout (values ++ value.now ∷ [])) }
     {
-        match self.layout {
-            Layout::Numbers {
-                bits: IntBits::B64,
-                signed,
-            } => {
-                let layout = Layout::Numbers {
-                    bits: IntBits::B64,
-                    signed,
-                };
-                self.push_with_layout(layout, value, limits, indices)
-            }
-            Layout::Numbers {
-                bits: IntBits::B32,
-                signed,
-            } => {
-                let layout = Layout::Numbers {
-                    bits: IntBits::B32,
-                    signed,
-                };
-                self.push_with_layout(layout, value, limits, indices)
-            }
-            _ => self.push_other(value, limits, indices),
+        let ColumnBuilder { slots, nulls, .. } = *self;
+        if slots >= limits.slots as usize {
+            return Err(PushFault::TooMany);
         }
+        self.data.push(slots, value, limits, indices)?;
+        let has_validity = self.data.has_validity();
+        push_validity(&mut self.validity, has_validity, slots, nulls, value)?;
+        self.slots = slots + 1;
+        self.nulls = nulls + null_count(value);
+        Ok(())
     }
 }
 
 // Appends the number of each value, which has these bits, and says how many are null.
 #[inline(always)]
-fn push_each(list: &mut Vec<u8>, values: &[Value], bits: IntBits) -> Result<usize, AllocError>
+fn push_numbers(list: &mut Vec<u8>, values: &[Value], bits: IntBits) -> Result<usize, AllocError>
     ensures bytes { OnOk result
         (list.new.items ≡ list.old.items ++ slots (Number bits) values.now) }
     ensures nulls { IfOk result (λ count. count ≡ nulls values.now) }
@@ -444,26 +470,10 @@ fn push_each(list: &mut Vec<u8>, values: &[Value], bits: IntBits) -> Result<usiz
     Ok(nulls)
 }
 
-// Appends the numbers of values. Each width has a loop of its own, in which a number is one store.
-fn push_numbers(list: &mut Vec<u8>, values: &[Value], bits: IntBits) -> Result<usize, AllocError>
-    ensures bytes { OnOk result
-        (list.new.items ≡ list.old.items ++ slots (Number bits) values.now) }
-    ensures nulls { IfOk result (λ count. count ≡ nulls values.now) }
-{
-    match bits {
-        IntBits::B64 => push_each(list, values, IntBits::B64),
-        IntBits::B32 => push_each(list, values, IntBits::B32),
-        IntBits::B16 => push_each(list, values, IntBits::B16),
-        IntBits::B8 => push_each(list, values, IntBits::B8),
-    }
-}
-
 impl ColumnBuilder {
-    // Takes these values where the column is one of numbers, and neither it nor they have a null,
-    // and says whether it has.
-    //
-    // Refused as `take`.
-    fn push_valid(&mut self, values: &[Value], limits: &Limits) -> Result<bool, PushFault>
+    // Adds these values if the column stores numbers, and neither it nor they have a null. Returns
+    // whether it added them. The error is `OutOfMemory`.
+    fn push_valid(&mut self, values: &[Value], limits: &Limits) -> Result<bool, AllocError>
         ensures pushed { (known : Numbering) (layout : Layout) (before : List Value)
             → IsColumn known limits.now layout before self.old
             → IfOk result (λ all. IsTrue all
@@ -472,50 +482,27 @@ impl ColumnBuilder {
             → IsColumn known limits.now layout before self.old
             → IfOk result (λ all. all ≡ false
             → IsColumn known limits.now layout before self.new) }
-        ensures refused { (known : Numbering) (layout : Layout) (before : List Value)
-            → IsColumn known limits.now layout before self.old
-            → IfErr result (IsPushRefused limits.now layout (before ++ values.now)) }
     {
-        let Layout::Numbers { bits, .. } = self.layout else {
+        let ColumnBuilder { slots, nulls, .. } = *self;
+        let most = limits.slots as usize;
+        let ColumnData::Numbers {
+            bits,
+            values: list,
+            ..
+        } = &mut self.data
+        else {
             return Ok(false);
         };
-        let held = self.counts;
-        if held.nulls > 0 || values.len() > limits.slots as usize {
+        if nulls > 0 || values.len() > most || slots + values.len() > most {
             return Ok(false);
         }
-        let length = self.values.len();
-        let count = push_numbers(&mut self.values, values, bits)?;
-        if count > 0 {
-            self.values.truncate(length);
+        let length = list.len();
+        if push_numbers(list, values, *bits)? > 0 {
+            list.truncate(length);
             return Ok(false);
         }
-        let amount = self.values.len();
-        self.counts = held.with_all(self.layout, values.len(), 0, amount, limits)?;
+        self.slots = slots + values.len();
         Ok(true)
-    }
-
-    // Takes several values more, one after another.
-    fn push_one_by_one<I: IndexOf>(
-        &mut self,
-        values: &[Value],
-        limits: &Limits,
-        indices: &I,
-    ) -> Result<(), PushFault>
-        ensures pushed { (layout : Layout) (before : List Value)
-            → IsColumn (index_or_zero (I.IndexOf.index indices.now)) limits.now layout before
-            self.old
-            → OnOk result (IsColumn (index_or_zero (I.IndexOf.index indices.now)) limits.now layout
-            (before ++ values.now) self.new) }
-        ensures refused { (layout : Layout) (children : Shape) (before : List Value)
-            → IsColumn (index_or_zero (I.IndexOf.index indices.now)) limits.now layout before
-            self.old
-            → IfErr result (ArePushesRefused limits.now (field layout children bare)
-            (λ j. before ++ values.now)) }
-    {
-        for value in values {
-            self.push(value, limits, indices)?;
-        }
-        Ok(())
     }
 
     /// Adds several values. After an error the column is unusable. The errors are those of
@@ -540,6 +527,9 @@ impl ColumnBuilder {
         if self.push_valid(values, limits)? {
             return Ok(());
         }
-        self.push_one_by_one(values, limits, indices)
+        for value in values {
+            self.push(value, limits, indices)?;
+        }
+        Ok(())
     }
 }

@@ -1,5 +1,4 @@
 //! The buffers of a column, borrowed from the batch where they lie as they are written.
-ghost use Rattle.std.specs.List.{AllByRecursion};
 ghost use Rattle.std.specs.Prelude.{◌≡◌, ◌≤◌, ◌<◌, ◌+◌, ◌*◌, ℕ, false, length, IfSome, IsTrue};
 ghost use Rattle.std.specs.Prelude.{slice_index, take, List, [], ◌⊎◌, drop, replicate, IfErr};
 ghost use Rattle.std.specs.Prelude.{IfOk, OnOk};
@@ -8,11 +7,10 @@ ghost use Rattle.ipc_model.specs.Limits.{max_data};
 ghost use Rattle.ipc_model.specs.declared.layout.Layout.TheVariants.{Bits, FixedBytes, Lists};
 ghost use Rattle.ipc_model.specs.declared.value.Value.{Value};
 ghost use Rattle.ipc_column.specs.Lending.{AreNumbers};
-ghost use Rattle.ipc_column.specs.Nested.{only_column, slot_values};
-ghost use Rattle.ipc_column.specs.Rules.{SpellsTexts};
+ghost use Rattle.ipc_column.specs.Nested.{slot_values};
 ghost use Rattle.ipc_column.specs.Values.{is_valid};
 ghost use Rattle.ipc_encode.specs.Bitmaps.{bitmap};
-ghost use Rattle.ipc_encode.specs.Cells.{HasUtf8, ends, slots, flags, nulls, offsets};
+ghost use Rattle.ipc_encode.specs.Cells.{ends, slots, flags, nulls, offsets};
 ghost use Rattle.ipc_encode.specs.Columns.{data_in, validity_bytes};
 ghost use Rattle.ipc_encode.specs.Marks.{HasBits, MarksNulls};
 ghost use Rattle.ipc_encode.specs.Pieces.{Bytes, Content, Fixed, Items, Number, True};

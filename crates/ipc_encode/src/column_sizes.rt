@@ -1,5 +1,5 @@
 //! A column whose values are counted and not kept.
-ghost use Rattle.std.specs.Prelude.{◌≡◌, ◌≤◌, ◌++◌, List, [], ◌∷◌, length, IfOk, IfErr};
+ghost use Rattle.std.specs.Prelude.{◌≡◌, ◌++◌, List, [], ◌∷◌, IfOk, IfErr};
 ghost use Rattle.ipc_model.specs.declared.schema.Field.{Field};
 ghost use Rattle.ipc_model.specs.declared.value.Value.{Value};
 ghost use Rattle.ipc_column.specs.Shapes.{bare, field, field_children, shape_of};
@@ -9,7 +9,7 @@ ghost use Rattle.ipc_encode.specs.ColumnSizes.{as_rows, CountsRows};
 ghost use Rattle.ipc_encode.specs.Faults.{write_fault};
 ghost use Rattle.ipc_encode.specs.Limits.{AreRowsRefused, AreColumnsTooLong};
 
-use crate::counts::ColumnCounts;
+use crate::column::ColumnCounts;
 use crate::fault::PushFault;
 use ipc_model::{Field, Layout, Limits, Value, WriteFault, layout_of};
 

@@ -70,10 +70,10 @@ fn has_no_null(view: &SlotView<'_>) -> bool
 
 // Whether the null slots of a column fit a field: null fits the field, or each of them is null in
 // the parent too, by the parent's bitmap.
-fn nulls_fit(field: &Field, view: &SlotView<'_>, above: &[u8]) -> bool
-    requires { HasBits above.now (length (slot_values view.now)) }
+fn nulls_fit(field: &Field, view: &SlotView<'_>, parent_validity: &[u8]) -> bool
+    requires { HasBits parent_validity.now (length (slot_values view.now)) }
     ensures { IsTrue result → (i : ℕ) → i < length (slot_values view.now)
-        → is_valid above.now i ≡ true
+        → is_valid parent_validity.now i ≡ true
         → is_set Valid (slice_index_or (slot_values view.now) i Null) ≡ false
         → IsTrue (out-Field field.now).nullable ⊎ ((out-Field field.now).kind ≡ kinds.Null) }
 {
@@ -81,7 +81,7 @@ fn nulls_fit(field: &Field, view: &SlotView<'_>, above: &[u8]) -> bool
         return true;
     }
     match borrowed_bitmap(view) {
-        Some(marks) => valid_are_among(above, marks, view.len()),
+        Some(marks) => valid_are_among(parent_validity, marks, view.len()),
         None => has_no_null(view),
     }
 }
@@ -164,13 +164,13 @@ fn leaf_fits(field: &Field, view: &SlotView<'_>) -> bool
 // Fast accept: each slot of a column fits its field if the parent, by its bitmap, is not null. If
 // it returns false, check the rows.
 #[cycle(slots)]
-fn slots_fit(field: &Field, view: &SlotView<'_>, above: &[u8]) -> bool
-    requires { HasBits above.now (length (slot_values view.now)) }
+fn slots_fit(field: &Field, view: &SlotView<'_>, parent_validity: &[u8]) -> bool
+    requires { HasBits parent_validity.now (length (slot_values view.now)) }
     ensures { IsTrue result → (i : ℕ) → i < length (slot_values view.now)
-        → is_valid above.now i ≡ true
+        → is_valid parent_validity.now i ≡ true
         → Fits field.now (slice_index_or (slot_values view.now) i Null) }
 {
-    if !nulls_fit(field, view, above) {
+    if !nulls_fit(field, view, parent_validity) {
         return false;
     }
     let fields = field.children.as_slice();

@@ -1,5 +1,5 @@
 //! Takes the values of a column of a batch that was read into a column without values.
-ghost use Rattle.std.specs.Prelude.{◌≡◌, ◌≤◌, ◌<◌, ℕ, ℤ, Bool, List, [], length, map, Option};
+ghost use Rattle.std.specs.Prelude.{◌≡◌, ◌≤◌, ◌<◌, ℕ, List, [], length, map, Option};
 ghost use Rattle.std.specs.Prelude.{Some, slice_get, slice_index_or, IfErr, IfOk, IfSome, OnOk};
 ghost use Rattle.ipc_model.specs.declared.layout.Layout.{Layout};
 ghost use Rattle.ipc_model.specs.declared.layout.Layout.TheVariants.{Indices};
@@ -7,16 +7,15 @@ ghost use Rattle.ipc_model.specs.declared.value.Value.{Value};
 ghost use Rattle.ipc_column.specs.Lent.{AreOfColumn};
 ghost use Rattle.ipc_column.specs.Nested.{slot_values};
 ghost use Rattle.ipc_column.specs.Shapes.{Shape, bare, field};
-ghost use Rattle.ipc_encode.specs.Bitmaps.{bitmap};
 ghost use Rattle.ipc_encode.specs.Built.{IsColumn, IsPushRefused, ArePushesRefused, IsNode};
-ghost use Rattle.ipc_encode.specs.Cells.{cells, flags, nulls, cell};
+ghost use Rattle.ipc_encode.specs.Cells.{cells, nulls, cell};
 ghost use Rattle.ipc_encode.specs.Columns.{validity_bytes};
 ghost use Rattle.ipc_encode.specs.EntryIndices.{AreKept, column_index};
 ghost use Rattle.ipc_encode.specs.Numbers.{indices_of, index_or_zero};
-ghost use Rattle.ipc_encode.specs.Pieces.{Valid};
 
 use crate::bitmaps::push_bit;
-use crate::column_builder::{ColumnBuilder, Purpose, known_index};
+use crate::column::{ColumnBuilder, ColumnData, IndexData};
+use crate::column_builder::{Purpose, known_index};
 use crate::fault::PushFault;
 use crate::index::IndexOf;
 use crate::tree::{Node, take};
@@ -189,17 +188,6 @@ fn count_nulls(indices: &[Option<u64>]) -> usize
     null_count
 }
 
-// Appends whether each value has an index to an empty list.
-fn push_index_validity(bits: &mut Vec<u8>, indices: &[Option<u64>]) -> Result<(), AllocError>
-    ensures { (known : Value → ℕ) (values : List Value) → indices.now ≡ indices_of known values
-        → bits.old.items ≡ [] → OnOk result (bits.new.items ≡ bitmap (flags Valid values)) }
-{
-    for (slot, index) in indices.iter().enumerate() {
-        push_bit(bits, slot, index.is_some())?;
-    }
-    Ok(())
-}
-
 // Appends the bitmap of values with these indices to an empty list. It stays empty if no value is
 // null.
 fn push_validities(
@@ -214,49 +202,52 @@ fn push_validities(
     if null_count == 0 {
         return Ok(());
     }
-    push_index_validity(validity, indices)
+    for (slot, index) in indices.iter().enumerate() {
+        push_bit(validity, slot, index.is_some())?;
+    }
+    Ok(())
 }
 
 impl ColumnBuilder {
-    /// Takes the values of a column of a batch into a column of indices of this width, which has no
-    /// values. The index of each value of a dictionary that was read is looked up once. The errors
-    /// are those of `ColumnBuilder::take`.
+    /// Takes the values of a column of a batch into a column of these indices, which has no values.
+    /// The index of each value of a dictionary that was read is looked up once. The errors are
+    /// those of `ColumnBuilder::take`.
     pub(crate) fn take_indices<I: IndexOf>(
         &mut self,
         batch: &Batch,
         column: usize,
         bits: IntBits,
+        signed: bool,
+        id: i64,
         limits: &Limits,
         indices: &I,
     ) -> Result<(), PushFault>
         requires { column < batch.now.columns }
-        ensures taken { (signed : Bool) (id : ℤ)
-            → IsColumn (index_or_zero (I.IndexOf.index indices.now)) limits.now
-            (Indices bits signed id) []
-            self.old
+        ensures taken { IsColumn (index_or_zero (I.IndexOf.index indices.now)) limits.now
+            (Indices bits signed id) [] self.old
             → OnOk result (IsColumn (index_or_zero (I.IndexOf.index indices.now)) limits.now
             (Indices bits signed id) (cells column batch.now.rows) self.new) }
-        ensures refused { (signed : Bool) (id : ℤ)
-            → IsColumn (index_or_zero (I.IndexOf.index indices.now)) limits.now
-            (Indices bits signed id) []
-            self.old
-            → IfErr result (IsPushRefused limits.now (Indices bits signed id)
+        ensures refused { IfErr result (IsPushRefused limits.now (Indices bits signed id)
             (cells column batch.now.rows)) }
     {
         let count = batch.rows();
         if count > limits.slots as usize {
             return Err(PushFault::TooMany);
         }
-        let alloc = *self.indices.allocator();
-        let taken = slot_indices(alloc, batch, column, self.layout, indices)?;
-        let more = taken.as_slice();
-        let null_count = count_nulls(more);
-        push_validities(&mut self.validity, more, null_count)?;
-        let amount = bits.bytes() * count;
-        self.counts = self
-            .counts
-            .with_all(self.layout, count, null_count, amount, limits)?;
-        self.indices = taken;
+        let layout = Layout::Indices { bits, signed, id };
+        let alloc = *self.validity.allocator();
+        let taken = slot_indices(alloc, batch, column, layout, indices)?;
+        let null_count = count_nulls(&taken);
+        push_validities(&mut self.validity, &taken, null_count)?;
+        self.nulls = 0;
+        self.slots = count;
+        self.nulls = null_count;
+        self.data = ColumnData::Indices(IndexData {
+            bits,
+            signed,
+            id,
+            indices: taken,
+        });
         Ok(())
     }
 }
@@ -330,10 +321,10 @@ pub(crate) fn take_column<I: IndexOf>(
         (λ j. cells column batch.now.rows)) }
 {
     if node.is_leaf() && column < batch.columns() {
-        if let Layout::Indices { bits, .. } = node.column.layout {
+        if let Layout::Indices { bits, signed, id } = node.column.data.layout() {
             return node
                 .column
-                .take_indices(batch, column, bits, limits, indices);
+                .take_indices(batch, column, bits, signed, id, limits, indices);
         }
     }
     take_each(node, batch, column, limits, indices)

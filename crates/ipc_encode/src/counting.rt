@@ -1,6 +1,6 @@
 //! What a value is for the buffers of a column, and the sizes of columns with more values.
-ghost use Rattle.std.specs.Prelude.{◌≤◌, ◌≡◌, ◌<◌, ◌^◌, ◌++◌, ◌⊎◌, List, [], ◌∷◌, length, IfOk};
-ghost use Rattle.std.specs.Prelude.{IfErr, OnOk, IsTrue, ◌+◌, ◌*◌, if◌then◌else◌};
+ghost use Rattle.std.specs.Prelude.{◌≤◌, ◌≡◌, ◌<◌, ◌^◌, ◌++◌, List, [], ◌∷◌, length, IfOk};
+ghost use Rattle.std.specs.Prelude.{IfErr, OnOk, ◌+◌, ◌*◌, if◌then◌else◌};
 ghost use Rattle.ipc_model.specs.MaxLimits.{max_body, max_slots};
 ghost use Rattle.ipc_model.specs.declared.layout.Layout.{Layout};
 ghost use Rattle.ipc_model.specs.declared.layout.Layout.TheVariants.{Lists};
@@ -11,13 +11,13 @@ ghost use Rattle.ipc_encode.specs.Built.{HasTaken, IsColumn, AreCountsOf, IsNext
 ghost use Rattle.ipc_encode.specs.Cells.{nulls, is_set, number_bits, content, fixed_bytes, items};
 ghost use Rattle.ipc_encode.specs.Cells.{HasUtf8};
 ghost use Rattle.ipc_encode.specs.Columns.{data_in, value_len, ExceedsOffsets, offsets_length};
-ghost use Rattle.ipc_encode.specs.Columns.{validity_length, values_length, column_length};
+ghost use Rattle.ipc_encode.specs.Columns.{validity_length, values_length};
 ghost use Rattle.ipc_encode.specs.Numbers.{Numbering, index_or_zero};
 ghost use Rattle.ipc_encode.specs.declared.column_builder.Purpose.TheVariants.{Count};
 ghost use Rattle.ipc_encode.specs.Pieces.{Valid, True};
 
-use crate::column_builder::{ColumnBuilder, MAX_DATA, Purpose};
-use crate::counts::ColumnCounts;
+use crate::column::{ColumnBuilder, ColumnCounts};
+use crate::column_builder::{MAX_DATA, Purpose};
 use crate::fault::PushFault;
 use crate::index::IndexOf;
 use ipc_model::{Layout, Limits, Value};
@@ -38,15 +38,6 @@ pub(crate) fn null_count(value: &Value) -> usize
     ensures few { result ≤ 1 }
 {
     usize::from(!is_valid(value))
-}
-
-/// Returns the number of nulls with this value after `nulls` nulls.
-#[inline(always)]
-pub(crate) fn nulls_with(nulls: usize, value: &Value) -> usize
-    requires { nulls < 2 ^ 32 }
-    ensures { result ≡ nulls + (if is_set Valid value.now then 0 else 1) }
-{
-    nulls + usize::from(!is_valid(value))
 }
 
 /// Returns whether a value is true.
@@ -104,18 +95,6 @@ pub(crate) fn items(value: &Value) -> &[Value]
     }
 }
 
-/// Returns the number of items of a list. Any other value has none.
-#[inline(always)]
-pub(crate) fn item_count(value: &Value) -> usize
-    ensures count { result ≡ length (items value.now) }
-    ensures few { result < 2 ^ 63 }
-{
-    match value {
-        Value::List(items) => items.as_slice().len(),
-        _ => 0,
-    }
-}
-
 /// Returns the amount that a value adds to the data of a column.
 #[inline(always)]
 pub(crate) fn value_len(layout: Layout, value: &Value) -> usize
@@ -127,46 +106,28 @@ pub(crate) fn value_len(layout: Layout, value: &Value) -> usize
         Layout::Numbers { bits, .. } | Layout::Indices { bits, .. } => bits.bytes(),
         Layout::FixedBytes(width) => fixed_len(value, width),
         Layout::VariableBytes { .. } => content(value).len(),
-        Layout::Lists => item_count(value),
+        Layout::Lists => items(value).len(),
     }
 }
 
-// Whether so much data is more than offsets reach.
+/// Checks that a column may have this amount of data, in bytes or in items of lists.
+///
+/// Errors: `TooMany` if there are more items of lists than offsets reach; `TooLong` if there are
+/// more bytes than offsets reach or a body may have.
 #[inline(always)]
-fn exceeds_offsets(layout: Layout, amount: usize) -> bool
-    ensures passes { IsTrue result → ExceedsOffsets layout amount }
-    ensures reached { ¬ IsTrue result → ¬ ExceedsOffsets layout amount }
-    ensures few { ¬ IsTrue result → layout ≡ Lists → amount ≤ max_body }
+pub(crate) fn check_amount(layout: Layout, amount: usize, limits: &Limits) -> Result<(), PushFault>
+    ensures within { OnOk result (¬ ExceedsOffsets layout amount) }
+    ensures refused { (values : List Value) → data_in layout values ≡ amount
+        → IfErr result (IsPushRefused limits.now layout values) }
+    ensures few { OnOk result (amount ≤ max_body) }
+    ensures memory { IfErr result (λ fault. ¬ (fault ≡ PushFault.OutOfMemory)) }
 {
     match layout {
-        Layout::VariableBytes { .. } | Layout::Lists => amount > MAX_DATA,
-        _ => false,
-    }
-}
-
-// The fault of data that offsets do not reach, or that is too long for a body. The items of lists
-// are slots of a child.
-#[inline(always)]
-fn excess_fault(layout: Layout) -> PushFault
-    ensures lists { layout ≡ Lists → result ≡ PushFault.TooMany }
-    ensures bytes { ¬ (layout ≡ Lists) → result ≡ PushFault.TooLong }
-    ensures memory { ¬ (result ≡ PushFault.OutOfMemory) }
-{
-    match layout {
-        Layout::Lists => PushFault::TooMany,
-        _ => PushFault::TooLong,
-    }
-}
-
-// Whether this amount of data has more bytes than a body may have.
-#[inline(always)]
-fn exceeds_body(layout: Layout, amount: usize, limits: &Limits) -> bool
-    ensures passes { IsTrue result → (limits.now.body < amount) × ¬ (layout ≡ Lists) }
-    ensures within { ¬ IsTrue result → ¬ (layout ≡ Lists) → amount ≤ max_body }
-{
-    match layout {
-        Layout::Lists => false,
-        _ => amount as u64 > limits.body,
+        Layout::Lists if amount <= MAX_DATA => Ok(()),
+        Layout::Lists => Err(PushFault::TooMany),
+        Layout::VariableBytes { .. } if amount > MAX_DATA => Err(PushFault::TooLong),
+        _ if amount as u64 > limits.body => Err(PushFault::TooLong),
+        _ => Ok(()),
     }
 }
 
@@ -204,60 +165,37 @@ impl ColumnCounts {
             return Err(PushFault::TooMany);
         }
         let amount = self.amount + value_len(layout, value);
-        if exceeds_offsets(layout, amount) || exceeds_body(layout, amount, limits) {
-            return Err(excess_fault(layout));
-        }
+        check_amount(layout, amount, limits)?;
         Ok(ColumnCounts {
             slots: self.slots + 1,
-            nulls: nulls_with(self.nulls, value),
-            amount,
-        })
-    }
-
-    /// Returns the sizes with `slot_count` more values, of which `null_count` are null. `amount` is
-    /// the data of all values. The errors are those of `ColumnCounts::with`.
-    pub(crate) fn with_all(
-        self,
-        layout: Layout,
-        slot_count: usize,
-        null_count: usize,
-        amount: usize,
-        limits: &Limits,
-    ) -> Result<ColumnCounts, PushFault>
-        requires { null_count ≤ slot_count }
-        ensures counted { (before values : List Value) → AreCountsOf limits.now layout before self
-            → length values ≡ slot_count → nulls values ≡ null_count
-            → data_in layout (before ++ values) ≡ amount
-            → IfOk result (AreCountsOf limits.now layout (before ++ values)) }
-        ensures refused { (before values : List Value) → AreCountsOf limits.now layout before self
-            → length values ≡ slot_count → nulls values ≡ null_count
-            → data_in layout (before ++ values) ≡ amount
-            → IfErr result (IsPushRefused limits.now layout (before ++ values)) }
-    {
-        let most = limits.slots as usize;
-        if slot_count > most || self.slots + slot_count > most {
-            return Err(PushFault::TooMany);
-        }
-        if exceeds_offsets(layout, amount) || exceeds_body(layout, amount, limits) {
-            return Err(excess_fault(layout));
-        }
-        Ok(ColumnCounts {
-            slots: self.slots + slot_count,
-            nulls: self.nulls + null_count,
+            nulls: self.nulls + null_count(value),
             amount,
         })
     }
 }
 
 impl ColumnBuilder {
+    /// Returns the sizes of the values that the column has.
+    pub(crate) fn held_counts(&self) -> ColumnCounts
+        ensures { (known : Numbering) (limits : Limits) (layout : Layout) (values : List Value)
+            → IsColumn known limits layout values self.now
+            → AreCountsOf limits layout values result }
+    {
+        ColumnCounts {
+            slots: self.slots,
+            nulls: self.nulls,
+            amount: self.data.amount(self.slots),
+        }
+    }
+
     /// Returns the sizes of the values that the column has, or those with the next row.
     pub(crate) fn counts(&self, purpose: Purpose) -> ColumnCounts
         ensures { (known : Numbering) (limits : Limits) (layout : Layout) (values : List Value)
             → HasTaken known purpose limits layout values self.now
-            → AreCountsOf limits self.now.layout values result }
+            → AreCountsOf limits layout values result }
     {
         match purpose {
-            Purpose::Keep => self.counts,
+            Purpose::Keep => self.held_counts(),
             Purpose::Count => self.next,
         }
     }
@@ -272,7 +210,7 @@ impl ColumnBuilder {
             → IsColumn known limits layout values self.old
             → IsColumn known limits layout values self.new }
     {
-        self.next = self.counts;
+        self.next = self.held_counts();
     }
 
     // Counts one value of the next row.
@@ -289,7 +227,7 @@ impl ColumnBuilder {
             → IsColumn known limits layout values self.new }
         ensures memory { IfErr result (λ fault. ¬ (fault ≡ PushFault.OutOfMemory)) }
     {
-        self.next = self.next.with(self.layout, value, limits)?;
+        self.next = self.next.with(self.data.layout(), value, limits)?;
         Ok(())
     }
 
@@ -363,9 +301,9 @@ fn offsets_len(layout: Layout, slots: usize) -> usize
 #[inline(always)]
 fn values_len(layout: Layout, slots: usize, amount: usize) -> usize
     requires few { slots ≤ max_slots }
-    requires small { amount ≤ max_body }
+    requires small { amount < 2 ^ 63 }
     ensures is { result ≡ values_length layout slots amount }
-    ensures small { result ≤ max_body }
+    ensures small { result < 2 ^ 63 }
 {
     match layout {
         Layout::Null | Layout::Lists | Layout::FixedLists(_) | Layout::Structs => 0,
@@ -377,19 +315,6 @@ fn values_len(layout: Layout, slots: usize, amount: usize) -> usize
     }
 }
 
-// The bytes of a column's buffers in a body: `slots` slots, of which `nulls` are null, with this
-// amount of data.
-#[inline(always)]
-fn column_len(layout: Layout, slots: usize, nulls: usize, amount: usize) -> u64
-    requires few { slots ≤ max_slots }
-    requires small { amount ≤ max_body }
-    ensures { result ≡ column_length layout slots nulls (values_length layout slots amount) }
-{
-    pad8(validity_len(layout, slots, nulls) as u64)
-        + pad8(offsets_len(layout, slots) as u64)
-        + pad8(values_len(layout, slots, amount) as u64)
-}
-
 impl ColumnCounts {
     /// Returns the bytes that the padded buffers of a column with these sizes take in a body.
     #[inline(always)]
@@ -397,6 +322,8 @@ impl ColumnCounts {
         ensures { (limits : Limits) (values : List Value) → AreCountsOf limits layout values self
             → result ≡ length (padded_bytes (column_buffers layout values)) }
     {
-        column_len(layout, self.slots, self.nulls, self.amount)
+        pad8(validity_len(layout, self.slots, self.nulls) as u64)
+            + pad8(offsets_len(layout, self.slots) as u64)
+            + pad8(values_len(layout, self.slots, self.amount) as u64)
     }
 }

@@ -7,6 +7,7 @@ ghost use Rattle.ipc_model.specs.Fits.{RowFits};
 ghost use Rattle.ipc_model.specs.WellFormed.{IsFieldWellFormed};
 ghost use Rattle.ipc_column.specs.Dictionaries.{Dictionaries};
 ghost use Rattle.ipc_column.specs.Rows.{Rows};
+ghost use Rattle.ipc_column.specs.Shapes as shapes;
 ghost use Rattle.ipc_column.specs.Shapes.{bare, field, field_children, field_layout, shape_of};
 ghost use Rattle.ipc_encode.specs.Buffers.{row_columns, padded_bytes, ranges_from};
 ghost use Rattle.ipc_encode.specs.Cells.{cells};
@@ -116,7 +117,7 @@ fn add_anew<I: IndexOf, N: Renumber>(
     alloc: Global,
     pool: &mut Vec<Vec<u8>>,
     draft: &mut SegmentedDraft<'_>,
-    of: &Field,
+    field: &Field,
     batch: &Batch,
     column: usize,
     limits: &Limits,
@@ -125,13 +126,13 @@ fn add_anew<I: IndexOf, N: Renumber>(
 ) -> Result<(), PushFault>
     ensures adds { OnOk result (AddsColumns limits.now
         (new_indices (N.Renumber.number numbers.now) (index_or_zero (I.IndexOf.index indices.now)))
-        (field (field_layout of.now) (field_children of.now) bare)
+        (shapes.field (field_layout field.now) (field_children field.now) bare)
         (λ j. cells column batch.now.rows) draft.old draft.new) }
     ensures refused { IfErr result (AreRefusedAfter limits.now draft.old.len
-        (field (field_layout of.now) (field_children of.now) bare)
+        (shapes.field (field_layout field.now) (field_children field.now) bare)
         (λ j. cells column batch.now.rows)) }
 {
-    let mut node = new_node(of, None, alloc)?;
+    let mut node = new_node(field, None, alloc)?;
     take_column(&mut node, batch, column, limits, indices)?;
     let mut more = Draft {
         nodes: Vec::new(alloc),
@@ -152,7 +153,7 @@ fn add_field<'a, I: IndexOf, N: Renumber>(
     alloc: Global,
     pool: &mut Vec<Vec<u8>>,
     draft: &mut SegmentedDraft<'a>,
-    of: &Field,
+    field: &Field,
     batch: &'a Batch,
     column: usize,
     limits: &Limits,
@@ -162,21 +163,21 @@ fn add_field<'a, I: IndexOf, N: Renumber>(
     requires { draft.old.len ≤ limits.now.body }
     ensures adds { OnOk result (AddsColumns limits.now
         (new_indices (N.Renumber.number numbers.now) (index_or_zero (I.IndexOf.index indices.now)))
-        (field (field_layout of.now) (field_children of.now) bare)
+        (shapes.field (field_layout field.now) (field_children field.now) bare)
         (λ j. cells column batch.now.rows) draft.old draft.new) }
     ensures refused { IfErr result (AreRefusedAfter limits.now draft.old.len
-        (field (field_layout of.now) (field_children of.now) bare)
+        (shapes.field (field_layout field.now) (field_children field.now) bare)
         (λ j. cells column batch.now.rows)) }
 {
     if column < batch.columns() {
         let view = batch.column(column).slots();
-        let node = new_node(of, None, alloc)?;
+        let node = new_node(field, None, alloc)?;
         if has_node_layout(&node, &view) {
-            return add_whole(alloc, pool, draft, of, &view, limits);
+            return add_whole(alloc, pool, draft, field, &view, limits);
         }
     }
     add_anew(
-        alloc, pool, draft, of, batch, column, limits, indices, numbers,
+        alloc, pool, draft, field, batch, column, limits, indices, numbers,
     )
 }
 
@@ -207,8 +208,10 @@ fn add_fields<'a, I: IndexOf, N: Renumber>(
         (row_columns batch.now.rows)) }
 {
     for i in 0..fields.len() {
-        let of = field_at(fields, i);
-        add_field(alloc, pool, draft, of, batch, i, limits, indices, numbers)?;
+        let field = field_at(fields, i);
+        add_field(
+            alloc, pool, draft, field, batch, i, limits, indices, numbers,
+        )?;
     }
     Ok(())
 }

@@ -29,7 +29,7 @@ fn nodes_weight(nodes: &[Node]) -> u64
 {
     let mut weight: u64 = 0;
     for node in nodes {
-        let counts = node.column.counts;
+        let counts = node.column.held_counts();
         let own = 25 + 6 * counts.slots as u64 + counts.amount as u64;
         let inner = nodes_weight(&node.children);
         weight = weight.saturating_add(own.saturating_add(inner));
@@ -47,7 +47,7 @@ fn free_slots(nodes: &[Node], limits: &Limits) -> u64
 {
     let mut free = u64::MAX;
     for node in nodes {
-        let own = limits.slots.saturating_sub(node.column.counts.slots as u64);
+        let own = limits.slots.saturating_sub(node.column.slots as u64);
         free = free.min(own).min(free_slots(&node.children, limits));
     }
     free
@@ -118,7 +118,7 @@ fn remaining(node: &Node, purpose: Purpose, bytes: u64) -> Option<u64>
         → bytes < length (padded_bytes (buffers_of (field layout children bare) (λ j. values))) }
     ensures fewer { IfSome result (λ left. left ≤ bytes) }
 {
-    let len = node.column.counts(purpose).len(node.column.layout);
+    let len = node.column.counts(purpose).len(node.column.data.layout());
     if len > bytes {
         return None;
     }

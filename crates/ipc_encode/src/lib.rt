@@ -4,13 +4,13 @@
 
 mod bitmaps;
 mod builder;
+mod column;
 mod column_builder;
 mod column_segments;
 mod column_sizes;
 mod conforming;
 mod copying;
 mod counting;
-mod counts;
 mod encoding;
 mod fault;
 mod fitting;

@@ -6,15 +6,15 @@ ghost use Rattle.ipc_model.specs.declared.limits.Limits.{Limits};
 ghost use Rattle.ipc_model.specs.declared.value.Value.{Value};
 ghost use Rattle.ipc_column.specs.Shapes.{Shape, bare, field};
 ghost use Rattle.ipc_encode.specs.Buffers.{column_buffers, nodes_of, buffers_with};
-ghost use Rattle.ipc_encode.specs.Buffers.{written_values};
-ghost use Rattle.ipc_encode.specs.Built.{HoldColumns, IsColumn, IsNode};
+ghost use Rattle.ipc_encode.specs.Buffers.{data_buffers, written_values};
+ghost use Rattle.ipc_encode.specs.Built.{HoldColumns, HoldsValues, IsColumn, IsNode, data_layout};
 ghost use Rattle.ipc_encode.specs.Cells.{nulls, slots};
 ghost use Rattle.ipc_encode.specs.Numbers.{Numbering, as_number, new_index, new_indices};
 ghost use Rattle.ipc_encode.specs.Pieces.{Number};
 ghost use Rattle.ipc_encode.specs.Writing.{Adds};
 
-use crate::column_builder::{ColumnBuilder, push_number};
-use crate::counts::ColumnCounts;
+use crate::column::{ColumnBuilder, ColumnData};
+use crate::column_builder::push_number;
 use crate::index::Renumber;
 use crate::tree::Node;
 use ipc_model::{IntBits, Items, Layout, Value};
@@ -145,6 +145,39 @@ fn add_indices<N: Renumber>(
     Ok(())
 }
 
+// Adds the buffers of a column that follow its validity bitmap.
+fn add_data<N: Renumber>(
+    draft: &mut Draft,
+    held: &ColumnData,
+    numbers: &N,
+) -> Result<(), AllocError>
+    ensures nodes { OnOk result (draft.new.nodes.items ≡ draft.old.nodes.items) }
+    ensures adds { (known : Numbering) (values : List Value) → HoldsValues known values held.now
+        → OnOk result (Adds draft.old draft.new
+        (data_buffers (data_layout held.now)
+        (written_values (new_indices (N.Renumber.number numbers.now) known) (data_layout held.now)
+        values))) }
+{
+    match held {
+        ColumnData::Null | ColumnData::FixedLists(_) | ColumnData::Structs => Ok(()),
+        ColumnData::Bits(values)
+        | ColumnData::Numbers { values, .. }
+        | ColumnData::FixedBytes { values, .. } => add_buffer(draft, values),
+        ColumnData::VariableBytes {
+            offsets,
+            values,
+            ..
+        } => {
+            add_buffer(draft, offsets)?;
+            add_buffer(draft, values)
+        }
+        ColumnData::Lists { offsets, .. } => add_buffer(draft, offsets),
+        ColumnData::Indices(column) => {
+            add_indices(draft, &column.indices, column.bits, column.id, numbers)
+        }
+    }
+}
+
 // Adds the buffers of a column.
 fn add_buffers<N: Renumber>(
     draft: &mut Draft,
@@ -158,20 +191,11 @@ fn add_buffers<N: Renumber>(
         (column_buffers layout
         (written_values (new_indices (N.Renumber.number numbers.now) known) layout values))) }
 {
-    if column.layout.own_buffers() == 0 {
+    if !column.data.has_validity() {
         return Ok(());
     }
     add_buffer(draft, &column.validity)?;
-    match column.layout {
-        Layout::FixedLists(_) | Layout::Structs => return Ok(()),
-        Layout::Lists => return add_buffer(draft, &column.offsets),
-        Layout::Indices { bits, id, .. } => {
-            return add_indices(draft, &column.indices, bits, id, numbers);
-        }
-        Layout::VariableBytes { .. } => add_buffer(draft, &column.offsets)?,
-        _ => (),
-    }
-    add_buffer(draft, &column.values)
+    add_data(draft, &column.data, numbers)
 }
 
 // Adds the node and the buffers of a column.
@@ -190,8 +214,9 @@ fn add_column<N: Renumber>(
         (column_buffers layout
         (written_values (new_indices (N.Renumber.number numbers.now) known) layout values))) }
 {
-    let ColumnCounts { slots, nulls, .. } = column.counts;
-    draft.nodes.push((slots as i64, nulls as i64))?;
+    draft
+        .nodes
+        .push((column.slots as i64, column.nulls as i64))?;
     add_buffers(draft, column, numbers)
 }
 

@@ -14,7 +14,8 @@ ghost use Rattle.ipc_encode.specs.Numbers.{Numbering, index_or_zero};
 ghost use Rattle.ipc_encode.specs.declared.column_builder.Purpose.TheVariants.{Count};
 ghost use Rattle.ipc_encode.specs.declared.tree.Node.{out-Node};
 
-use crate::column_builder::{ColumnBuilder, Purpose};
+use crate::column::ColumnBuilder;
+use crate::column_builder::Purpose;
 use crate::counting::items;
 use crate::fault::PushFault;
 use crate::index::IndexOf;
@@ -48,7 +49,7 @@ pub(crate) fn new_node(field: &Field, kept: Option<Node>, alloc: Global) -> Resu
 {
     let layout = layout_of(&field.kind, field.dictionary);
     let (column, children) = match kept {
-        Some(Node { column, children }) => (column.emptied(layout)?, children),
+        Some(Node { column, children }) => (column.emptied(layout, alloc)?, children),
         None => (ColumnBuilder::new(alloc, layout)?, Vec::new(alloc)),
     };
     let children = new_nodes(field.children.as_slice(), children, alloc)?;
@@ -153,7 +154,7 @@ fn take_null<I: IndexOf>(
     if count > limits.slots {
         return Err(PushFault::TooMany);
     }
-    let below = count * nulls_below(node.column.layout);
+    let below = count * nulls_below(node.column.data.layout());
     take_nulls(&mut node.children, below, purpose, limits, indices)?;
     take_own_nulls(&mut node.column, count, purpose, limits, indices)
 }
@@ -258,7 +259,7 @@ fn take_deep<I: IndexOf>(
 {
     take_below(
         value,
-        node.column.layout,
+        node.column.data.layout(),
         &mut node.children,
         purpose,
         limits,

@@ -10,7 +10,6 @@ ghost use Rattle.ipc_model.specs.declared.value.Value.{out-Value};
 ghost use Rattle.ipc_model.specs.declared.value.Value.TheVariants.{Null};
 ghost use Rattle.ipc_column.specs.Shapes.{field_children, field_layout, shape_of};
 ghost use Rattle.ipc_encode.specs.Buffers.{child_values};
-ghost use Rattle.ipc_encode.specs.Cells.{cell};
 ghost use Rattle.ipc_encode.specs.Weights.{capped, field_weight, row_weight, weight_of};
 
 use crate::counting::value_len;

@@ -10,6 +10,7 @@ ghost use Rattle.ipc_model.specs.declared.value.Value.{Value};
 ghost use Rattle.ipc_model.specs.declared.value.Value.TheVariants.{Null};
 ghost use Rattle.ipc_column.specs.Nested.{Nested, only_column, slot_values};
 ghost use Rattle.ipc_column.specs.Rules.{SpellsTexts};
+ghost use Rattle.ipc_column.specs.Shapes as shapes;
 ghost use Rattle.ipc_column.specs.Shapes.{Shape, bare, field, field_children, field_layout};
 ghost use Rattle.ipc_column.specs.Shapes.{shape_of};
 ghost use Rattle.ipc_column.specs.Slots.{nested_in};
@@ -138,7 +139,7 @@ pub(crate) fn has_node_layout(node: &Node, view: &SlotView<'_>) -> bool
         → ((i : ℕ) → i < length (slot_values view.now) → SpellsTexts (only_column view.now) i)
         → IsFullColumn layout children view.now (slot_values view.now) }
 {
-    let layout = node.column.layout;
+    let layout = node.column.data.layout();
     if !is_taken_whole(layout) || view.layout() != layout {
         return false;
     }
@@ -290,10 +291,10 @@ pub(crate) fn add_own<'a>(
 }
 
 // The layout of a field.
-fn layout_at(of: &Field) -> Layout
-    ensures { result ≡ field_layout of.now }
+fn layout_at(field: &Field) -> Layout
+    ensures { result ≡ field_layout field.now }
 {
-    layout_of(&of.kind, of.dictionary)
+    layout_of(&field.kind, field.dictionary)
 }
 
 /// Adds the columns of a field and of its descendants, each with all slots of a column that was
@@ -303,22 +304,22 @@ pub(crate) fn add_whole<'a>(
     alloc: Global,
     pool: &mut Vec<Vec<u8>>,
     draft: &mut SegmentedDraft<'a>,
-    of: &Field,
+    field: &Field,
     view: &SlotView<'a>,
     limits: &Limits,
 ) -> Result<(), PushFault>
-    requires whole { IsFullColumn (field_layout of.now) (field_children of.now) view.now
+    requires whole { IsFullColumn (field_layout field.now) (field_children field.now) view.now
         (slot_values view.now) }
     requires within { draft.old.len ≤ limits.now.body }
     ensures adds { (known : Numbering) → OnOk result (AddsColumns limits.now known
-        (field (field_layout of.now) (field_children of.now) bare) (λ j. slot_values view.now)
-        draft.old draft.new) }
+        (shapes.field (field_layout field.now) (field_children field.now) bare)
+        (λ j. slot_values view.now) draft.old draft.new) }
     ensures refused { IfErr result (AreRefusedAfter limits.now draft.old.len
-        (field (field_layout of.now) (field_children of.now) bare)
+        (shapes.field (field_layout field.now) (field_children field.now) bare)
         (λ j. slot_values view.now)) }
 {
-    add_own(alloc, pool, draft, layout_at(of), view, limits)?;
-    add_children(alloc, pool, draft, of.children.as_slice(), view, limits)
+    add_own(alloc, pool, draft, layout_at(field), view, limits)?;
+    add_children(alloc, pool, draft, field.children.as_slice(), view, limits)
 }
 
 // Adds the columns of the children of a column that was read, one for each field.

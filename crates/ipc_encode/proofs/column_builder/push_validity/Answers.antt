@@ -1,16 +1,44 @@
-use Rattle.std.proofs.Common.{◌∙◌, sym, ◌++◌, [], ◌∷◌}
+use Rattle.std.proofs.Common.{◌≡◌, ◌∙◌, sym, ap, ℕ, ◌++◌, [], ◌∷◌, true, replicate}
 use Rattle.std.proofs.lemmas.Result.{on_ok_weaker}
-use Rattle.ipc_encode.proofs.Steps.{has_bitmap, no_bitmap}
+use Rattle.ipc_encode.specs.Pieces.{Valid}
+use Rattle.ipc_encode.specs.Bitmaps.{bitmap}
+use Rattle.ipc_encode.specs.Cells.{flags, nulls}
+use Rattle.ipc_encode.proofs.Bits.{flags_length}
+use Rattle.ipc_encode.proofs.Steps.{all_valid, has_bitmap, no_bitmap, some_null, no_nulls, still_none, bits_then, null_more, nulls_stay}
+use Rattle.ipc_encode.proofs.column_builder.push_validity.Goals.{then-null_count-eq0+else-is_valid+in_ok-set_bits, else-null_count-eq0}
 use Rattle.ipc_encode.proofs.column_builder.push_validity.Goals as goal
 
-pub returns-then-own_buffers-eq0 : goal.returns-then-own_buffers-eq0
-returns-then-own_buffers-eq0 c = λ values count none same.
-    let empty = sym c.own_buffers.ensures ∙ c.if-own_buffers-eq0.true in
-    same ∙ (no_bitmap c.args.layout values empty ∙ sym (no_bitmap c.args.layout (values ++ c.args.value.now ∷ []) empty))
+pub returns-then-not-has_validity : goal.returns-then-not-has_validity
+returns-then-not-has_validity c = λ layout values has count none same.
+    let without = sym has ∙ c.if-not-has_validity.true in
+    same ∙ (no_bitmap layout values without ∙ sym (no_bitmap layout (values ++ c.args.value.now ∷ []) without))
+
+pub returns-then-is_valid : goal.returns-then-is_valid
+returns-then-is_valid c = λ layout values has count none same.
+    let some = sym has ∙ c.if-not-has_validity.false in
+    same ∙ (has_bitmap layout values some ∙ sym (has_bitmap layout (values ++ c.args.value.now ∷ []) some
+    ∙ still_none values c.args.value.now (none ∙ c.if-null_count-eq0.true) (sym c.is_valid-is_valid.ensures ∙ c.if-is_valid.true)))
 
 pub returns : goal.returns
-returns c = λ values count none same.
-    let some = λ (e : _). c.if-own_buffers-eq0.false (c.own_buffers.ensures ∙ e) in
-    on_ok_weaker c.push_validity_bit.result
-    (λ h. h ∙ sym (has_bitmap c.args.layout (values ++ c.args.value.now ∷ []) some))
-    (c.push_validity_bit.ensures values count none (same ∙ has_bitmap c.args.layout values some))
+returns c = λ layout values has count none kept.
+    let some_bitmap = sym has ∙ c.if-not-has_validity.false in
+    let same = kept ∙ has_bitmap layout values some_bitmap in
+    on_ok_weaker c.push_bit.result (λ h. h ∙ sym (has_bitmap layout (values ++ c.args.value.now ∷ []) some_bitmap))
+    (elim c.if-null_count-eq0.branch [
+      | then-null_count-eq0+else-is_valid+in_ok-set_bits w ↦
+          let none_yet = none ∙ w.if-null_count-eq0.true in
+          let set = w.in_ok-set_bits.ensures (same ∙ no_nulls values none_yet) in
+          let packed : c.if-null_count-eq0.validity.items ≡ bitmap (flags Valid values) =
+          rw w.validity-is (set ∙ (ap (λ (n : ℕ). bitmap (replicate n true)) (sym count) ∙ ap bitmap (sym (all_valid values none_yet)))) in
+          on_ok_weaker c.push_bit.result
+          (bits_then values c.args.value.now c.push_bit.new.bytes.items c.is_valid-is_valid.result c.is_valid-is_valid.ensures
+          (null_more values c.args.value.now (sym c.is_valid-is_valid.ensures ∙ w.if-is_valid.false)))
+          (c.push_bit.ensures (flags Valid values) (flags_length Valid values ∙ count) packed)
+      | else-null_count-eq0 w ↦
+          let some : nulls values ≡ 0 → ⊥ = λ e. w.if-null_count-eq0.false (sym none ∙ e) in
+          let packed : c.if-null_count-eq0.validity.items ≡ bitmap (flags Valid values) = rw w.validity-is (same ∙ some_null values some) in
+          on_ok_weaker c.push_bit.result
+          (bits_then values c.args.value.now c.push_bit.new.bytes.items c.is_valid-is_valid.result c.is_valid-is_valid.ensures
+          (nulls_stay values c.args.value.now some))
+          (c.push_bit.ensures (flags Valid values) (flags_length Valid values ∙ count) packed)
+    ])

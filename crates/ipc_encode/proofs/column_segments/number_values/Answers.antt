@@ -1,4 +1,4 @@
-use Rattle.std.proofs.Common.{◌≡◌, ◌∙◌, sym, ap, subst, ℕ, ◌*◌, ◌<◌, List, true, false, length, take, drop, get_or, replicate, arith}
+use Rattle.std.proofs.Common.{◌≡◌, ◌∙◌, sym, ap, subst, ℕ, ◌*◌, ◌<◌, List, false, length, take, drop, get_or, replicate, arith}
 use Rattle.std.proofs.lemmas.Bool.{false≢true}
 use Rattle.ipc_model.specs.Layouts.{number_bytes}
 use Rattle.ipc_column.specs.Nested.{slot_values}

@@ -1,4 +1,4 @@
-use Rattle.std.proofs.Common.{◌≡◌, ◌∙◌, sym, subst, []}
+use Rattle.std.proofs.Common.{◌≡◌, ◌∙◌, sym, ap, subst, [], ℤ, of_z, to_z, w64, rules}
 use Rattle.std.proofs.lemmas.Result.{on_ok_weaker, IfErr-weaker}
 use Rattle.ipc_model.specs.declared.layout.Layout.{Layout}
 use Rattle.ipc_model.specs.declared.layout.Layout.TheVariants as l
@@ -17,23 +17,27 @@ returns-in-Indices-clause-taken g c = λ layout children h.
     let known = index_or_zero (g.I.IndexOf.index c.args.indices.now) in
     let limits = c.args.limits.now in
     let values = cells c.args.column c.args.batch.now.rows in
-    let own = l.Indices c.in-Indices.bits c.in-Indices.signed c.in-Indices.id in
-    let is : layout ≡ own = sym h.0.laid ∙ c.in-Indices.is in
+    let own = l.Indices c.in-Indices.bits c.in-Indices.signed (to_z w64 (of_z w64 c.in-Indices.id)) in
+    let read : to_z w64 (of_z w64 c.in-Indices.id) ≡ c.in-Indices.id = search rules in
+    let is : layout ≡ own = sym h.0.laid ∙ (sym c.layout.ensures ∙ (c.in-Indices.is
+    ∙ ap (λ (z : ℤ). l.Indices c.in-Indices.bits c.in-Indices.signed z) (sym read))) in
     let inner = leaf_has (IsColumn known limits) children (out-Node c.args.node.now).children.items (child_values layout [])
     (child_values layout values)
     (c.is_leaf.ensures.0 c.if-is_leaf.true) h.1 in
     on_ok_weaker c.take_indices.result
     (λ taken. node_is (IsColumn known limits) layout children values _ (laid_as known limits own layout values (sym is) taken) inner)
-    (c.take_indices.ensures.taken c.in-Indices.signed c.in-Indices.id (laid_as known limits layout own [] is h.0))
+    (c.take_indices.ensures.taken (laid_as known limits layout own [] is h.0))
 
 pub returns-in-Indices-clause-refused : goal.returns-in-Indices-clause-refused
 returns-in-Indices-clause-refused g c = λ layout children h.
     let known = index_or_zero (g.I.IndexOf.index c.args.indices.now) in
     let limits = c.args.limits.now in
     let values = cells c.args.column c.args.batch.now.rows in
-    let own = l.Indices c.in-Indices.bits c.in-Indices.signed c.in-Indices.id in
-    let is : layout ≡ own = sym h.0.laid ∙ c.in-Indices.is in
+    let own = l.Indices c.in-Indices.bits c.in-Indices.signed (to_z w64 (of_z w64 c.in-Indices.id)) in
+    let read : to_z w64 (of_z w64 c.in-Indices.id) ≡ c.in-Indices.id = search rules in
+    let is : layout ≡ own = sym h.0.laid ∙ (sym c.layout.ensures ∙ (c.in-Indices.is
+    ∙ ap (λ (z : ℤ). l.Indices c.in-Indices.bits c.in-Indices.signed z) (sym read))) in
     IfErr-weaker c.take_indices.result _ _
     (λ fault refused. own_refused limits layout children bare (λ j. values) fault
     (subst (λ (lay : Layout). IsPushRefused limits lay values fault) (sym is) refused))
-    (c.take_indices.ensures.refused c.in-Indices.signed c.in-Indices.id (laid_as known limits layout own [] is h.0))
+    c.take_indices.ensures.refused

@@ -16,7 +16,7 @@ add_whole-requires-clause-whole g c =
     let view = c.slots-view.result in
     let spelled : (i : ℕ) → i < length (slot_values view) → SpellsTexts (only_column view) i = λ i m.
     c.slots-view.ensures.texts i (subst (λ (vs : List Value). i < length vs) c.slots-view.ensures.values m) in
-    c.has_node_layout.ensures c.if-has_node_layout.true known limits (field_layout c.args.of.now) (field_children c.args.of.now) []
+    c.has_node_layout.ensures c.if-has_node_layout.true known limits (field_layout c.args.field.now) (field_children c.args.field.now) []
     (c.in_ok-node.ensures known limits) spelled
 
 pub returns-then-has_node_layout-clause-adds : goal.returns-then-has_node_layout-clause-adds
@@ -25,7 +25,7 @@ returns-then-has_node_layout-clause-adds g c =
     let same = column_cells c.args.batch.now.rows c.args.column c.column.result c.column.ensures ∙ sym c.slots-view.ensures.values in
     on_ok_weaker c.add_whole.result
     (λ h. subst (λ (vs : List Value). AddsColumns c.args.limits.now known
-    (field (field_layout c.args.of.now) (field_children c.args.of.now) bare) (λ j. vs) c.args.draft.now c.add_whole.new.draft)
+    (field (field_layout c.args.field.now) (field_children c.args.field.now) bare) (λ j. vs) c.args.draft.now c.add_whole.new.draft)
     (sym same) h)
     (c.add_whole.ensures.adds known)
 
@@ -34,5 +34,5 @@ returns-then-has_node_layout-clause-refused g c =
     let same = column_cells c.args.batch.now.rows c.args.column c.column.result c.column.ensures ∙ sym c.slots-view.ensures.values in
     IfErr-weaker c.add_whole.result _ _
     (λ fault h. subst (λ (vs : List Value). AreRefusedAfter c.args.limits.now c.args.draft.now.len
-    (field (field_layout c.args.of.now) (field_children c.args.of.now) bare) (λ j. vs) fault) (sym same) h)
+    (field (field_layout c.args.field.now) (field_children c.args.field.now) bare) (λ j. vs) fault) (sym same) h)
     c.add_whole.ensures.refused

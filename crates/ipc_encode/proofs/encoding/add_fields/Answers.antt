@@ -15,18 +15,18 @@ add_field-requires g c = c.loop-i.invariant.body
 
 pub loop-i-preserved : goal.loop-i-preserved
 loop-i-preserved g c =
-    let of = c.field_at-of.result.now in
+    let of = c.field_at-field.result.now in
     rw add-one (columns_next c.args.limits.now _ c.loop-i.i (shape_of c.args.fields.now) (row_columns c.args.batch.now.rows)
     (field_layout of) (field_children of) c.args.draft.now c.loop-i.draft c.add_field.new.draft
-    (shape_at c.args.fields.now c.loop-i.i of c.field_at-of.ensures) c.loop-i.invariant c.in_ok-add_field.ensures.adds)
+    (shape_at c.args.fields.now c.loop-i.i of c.field_at-field.ensures) c.loop-i.invariant c.in_ok-add_field.ensures.adds)
 
 pub returns-in_err-add_field-clause-refused : goal.returns-in_err-add_field-clause-refused
 returns-in_err-add_field-clause-refused g c =
-    let of = c.field_at-of.result.now in
+    let of = c.field_at-field.result.now in
     let p = err_from_is_err_and c.from_residual.result c.from_residual.ensures.1 in
     rw (p.1, p.2) (columns_refused c.args.limits.now _ c.loop-i.i (shape_of c.args.fields.now) (row_columns c.args.batch.now.rows)
     (field_layout of) (field_children of) c.args.draft.now c.loop-i.draft c.in_err-add_field.field-0.0
-    (shape_at c.args.fields.now c.loop-i.i of c.field_at-of.ensures) c.loop-i.invariant c.in_err-add_field.ensures.refused)
+    (shape_at c.args.fields.now c.loop-i.i of c.field_at-field.ensures) c.loop-i.invariant c.in_err-add_field.ensures.refused)
 
 pub returns-clause-adds : goal.returns-clause-adds
 returns-clause-adds g c =

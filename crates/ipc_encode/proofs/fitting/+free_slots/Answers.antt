@@ -18,7 +18,7 @@ loop-node-preserved t c = λ known shape before added h light.
     let inside = subst (λ (ns : List Node). AreNodes P at.1 ns (child_values at.0 (before i))) (sym c.deref.ensures.value) held.1 in
     let some = weight_at 0 i shape added at.0 at.1 at.2 in
     let own = few_more slots c.saturating_sub-own.result at.0 at.1 (before i) (added i)
-    (omega (arith, held.0.counted.few, held.0.counted.slots_are)) (omega (arith, some, light))
+    (omega (arith, held.0.few, held.0.slots_are)) (omega (arith, some, light))
     (c.free_slots.ensures known at.1 (child_values at.0 (before i)) (child_values at.0 (added i)) inside (omega (arith, some, light))) in
     rw add-one (few_next slots i shape (λ j. before j ++ added j) at.0 at.1 at.2
     (c.loop-node.invariant known shape before added h (omega (arith, light))) own)

@@ -1,41 +1,37 @@
-use Rattle.std.proofs.Common.{◌≡◌, ◌∙◌, refl, sym, ap, subst, ℕ, ◌+◌, List, length, add-one, arith}
+use Rattle.std.proofs.Common.{◌≡◌, ◌∙◌, refl, sym, subst, ℕ, ◌+◌, List, length, add-one, arith}
 use Rattle.std.proofs.lemmas.Option.{IfSome_then}
 use Rattle.ipc_model.specs.declared.layout.Layout.{Layout}
 use Rattle.ipc_column.specs.Shapes.{Shape, bare}
 use Rattle.ipc_encode.specs.declared.tree.Node.{Node, out-Node}
 use Rattle.ipc_encode.specs.Buffers.{child_values, padded_bytes, buffers_of, column_buffers}
-use Rattle.ipc_encode.specs.declared.column_builder.Purpose.{Purpose}
-use Rattle.ipc_encode.specs.declared.counts.ColumnCounts.{ColumnCounts}
+use Rattle.ipc_encode.specs.declared.column.ColumnCounts.{ColumnCounts}
 use Rattle.ipc_encode.specs.Built.{AreNodes, IsNode, HasTaken, AreCountsOf}
-use Rattle.ipc_encode.specs.Numbers.{Numbering}
 use Rattle.ipc_model.specs.declared.limits.Limits.{Limits}
 use Rattle.ipc_model.specs.declared.value.Value.{Value}
 use Rattle.ipc_encode.proofs.Growing.{taken_laid, parts_length, at_node, first_all, bytes_next, past_next}
 use Rattle.ipc_encode.proofs.fitting.+left.Goals as goal
 
 -- what a column's own buffers take
-own_bytes : (known : Numbering) (limits : Limits) (p : Purpose) (layout : Layout) (children : Shape) (values : List Value)
-    (node : Node) (counts : ColumnCounts)
-    (len : ℕ)
-    → IsNode (HasTaken known p limits) layout children node values → AreCountsOf limits (out-Node node).column.layout values counts
-    → ((vs : List Value) → AreCountsOf limits (out-Node node).column.layout vs counts
-    → len ≡ length (padded_bytes (column_buffers (out-Node node).column.layout vs)))
+own_bytes : (limits : Limits) (own layout : Layout) (values : List Value) (counts : ColumnCounts) (len : ℕ) → own ≡ layout
+    → AreCountsOf limits layout values counts
+    → (AreCountsOf limits own values counts → len ≡ length (padded_bytes (column_buffers own values)))
     → len ≡ length (padded_bytes (column_buffers layout values))
-own_bytes known limits p layout children values node counts len h counted is =
-    is values counted ∙ ap (λ (l : Layout). length (padded_bytes (column_buffers l values)))
-    (taken_laid known p limits layout values (out-Node node).column h.0)
+own_bytes limits own layout values counts len same counted is =
+    subst (λ (l : Layout). AreCountsOf limits l values counts → len ≡ length (padded_bytes (column_buffers l values))) same is counted
 
 pub remaining-returns-then-len-bytes-clause-none : goal.remaining-returns-then-len-bytes-clause-none
 remaining-returns-then-len-bytes-clause-none t c = λ known limits layout children values h e.
-    let own = own_bytes known limits c.args.purpose layout children values c.args.node.now _ c.len-len.result h
-    (c.counts.ensures known limits layout values h.0) (λ vs. c.len-len.ensures limits vs) in
+    let laid = c.layout.ensures ∙ taken_laid known c.args.purpose limits layout values (out-Node c.args.node.now).column h.0 in
+    let own = own_bytes limits _ layout values _ c.len-len.result laid (c.counts.ensures known limits layout values h.0)
+    (c.len-len.ensures limits values) in
     let size = parts_length layout children bare (λ j. values) in
     omega (arith, own, size, c.if-len-bytes.true)
 
 pub remaining-returns-clause-left : goal.remaining-returns-clause-left
 remaining-returns-clause-left t c = λ known limits layout children values h.
-    let own = own_bytes known limits c.args.purpose layout children values c.args.node.now _ c.len-len.result h
-    (c.counts.ensures known limits layout values h.0) (λ vs. c.len-len.ensures limits vs) in
+    let laid = c.layout.ensures ∙ taken_laid known c.args.purpose limits layout values (out-Node c.args.node.now).column h.0 in
+    let own = own_bytes limits _ layout values _ c.len-len.result laid (c.counts.ensures known limits layout values h.0)
+    (c.len-len.ensures limits values) in
     let size = parts_length layout children bare (λ j. values) in
     let held = subst (λ (ns : List Node). AreNodes (HasTaken known c.args.purpose limits) children ns (child_values layout values))
     (sym c.deref.ensures.value) h.1 in
@@ -44,8 +40,9 @@ remaining-returns-clause-left t c = λ known limits layout children values h.
 
 pub remaining-returns-clause-none : goal.remaining-returns-clause-none
 remaining-returns-clause-none t c = λ known limits layout children values h e.
-    let own = own_bytes known limits c.args.purpose layout children values c.args.node.now _ c.len-len.result h
-    (c.counts.ensures known limits layout values h.0) (λ vs. c.len-len.ensures limits vs) in
+    let laid = c.layout.ensures ∙ taken_laid known c.args.purpose limits layout values (out-Node c.args.node.now).column h.0 in
+    let own = own_bytes limits _ layout values _ c.len-len.result laid (c.counts.ensures known limits layout values h.0)
+    (c.len-len.ensures limits values) in
     let size = parts_length layout children bare (λ j. values) in
     let held = subst (λ (ns : List Node). AreNodes (HasTaken known c.args.purpose limits) children ns (child_values layout values))
     (sym c.deref.ensures.value) h.1 in

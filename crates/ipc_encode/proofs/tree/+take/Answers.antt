@@ -32,8 +32,8 @@ take-returns-then-is_leaf-clause-kept g t c = λ known limits layout children va
 pub take_deep-returns-in_err-take_below-clause-refused : goal.take_deep-returns-in_err-take_below-clause-refused
 take_deep-returns-in_err-take_below-clause-refused g t c = λ layout children values h.
     let P = HasTaken (index_or_zero (g.I.IndexOf.index c.args.indices.now)) c.args.purpose c.args.limits.now in
-    let laid = taken_laid (index_or_zero (g.I.IndexOf.index c.args.indices.now)) c.args.purpose c.args.limits.now layout values
-    (out-Node c.args.node.now).column h.0 in
+    let laid = c.layout.ensures ∙ taken_laid (index_or_zero (g.I.IndexOf.index c.args.indices.now)) c.args.purpose c.args.limits.now
+    layout values (out-Node c.args.node.now).column h.0 in
     let held = subst (λ (l : Layout). AreNodes P children c.deref_mut.result.now (child_values l values)) (sym laid)
     (subst (λ (ns : List Node). AreNodes P children ns (child_values layout values)) (sym c.deref_mut.ensures.value) h.1) in
     let index_or_zero = subst (λ (l : Layout). ArePushesRefused c.args.limits.now children
@@ -52,8 +52,8 @@ take_deep-returns-in_err-take_below-clause-kept g t c = λ known limits layout c
 pub take_deep-returns-clause-taken : goal.take_deep-returns-clause-taken
 take_deep-returns-clause-taken g t c = λ layout children values h.
     let P = HasTaken (index_or_zero (g.I.IndexOf.index c.args.indices.now)) c.args.purpose c.args.limits.now in
-    let laid = taken_laid (index_or_zero (g.I.IndexOf.index c.args.indices.now)) c.args.purpose c.args.limits.now layout values
-    (out-Node c.args.node.now).column h.0 in
+    let laid = c.layout.ensures ∙ taken_laid (index_or_zero (g.I.IndexOf.index c.args.indices.now)) c.args.purpose c.args.limits.now
+    layout values (out-Node c.args.node.now).column h.0 in
     let lent = lent_node P layout children values (values ++ c.args.value.now ∷ []) c.args.node.now
     c.deref_mut.result.now c.take_below.new.nodes c.deref_mut.ensures.value c.take_below.auto.nodes h
     (λ held. subst (λ (l : Layout). AreNodes P children c.take_below.new.nodes (child_values l (values ++ c.args.value.now ∷ []))) laid

@@ -24,8 +24,8 @@ given_is layout own values count many laid e =
 pub take_null-returns-in_err-take_nulls-clause-refused : goal.take_null-returns-in_err-take_nulls-clause-refused
 take_null-returns-in_err-take_nulls-clause-refused g t c = λ layout children values h.
     let P = HasTaken (index_or_zero (g.I.IndexOf.index c.args.indices.now)) c.args.purpose c.args.limits.now in
-    let laid = taken_laid (index_or_zero (g.I.IndexOf.index c.args.indices.now)) c.args.purpose c.args.limits.now layout values
-    (out-Node c.args.node.now).column h.0 in
+    let laid = c.layout.ensures ∙ taken_laid (index_or_zero (g.I.IndexOf.index c.args.indices.now)) c.args.purpose c.args.limits.now
+    layout values (out-Node c.args.node.now).column h.0 in
     let held = subst (λ (ns : List Node). AreNodes P children ns (child_values layout values)) (sym c.deref_mut.ensures.value) h.1 in
     let index_or_zero = subst (λ (given : ℕ → List Value). ArePushesRefused c.args.limits.now children given c.in_err-take_nulls.field-0.0)
     (given_is layout _ values c.args.count c.nulls_below.result laid c.nulls_below.ensures.count)
@@ -43,8 +43,8 @@ take_null-returns-in_err-take_nulls-clause-kept g t c = λ known limits layout c
 pub take_null-returns-clause-taken : goal.take_null-returns-clause-taken
 take_null-returns-clause-taken g t c = λ layout children values h.
     let P = HasTaken (index_or_zero (g.I.IndexOf.index c.args.indices.now)) c.args.purpose c.args.limits.now in
-    let laid = taken_laid (index_or_zero (g.I.IndexOf.index c.args.indices.now)) c.args.purpose c.args.limits.now layout values
-    (out-Node c.args.node.now).column h.0 in
+    let laid = c.layout.ensures ∙ taken_laid (index_or_zero (g.I.IndexOf.index c.args.indices.now)) c.args.purpose c.args.limits.now
+    layout values (out-Node c.args.node.now).column h.0 in
     let more = values ++ replicate c.args.count Null in
     let lent = lent_node P layout children values more c.args.node.now c.deref_mut.result.now c.take_nulls.new.nodes
     c.deref_mut.ensures.value c.take_nulls.auto.nodes h

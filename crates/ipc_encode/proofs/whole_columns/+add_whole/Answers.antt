@@ -27,7 +27,7 @@ pub add_whole-add_children-requires : goal.add_whole-add_children-requires
 add_whole-add_children-requires t c =
     let view = c.args.view.now in
     let values = slot_values view in
-    let of = c.args.of.now in
+    let of = c.args.field.now in
     let inner : field_children of ≡ shape_of c.as_slice.result.now =
     ap (λ (s : Layout × Shape). s.1) (field_parts of) ∙ sym (ap (λ (fs : List Field). shape_of fs) c.as_slice.ensures) in
     let whole = subst (λ (s : Shape). AreFullColumns s (nested_in view) (child_values view.column.layout values)) inner
@@ -38,7 +38,7 @@ add_whole-add_children-requires t c =
 pub add_whole-returns-in_err-add_own-clause-refused : goal.add_whole-returns-in_err-add_own-clause-refused
 add_whole-returns-in_err-add_own-clause-refused t c =
     let values = slot_values c.args.view.now in
-    let of = c.args.of.now in
+    let of = c.args.field.now in
     let fault = c.in_err-add_own.field-0.0 in
     let p = err_from_is_err_and c.from_residual.result c.from_residual.ensures.1 in
     rw (p.1, p.2) (own_refused_after c.args.limits.now c.args.draft.now.len (field_layout of) (field_children of) values fault
@@ -50,7 +50,7 @@ add_whole-returns-clause-adds t c = λ known.
     let limits = c.args.limits.now in
     let view = c.args.view.now in
     let values = slot_values view in
-    let of = c.args.of.now in
+    let of = c.args.field.now in
     let d = c.args.draft.now in
     let mid = c.add_own.new.draft in
     let e = c.add_children.new.draft in
@@ -69,7 +69,7 @@ add_whole-returns-clause-refused t c =
     let limits = c.args.limits.now in
     let view = c.args.view.now in
     let values = slot_values view in
-    let of = c.args.of.now in
+    let of = c.args.field.now in
     let d = c.args.draft.now in
     let mid = c.add_own.new.draft in
     let own = subst (λ (x : Layout). AddsColumns limits no_indices (field x bare bare) (λ j. values) d mid) c.layout_at.ensures

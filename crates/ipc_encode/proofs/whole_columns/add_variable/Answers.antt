@@ -1,4 +1,4 @@
-use Rattle.std.proofs.Common.{◌∙◌, inl, inr, refl, [], ◌∷◌, ◌++◌, replicate}
+use Rattle.std.proofs.Common.{◌∙◌, inr, [], ◌∷◌, ◌++◌, replicate}
 use Rattle.std.proofs.lemmas.Result.{err_from_is_err_and, on_ok_weaker, IfErr-weaker}
 use Rattle.ipc_encode.specs.Segments.{segment_bytes}
 use Rattle.ipc_encode.proofs.SegmentColumns.{adds_both, refused_first, refused_later}

@@ -5,4 +5,4 @@ use Rattle.ipc_encode.proofs.SegmentColumns.{field_parts}
 use Rattle.ipc_encode.proofs.whole_columns.layout_at.Goals as goal
 
 pub returns : goal.returns
-returns c = c.layout_of.ensures ∙ sym (ap (λ (s : Layout × Shape). s.0) (field_parts c.args.of.now))
+returns c = c.layout_of.ensures ∙ sym (ap (λ (s : Layout × Shape). s.0) (field_parts c.args.field.now))
