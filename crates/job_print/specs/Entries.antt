@@ -23,9 +23,9 @@ pub record AreTexts (column entries : Nested) : Type 0 where
   pub laid : entries.column.layout ≡ l.VariableBytes true
   pub values : slot_values entries ≡ column.column.dictionary
 
--- the entry that was found for slot i is the slot's value; nothing is stated for `NoTexts`
+-- the entry that was found for slot i is the slot's value; nothing is stated for `Others`
 abbrev pub IsEntryOf : Nested → ℕ → Entry → Type 0
 IsEntryOf column i (entry.Text bytes len) = (len ≤ length bytes.now)
     × (slice_get (slot_values column) i ≡ Some (v.Text (take len bytes.now)))
 IsEntryOf column i entry.Null = slice_get (slot_values column) i ≡ Some v.Null
-IsEntryOf column i entry.NoTexts = ⊤
+IsEntryOf column i entry.Others = ⊤

@@ -4,7 +4,7 @@ pub mod Digits
 pub mod Escaped
 pub mod FirstRows
 pub mod Forms
-pub mod LayoutKinds
+pub mod SlotReaders
 pub mod Entries
 pub mod Output
 pub mod RowTexts

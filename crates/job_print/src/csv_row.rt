@@ -7,7 +7,6 @@ ghost use Rattle.ipc_column.specs.Slots.{value_in_slot};
 ghost use Rattle.ipc_column.specs.Values.{row};
 ghost use Rattle.job_print.specs.LentSlots.{slot_value};
 ghost use Rattle.job_print.specs.LentRows.{HaveRow, row_at};
-ghost use Rattle.ipc_model.specs.declared.layout.Layout.TheVariants.{VariableBytes};
 ghost use Rattle.ipc_model.specs.declared.schema.DataType.{DataType};
 ghost use Rattle.ipc_text_temporal.specs.Temporals.{temporal_text};
 ghost use Rattle.ipc_text_csv.specs.RowCsv.{Appended, IsRefusal, RefusesValue, flat_fault};
@@ -23,9 +22,9 @@ use crate::fields::{
     put_bytes_field, put_end, put_front_field, put_null, put_signed_field, put_text_field,
     put_unsigned_field,
 };
-use crate::tree::{ColumnReader, ColumnTree, Entry, LayoutKind};
+use crate::tree::{ColumnReader, ColumnTree, Entry, SlotReader};
 use ipc_column::Slot;
-use ipc_model::{DataType, Field};
+use ipc_model::{DataType, Field, IntBits, Layout};
 use ipc_text_csv::Dialect;
 use ipc_text_temporal::TextFault;
 
@@ -159,12 +158,12 @@ fn put_other(
     match tree.entry_at(slot) {
         Entry::Text(bytes, len) => put_front_field(text, at, dialect, column, bytes, len),
         Entry::Null => Ok(put_null(text, at, dialect)?),
-        Entry::NoTexts => put_slot_text(text, at, dialect, column, kind, tree, slot, tree.at(slot)),
+        Entry::Others => put_slot_text(text, at, dialect, column, kind, tree, slot, tree.at(slot)),
     }
 }
 
 // Writes what a slot holds, which is this, in a column of numbers, truth values or fixed-size
-// binary.
+// binary. Each call names a layout, so only the arms of that layout are compiled for it.
 #[inline(always)]
 fn put_leaf(
     text: &mut [u8],
@@ -206,7 +205,7 @@ fn put_text_slot(
     slot: usize,
 ) -> Result<usize, TextFault>
     requires room { at + 32 ≤ length text.old }
-    requires layout { tree.now.column.layout ≡ VariableBytes true }
+    requires layout { tree.now.column.layout ≡ Layout.VariableBytes true }
     requires slot { slot < length (slot_values tree.now) }
     ensures inside { IfOk result (λ end. end ≤ length text.new) }
     ensures ok { (kind : DataType) → IfOk result (λ end. Appended dialect.now.delimiter
@@ -221,7 +220,7 @@ fn put_text_slot(
     }
 }
 
-// Writes what a slot holds, by its layout.
+// Writes what a slot holds, by its layout: each arm is compiled for one layout.
 #[inline(always)]
 fn put_cell(
     text: &mut [u8],
@@ -241,18 +240,36 @@ fn put_cell(
         (RefusesValue column (csv_text dialect.now kind.now (slot_value tree.now slot))) }
 {
     match tree.kind() {
-        LayoutKind::Utf8 => put_text_slot(text, at, dialect, column, tree, slot),
-        LayoutKind::Others => put_other(text, at, dialect, column, kind, tree, slot),
-        _ => put_leaf(
-            text,
-            at,
-            dialect,
-            column,
-            kind,
-            tree,
-            slot,
-            tree.leaf_at(slot),
-        ),
+        SlotReader::Int64 => {
+            let held = tree.at_layout(
+                Layout::Numbers {
+                    bits: IntBits::B64,
+                    signed: true,
+                },
+                slot,
+            );
+            put_leaf(text, at, dialect, column, kind, tree, slot, held)
+        }
+        SlotReader::Int32 => {
+            let held = tree.at_layout(
+                Layout::Numbers {
+                    bits: IntBits::B32,
+                    signed: true,
+                },
+                slot,
+            );
+            put_leaf(text, at, dialect, column, kind, tree, slot, held)
+        }
+        SlotReader::Bool => {
+            let held = tree.at_layout(Layout::Bits, slot);
+            put_leaf(text, at, dialect, column, kind, tree, slot, held)
+        }
+        SlotReader::Utf8 => put_text_slot(text, at, dialect, column, tree, slot),
+        SlotReader::Bytes(width) => {
+            let held = tree.at_layout(Layout::FixedBytes(width), slot);
+            put_leaf(text, at, dialect, column, kind, tree, slot, held)
+        }
+        SlotReader::Others => put_other(text, at, dialect, column, kind, tree, slot),
     }
 }
 

@@ -6,7 +6,6 @@ ghost use Rattle.hex.specs.Hex.{encode_lower};
 ghost use Rattle.json.specs.Print.{quoted, token_text};
 ghost use Rattle.serde_json.specs.Data.{array, boolean, null};
 ghost use Rattle.serde_json.specs.Written.{comma_if, compact_text, items_text};
-ghost use Rattle.ipc_model.specs.declared.layout.Layout.TheVariants.{VariableBytes};
 ghost use Rattle.ipc_model.specs.declared.schema.Field.{Field};
 ghost use Rattle.ipc_model.specs.declared.value.Value.TheVariants as v;
 ghost use Rattle.ipc_column.specs.Nested.{child_columns, slot_values};
@@ -27,9 +26,9 @@ use crate::bytes::{put, reserve};
 use crate::digits::{put_i64, put_u64};
 use crate::hexadecimal::put_hexadecimal;
 use crate::strings::{put_front, put_string};
-use crate::tree::{ColumnReader, ColumnTree, Entry, LayoutKind};
+use crate::tree::{ColumnReader, ColumnTree, Entry, SlotReader};
 use ipc_column::Slot;
-use ipc_model::{DataType, Field};
+use ipc_model::{DataType, Field, IntBits, Layout};
 use ipc_text_json::RowShape;
 use ipc_text_temporal::put_temporal;
 use std::alloc::AllocError;
@@ -215,7 +214,7 @@ fn put_slot(
     ensures text { IfOk result (λ end. take end text.new ≡ take at text.old
         ++ compact_text (cell_json shape field.now (slot_value column.now slot))) }
 {
-    if let LayoutKind::Utf8 = column.kind() {
+    if let SlotReader::Utf8 = column.kind() {
         return put_text_slot(text, at, column, slot);
     }
     match column.at(slot) {
@@ -377,12 +376,12 @@ fn put_other(
     match column.entry_at(slot) {
         Entry::Text(bytes, len) => put_front(text, at, bytes, len),
         Entry::Null => Ok(put_null(text, at)),
-        Entry::NoTexts => put_slot(text, at, shape, field, column, slot),
+        Entry::Others => put_slot(text, at, shape, field, column, slot),
     }
 }
 
 // Writes what a slot of a row holds, which is this, in a column of numbers, truth values or
-// fixed-size binary.
+// fixed-size binary. Each call names a layout, so only the arms of that layout are compiled for it.
 #[inline(always)]
 fn put_leaf(
     text: &mut [u8],
@@ -419,7 +418,7 @@ fn put_text_slot(
     slot: usize,
 ) -> Result<usize, AllocError>
     requires room { at + 34 ≤ length text.old }
-    requires layout { column.now.column.layout ≡ VariableBytes true }
+    requires layout { column.now.column.layout ≡ Layout.VariableBytes true }
     requires slot { slot < length (slot_values column.now) }
     ensures inside { IfOk result (λ end. end ≤ length text.new) }
     ensures text { (shape : RowShape) → (field : Field) → IfOk result
@@ -432,7 +431,7 @@ fn put_text_slot(
     }
 }
 
-// Writes what a slot of a row holds, by its layout.
+// Writes what a slot of a row holds, by its layout: each arm is compiled for one layout.
 #[inline(always)]
 fn put_cell(
     text: &mut [u8],
@@ -449,9 +448,36 @@ fn put_cell(
         ++ compact_text (cell_json shape field.now (slot_value column.now slot))) }
 {
     match column.kind() {
-        LayoutKind::Utf8 => put_text_slot(text, at, column, slot),
-        LayoutKind::Others => put_other(text, at, shape, field, column, slot),
-        _ => put_leaf(text, at, shape, field, column, slot, column.leaf_at(slot)),
+        SlotReader::Int64 => {
+            let held = column.at_layout(
+                Layout::Numbers {
+                    bits: IntBits::B64,
+                    signed: true,
+                },
+                slot,
+            );
+            put_leaf(text, at, shape, field, column, slot, held)
+        }
+        SlotReader::Int32 => {
+            let held = column.at_layout(
+                Layout::Numbers {
+                    bits: IntBits::B32,
+                    signed: true,
+                },
+                slot,
+            );
+            put_leaf(text, at, shape, field, column, slot, held)
+        }
+        SlotReader::Bool => {
+            let held = column.at_layout(Layout::Bits, slot);
+            put_leaf(text, at, shape, field, column, slot, held)
+        }
+        SlotReader::Utf8 => put_text_slot(text, at, column, slot),
+        SlotReader::Bytes(width) => {
+            let held = column.at_layout(Layout::FixedBytes(width), slot);
+            put_leaf(text, at, shape, field, column, slot, held)
+        }
+        SlotReader::Others => put_other(text, at, shape, field, column, slot),
     }
 }
 

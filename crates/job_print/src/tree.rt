@@ -4,7 +4,7 @@ ghost use Rattle.ipc_column.specs.Nested.{child_columns, slot_values};
 ghost use Rattle.ipc_column.specs.Slots.{HasChildSlots, nested_in, value_in_slot, text_prefix};
 ghost use Rattle.ipc_column.specs.Values.{row};
 ghost use Rattle.job_print.specs.Entries.{AreTexts, IsEntryOf};
-ghost use Rattle.job_print.specs.LayoutKinds.{IsKindOf};
+ghost use Rattle.job_print.specs.SlotReaders.{IsReaderOf};
 
 use ipc_column::{ColumnView, Slot, SlotView};
 use ipc_model::{IntBits, Layout};
@@ -14,7 +14,7 @@ use std::marker::Model;
 /// The layout of a column's slots, found once for all rows, so that one jump leads to the code that
 /// is compiled for it.
 #[derive(Clone, Copy, Debug, Drop)]
-pub enum LayoutKind {
+pub enum SlotReader {
     /// Signed numbers of 64 bits.
     Int64,
     /// Signed numbers of 32 bits.
@@ -30,22 +30,22 @@ pub enum LayoutKind {
 }
 
 /// Returns the reader of slots of a layout.
-pub fn layout_kind_of(layout: Layout) -> LayoutKind
-    ensures { IsKindOf result layout }
+pub fn slot_reader_of(layout: Layout) -> SlotReader
+    ensures { IsReaderOf result layout }
 {
     match layout {
         Layout::Numbers {
             bits: IntBits::B64,
             signed: true,
-        } => LayoutKind::Int64,
+        } => SlotReader::Int64,
         Layout::Numbers {
             bits: IntBits::B32,
             signed: true,
-        } => LayoutKind::Int32,
-        Layout::Bits => LayoutKind::Bool,
-        Layout::VariableBytes { utf8: true } => LayoutKind::Utf8,
-        Layout::FixedBytes(width) => LayoutKind::Bytes(width),
-        _ => LayoutKind::Others,
+        } => SlotReader::Int32,
+        Layout::Bits => SlotReader::Bool,
+        Layout::VariableBytes { utf8: true } => SlotReader::Utf8,
+        Layout::FixedBytes(width) => SlotReader::Bytes(width),
+        _ => SlotReader::Others,
     }
 }
 
@@ -57,7 +57,7 @@ pub enum Entry<'a> {
     /// The slot is null, or the value of its dictionary is.
     Null,
     /// The column has no dictionary of texts.
-    NoTexts,
+    Others,
 }
 
 /// The slots of the values of a column's dictionary, where they are texts.
@@ -96,7 +96,7 @@ pub(crate) fn entry_of<'a>(slots: &SlotView<'a>, texts: &SlotView<'a>, slot: usi
 #[derive(Drop)]
 pub struct ColumnTree<'a> {
     slots: SlotView<'a>,
-    kind: LayoutKind,
+    kind: SlotReader,
     // The values of the dictionary, where they are texts.
     texts: Option<SlotView<'a>>,
     children: Vec<ColumnTree<'a>>,
@@ -119,10 +119,10 @@ impl<'a> Model for ColumnTree<'a> {
 
     ghost use Rattle.std.specs.Prelude.{IfSome};
     ghost use Rattle.job_print.specs.Entries.{AreTexts};
-    ghost use Rattle.job_print.specs.LayoutKinds.{IsKindOf};
+    ghost use Rattle.job_print.specs.SlotReaders.{IsReaderOf};
 
     ghost invariant = { λ t. (t.children.items ≡ nested_in t.slots)
-        × (IsKindOf t.kind t.slots.column.layout
+        × (IsReaderOf t.kind t.slots.column.layout
         × IfSome t.texts (λ texts. AreTexts t.slots texts)) };
 
     ghost size = { count_below };
@@ -155,8 +155,8 @@ impl<'a> ColumnTree<'a> {
 
     /// The layout of the slots.
     #[inline(always)]
-    pub fn kind(&self) -> LayoutKind
-        ensures { IsKindOf result self.now.column.layout }
+    pub fn kind(&self) -> SlotReader
+        ensures { IsReaderOf result self.now.column.layout }
     {
         self.kind
     }
@@ -173,35 +173,6 @@ impl<'a> ColumnTree<'a> {
         ensures inside { HasChildSlots (child_columns self.now) slot result }
     {
         self.slots.at_layout(layout, slot)
-    }
-
-    /// What a slot holds, as `at` returns it. Each of the frequent layouts has code of its own. The
-    /// caller gives a slot below `len`.
-    #[inline(always)]
-    pub fn leaf_at(&self, slot: usize) -> Slot<'a>
-        requires { slot < length (slot_values self.now) }
-        ensures { slice_get (slot_values self.now) slot
-            ≡ Some (value_in_slot (row (child_columns self.now)) slot result) }
-    {
-        match self.kind() {
-            LayoutKind::Int64 => self.at_layout(
-                Layout::Numbers {
-                    bits: IntBits::B64,
-                    signed: true,
-                },
-                slot,
-            ),
-            LayoutKind::Int32 => self.at_layout(
-                Layout::Numbers {
-                    bits: IntBits::B32,
-                    signed: true,
-                },
-                slot,
-            ),
-            LayoutKind::Bool => self.at_layout(Layout::Bits, slot),
-            LayoutKind::Bytes(width) => self.at_layout(Layout::FixedBytes(width), slot),
-            LayoutKind::Utf8 | LayoutKind::Others => self.at(slot),
-        }
     }
 
     /// The bytes of the column's data from the text in a slot on, and how many of them the text
@@ -225,7 +196,7 @@ impl<'a> ColumnTree<'a> {
     {
         match &self.texts {
             Some(texts) => entry_of(&self.slots, texts, slot),
-            None => Entry::NoTexts,
+            None => Entry::Others,
         }
     }
 
@@ -255,7 +226,7 @@ pub fn tree_of<'a>(alloc: Global, slots: SlotView<'a>) -> Result<ColumnTree<'a>,
     for number in 0..slots.children() {
         children.push(tree_of(alloc, slots.child(number))?)?;
     }
-    let kind = layout_kind_of(slots.layout());
+    let kind = slot_reader_of(slots.layout());
     let texts = texts_of(&slots);
     Ok(ColumnTree {
         slots,
