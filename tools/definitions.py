@@ -147,7 +147,7 @@ def page(title, first, keys, definitions):
         if crate != place[0]:
             parts.append(f"## `{crate}`")
         if (crate, module) != place:
-            parts.append(f"### `{module}`")
+            parts.append(f"### `{module.replace('.', '/')}`")
             section = section_of(file_comment(lines_of(definitions.places[key][0])))
             parts.extend([*filter(None, [textwrap.fill(section, WIDTH)]), ""])
         place = crate, module

@@ -25,7 +25,7 @@ use Rattle.ipc_column.specs.declared.batch.Shared.{Shared}
 use Rattle.ipc_column.specs.declared.dictionary.Leaf.{Leaf}
 use Rattle.ipc_column.specs.declared.ranges.ColumnRanges.{ColumnRanges}
 use Rattle.ipc_column.specs.declared.ranges.ColumnRanges.TheViews.{out-ColumnRanges}
-use Rattle.ipc_column.specs.Checks.{PassTests, children_have_slots, good, good_below, in_order}
+use Rattle.ipc_column.specs.checks.Checks.{PassTests, children_have_slots, good, good_below, in_order}
 use Rattle.ipc_column.specs.Columns.{Column, Columns, none, column}
 use Rattle.ipc_column.specs.Contents.{Contents}
 use Rattle.ipc_column.specs.DictionaryBatches.{IsDictionary, dictionaries_in, dictionary_values}
@@ -37,10 +37,10 @@ use Rattle.ipc_column.specs.Values.{first_of, is_valid, items, own_value, place_
 use Rattle.ipc_column.specs.Sharing.{contents_of}
 use Rattle.ipc_column.specs.Views.{part_columns, column_of, children_of, own_column}
 use Rattle.ipc_column.proofs.Cells.{items_more}
-use Rattle.ipc_column.proofs.Lent.{nested_layouts}
+use Rattle.ipc_column.proofs.lending.Lent.{nested_layouts}
 use Rattle.ipc_column.proofs.Found.{column_holds, column_slots, items_first}
 use Rattle.ipc_column.proofs.Parts.{column_is}
-use Rattle.ipc_column.proofs.Slots.{items_length}
+use Rattle.ipc_column.proofs.lending.Slots.{items_length}
 
 -- ---- layouts that stand alone
 

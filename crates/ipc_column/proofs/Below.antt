@@ -3,7 +3,7 @@ use Rattle.std.proofs.Common.{◌≡◌, refl, ℕ, zero, suc, ◌+◌, ◌<◌,
 use Rattle.std.specs.Prelude.{◌&&◌}
 use Rattle.std.specs.Bool.{Decides}
 use Rattle.std.proofs.lemmas.Bool.{and_parts, and_from, and_left, and_right, cases_order}
-use Rattle.ipc_column.specs.Checks.{all_below}
+use Rattle.ipc_column.specs.checks.Checks.{all_below}
 
 -- all numbers below n + 1 pass a test where all below n do, and n does
 pub all_below_more : (f : ℕ → Bool) (n : ℕ) → all_below f (n + 1) ≡ (all_below f n && f n)

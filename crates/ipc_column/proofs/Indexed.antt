@@ -7,7 +7,7 @@ use Rattle.ipc_scalar.specs.Bytes.{number, IsBelow}
 use Rattle.ipc_model.specs.declared.schema.IntBits.{IntBits}
 use Rattle.ipc_model.specs.declared.schema.IntBits.TheVariants.{B8, B16, B32, B64}
 use Rattle.ipc_model.specs.Ranges.{width}
-use Rattle.ipc_column.specs.Checks.{all_slots, index_good}
+use Rattle.ipc_column.specs.checks.Checks.{all_slots, index_good}
 use Rattle.ipc_column.specs.Values.{number_in, place_below}
 use Rattle.ipc_column.proofs.Below.{below_from}
 

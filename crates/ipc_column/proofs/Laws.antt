@@ -15,8 +15,9 @@ use Rattle.ipc_column.specs.Contents.{Contents}
 use Rattle.ipc_column.specs.Columns.{Column, Columns, every, every_top}
 use Rattle.ipc_column.specs.Shapes.{Shape, shape_of, field_columns, assigned_columns}
 use Rattle.ipc_column.specs.Values.{row, rows_of}
-use Rattle.ipc_column.specs.Checks.{fits, head_passes, all, is_slot_count, is_node, CountsHold, AreCountsRight, PassTests, Passing, Failing}
-use Rattle.ipc_column.specs.Checks.{HeadHolds, passes, all_pass, fault_of, is_shown}
+use Rattle.ipc_column.specs.checks.Checks.{fits, head_passes, all, is_slot_count, is_node, CountsHold, AreCountsRight, PassTests, Passing}
+use Rattle.ipc_column.specs.checks.Checks.{Failing}
+use Rattle.ipc_column.specs.checks.Checks.{HeadHolds, passes, all_pass, fault_of, is_shown}
 use Rattle.ipc_column.specs.Rows.{Rows, RefusesParts, IsOneList, HasCounts, HasParts}
 use Rattle.ipc_column.specs.Dictionaries.{Dictionaries}
 use Rattle.ipc_column.proofs.Cells.{rows_length, rows_at}

@@ -10,8 +10,8 @@ use Rattle.ipc_column.specs.declared.ranges.ColumnRanges.TheFolds.{fold_out-Colu
 use Rattle.ipc_column.specs.declared.cause.Cause.{Cause}
 use Rattle.ipc_model.specs.Layouts.{needs_slot_checks}
 use Rattle.ipc_column.specs.Columns.{Column, Columns, column, every, every_top}
-use Rattle.ipc_column.specs.Rules.{have_slot_checks}
-use Rattle.ipc_column.specs.Checks.{Judges}
+use Rattle.ipc_column.specs.checks.Rules.{have_slot_checks}
+use Rattle.ipc_column.specs.checks.Checks.{Judges}
 use Rattle.ipc_column.specs.Views.{part_columns, part_step, column_of, children_of, own_column, one}
 
 -- the columns below a part are those of its children

@@ -18,18 +18,18 @@ use Rattle.ipc_model.specs.declared.value.Value.{Value}
 use Rattle.ipc_model.specs.declared.value.Value.TheVariants as v
 use Rattle.ipc_model.specs.Layouts.{number_bytes}
 use Rattle.ipc_column.specs.Columns.{Column, Columns}
-use Rattle.ipc_column.specs.Checks.{holds_values}
+use Rattle.ipc_column.specs.checks.Checks.{holds_values}
 use Rattle.ipc_column.specs.Dictionaries.{has_no_children}
 use Rattle.ipc_column.specs.Lent.{AreFound, values_in}
 use Rattle.ipc_column.specs.Nested.{Nested, child_columns, slot_values}
-use Rattle.ipc_column.specs.Plain.{IsShownBy, text_bytes, text_bytes_len}
-use Rattle.ipc_column.specs.Rules.{HoldValues}
+use Rattle.ipc_column.specs.checks.Plain.{IsShownBy, text_bytes, text_bytes_len}
+use Rattle.ipc_column.specs.checks.Rules.{HoldValues}
 use Rattle.ipc_column.specs.Slots.{is_null}
 use Rattle.ipc_column.specs.Values.{is_valid, items, own_value, offset_position, row, signed_at, value_of}
-use Rattle.ipc_column.proofs.Leads.{bytes_rise, nothing_null}
-use Rattle.ipc_column.proofs.Slices.{places}
-use Rattle.ipc_column.proofs.Slots.{items_length}
-use Rattle.ipc_column.proofs.Widths.{slot_inside}
+use Rattle.ipc_column.proofs.visited.Leads.{bytes_rise, nothing_null}
+use Rattle.ipc_column.proofs.lending.Slices.{places}
+use Rattle.ipc_column.proofs.lending.Slots.{items_length}
+use Rattle.ipc_column.proofs.lending.Widths.{slot_inside}
 
 -- ---- numbers
 

@@ -17,20 +17,24 @@ use Rattle.ipc_column.specs.declared.cause.Cause.{Cause}
 use Rattle.ipc_column.specs.declared.cause.Cause.TheVariants as cause
 use Rattle.ipc_column.specs.Columns.{Column, Columns, none, column, Each, EachTop, every, every_top}
 use Rattle.ipc_column.specs.Shapes.{shape_of, field_columns}
-use Rattle.ipc_column.specs.Rules.{HasNodes, HasBuffers, HasLengths, HasRanges, HasBytes, HasNullCounts, HasOrder, HasTexts, IsSlotCount}
-use Rattle.ipc_column.specs.Rules.{IsFieldNode, IsWithinBody, HoldValues, HoldOffsets, IsLongEnough, CountsNulls, AreOffsets, HasOffsets}
-use Rattle.ipc_column.specs.Rules.{IsText}
-use Rattle.ipc_column.specs.Rules.{SpellsTexts, HasLongChildren, IsIndex, HasIndex, HoldsIndices, HasIndices}
+use Rattle.ipc_column.specs.checks.Rules.{HasNodes, HasBuffers, HasLengths, HasRanges, HasBytes, HasNullCounts, HasOrder, HasTexts}
+use Rattle.ipc_column.specs.checks.Rules.{IsSlotCount}
+use Rattle.ipc_column.specs.checks.Rules.{IsFieldNode, IsWithinBody, HoldValues, HoldOffsets, IsLongEnough, CountsNulls, AreOffsets}
+use Rattle.ipc_column.specs.checks.Rules.{HasOffsets}
+use Rattle.ipc_column.specs.checks.Rules.{IsText}
+use Rattle.ipc_column.specs.checks.Rules.{SpellsTexts, HasLongChildren, IsIndex, HasIndex, HoldsIndices, HasIndices}
 use Rattle.ipc_column.specs.Dictionaries.{Dictionaries}
 use Rattle.ipc_model.specs.declared.value.Value.{Value}
-use Rattle.ipc_column.specs.Checks.{is_slot_count, is_node, is_within_body, all, all_below, holds_values, holds_offsets, is_ascending_at}
-use Rattle.ipc_column.specs.Checks.{are_ascending, in_order, passes, top_passes, fits, have_slots, children_have_slots, all_slots, good}
-use Rattle.ipc_column.specs.Checks.{good_slot}
-use Rattle.ipc_column.specs.Checks.{good_below}
+use Rattle.ipc_column.specs.checks.Checks.{is_slot_count, is_node, is_within_body, all, all_below, holds_values, holds_offsets}
+use Rattle.ipc_column.specs.checks.Checks.{is_ascending_at}
+use Rattle.ipc_column.specs.checks.Checks.{are_ascending, in_order, passes, top_passes, fits, have_slots, children_have_slots, all_slots}
+use Rattle.ipc_column.specs.checks.Checks.{good}
+use Rattle.ipc_column.specs.checks.Checks.{good_slot}
+use Rattle.ipc_column.specs.checks.Checks.{good_below}
 use Rattle.ipc_column.specs.Values.{offset, offset_position, is_valid, number_in, place_below}
 use Rattle.ipc_column.proofs.Below.{below_from, decides_below}
-use Rattle.ipc_column.proofs.Shown.{of_good, of_indexed, of_when}
-use Rattle.ipc_column.proofs.Slices.{above}
+use Rattle.ipc_column.proofs.visited.Shown.{of_good, of_indexed, of_when}
+use Rattle.ipc_column.proofs.lending.Slices.{above}
 use Rattle.ipc_model.specs.declared.limits.Limits.{Limits}
 
 -- ---- numbers

@@ -12,7 +12,7 @@ use Rattle.ipc_column.specs.declared.buffers.Numbers.{Numbers}
 use Rattle.ipc_column.specs.Columns.{Columns, none, column}
 use Rattle.ipc_column.specs.Dictionaries.{has_no_children}
 use Rattle.ipc_column.specs.Nested.{Nested, child_columns, slot_values}
-use Rattle.ipc_column.specs.Rules.{HasLongChildren, HasOffsets, IsLongEnough}
+use Rattle.ipc_column.specs.checks.Rules.{HasLongChildren, HasOffsets, IsLongEnough}
 use Rattle.ipc_column.specs.Values.{is_valid, number_in, own_value}
 
 -- the layout of each of the columns

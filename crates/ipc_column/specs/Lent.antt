@@ -6,9 +6,9 @@ use Rattle.ipc_column.specs.declared.cause.Cause.TheVariants as cause
 use Rattle.ipc_model.specs.declared.layout.Layout.{Layout}
 use Rattle.ipc_model.specs.declared.value.Value.{Value}
 use Rattle.ipc_column.specs.Columns.{Column, Columns, every}
-use Rattle.ipc_column.specs.Checks.{passes, have_slots, good, good_slot}
-use Rattle.ipc_column.specs.Checks.{has_bitmap, holds_values, holds_offsets, in_order}
-use Rattle.ipc_column.specs.Checks.{children_have_slots}
+use Rattle.ipc_column.specs.checks.Checks.{passes, have_slots, good, good_slot}
+use Rattle.ipc_column.specs.checks.Checks.{has_bitmap, holds_values, holds_offsets, in_order}
+use Rattle.ipc_column.specs.checks.Checks.{children_have_slots}
 use Rattle.ipc_column.specs.Values.{Cells, items, value_of, row}
 
 -- each column has the slots from `from` up to `to`, and its buffers have what its slots need

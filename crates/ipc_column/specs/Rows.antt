@@ -11,9 +11,10 @@ use Rattle.ipc_model.specs.declared.value.Value.{Value}
 use Rattle.ipc_meta.specs.declared.head.BatchHead.{BatchHead}
 use Rattle.ipc_column.specs.Shapes.{field_columns}
 use Rattle.ipc_column.specs.Values.{row}
-use Rattle.ipc_column.specs.Rules.{HasNodes, HasBuffers, HasLengths, HasRanges, HasBytes}
-use Rattle.ipc_column.specs.Rules.{HasNullCounts, HasOrder, HasTexts, HasIndices, IsSlotCount}
-use Rattle.ipc_column.specs.Rules.{IsFieldNode}
+use Rattle.ipc_column.specs.checks.Rules.{HasNodes, HasBuffers, HasLengths, HasRanges, HasBytes}
+use Rattle.ipc_column.specs.checks.Rules.{HasNullCounts, HasOrder, HasTexts, HasIndices}
+use Rattle.ipc_column.specs.checks.Rules.{IsSlotCount}
+use Rattle.ipc_column.specs.checks.Rules.{IsFieldNode}
 use Rattle.ipc_model.specs.declared.limits.Limits.{Limits}
 
 -- the head and the body are a record batch of the fields (Arrow Columnar Format, "RecordBatch

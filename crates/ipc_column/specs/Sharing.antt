@@ -2,7 +2,7 @@
 use Rattle.std.specs.Prelude.{length, map}
 use Rattle.ipc_column.specs.declared.batch.Shared.{Shared}
 use Rattle.ipc_column.specs.Contents.{Contents}
-use Rattle.ipc_column.specs.Checks.{PassTests}
+use Rattle.ipc_column.specs.checks.Checks.{PassTests}
 use Rattle.ipc_column.specs.Slots.{nested}
 use Rattle.ipc_column.specs.Values.{rows_of}
 use Rattle.ipc_column.specs.Views.{part_columns}

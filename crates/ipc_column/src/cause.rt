@@ -26,7 +26,7 @@ pub enum Cause {
 
 impl From<Cause> for Fault {
     ghost use Rattle.std.specs.Prelude.{◌≡◌};
-    ghost use Rattle.ipc_column.specs.Checks.{fault_of};
+    ghost use Rattle.ipc_column.specs.checks.Checks.{fault_of};
 
     ghost from_gives = { λ cause fault. fault ≡ fault_of cause };
 

@@ -2,9 +2,10 @@ ghost use Rattle.std.specs.Prelude.{◌≡◌, ◌≤◌, ◌<◌, ◌+◌, ◌-
 ghost use Rattle.std.specs.Prelude.{slice_get};
 ghost use Rattle.ipc_column.specs.declared.cause.Cause.{Cause};
 ghost use Rattle.ipc_column.specs.Cells.{cell_value, is_leaf};
-ghost use Rattle.ipc_column.specs.Checks.{PassTests, has_bitmap, holds_values, holds_offsets};
-ghost use Rattle.ipc_column.specs.Checks.{in_order};
-ghost use Rattle.ipc_column.specs.Checks.{children_have_slots, good, good_below, passes};
+ghost use Rattle.ipc_column.specs.checks.Checks.{PassTests, has_bitmap, holds_values};
+ghost use Rattle.ipc_column.specs.checks.Checks.{holds_offsets};
+ghost use Rattle.ipc_column.specs.checks.Checks.{in_order};
+ghost use Rattle.ipc_column.specs.checks.Checks.{children_have_slots, good, good_below, passes};
 ghost use Rattle.ipc_column.specs.Columns.{every, none};
 ghost use Rattle.ipc_column.specs.Dictionaries.{has_no_children};
 ghost use Rattle.ipc_column.specs.Lent.{HaveValues, HasValue};
@@ -215,7 +216,7 @@ pub(crate) fn is_valid(validity: &[u8], slot: usize) -> bool
 
 /// Returns the value of a valid slot of a column without children or dictionary, one of its first
 /// `slots`.
-#[tactic(auto, using(crate::proofs::Widths::slot_inside))]
+#[tactic(auto, using(crate::proofs::lending::Widths::slot_inside))]
 #[inline(always)]
 pub(crate) fn leaf_cell<'a>(
     layout: Layout,
@@ -257,7 +258,7 @@ pub(crate) fn leaf_cell<'a>(
 }
 
 /// Returns the value of a valid slot, one of the first `slots`, of a column with these children.
-#[tactic(auto, using(crate::proofs::Widths::slot_inside))]
+#[tactic(auto, using(crate::proofs::lending::Widths::slot_inside))]
 #[inline(always)]
 pub(crate) fn own_cell<'a>(
     layout: Layout,

@@ -3,7 +3,7 @@ ghost use Rattle.std.specs.Prelude.{◌≡◌, ◌<◌, ◌≤◌, ◌+◌, ◌*
 ghost use Rattle.std.specs.Prelude.{IsTrue, Some, slice_get, IfSome, IfNone};
 ghost use Rattle.ipc_model.specs.Layouts.{number_bytes};
 ghost use Rattle.ipc_column.specs.Cells.{cell_value, is_leaf};
-ghost use Rattle.ipc_column.specs.Checks.{PassTests};
+ghost use Rattle.ipc_column.specs.checks.Checks.{PassTests};
 ghost use Rattle.ipc_column.specs.Columns.{none};
 ghost use Rattle.ipc_column.specs.Dictionaries.{has_no_children};
 ghost use Rattle.ipc_column.specs.Leaves.{IsLeafColumn, leaf_column};

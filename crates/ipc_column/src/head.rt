@@ -1,7 +1,8 @@
 ghost use Rattle.std.specs.Prelude.{◌≡◌, ◌≤◌, true, IfErr};
-ghost use Rattle.ipc_column.specs.Checks.{Judges, AreCountsRight, all, is_slot_count, is_node};
-ghost use Rattle.ipc_column.specs.Checks.{is_within_body};
-ghost use Rattle.ipc_column.specs.Checks.{head_passes};
+ghost use Rattle.ipc_column.specs.checks.Checks.{Judges, AreCountsRight, all, is_slot_count};
+ghost use Rattle.ipc_column.specs.checks.Checks.{is_node};
+ghost use Rattle.ipc_column.specs.checks.Checks.{is_within_body};
+ghost use Rattle.ipc_column.specs.checks.Checks.{head_passes};
 ghost use Rattle.ipc_column.specs.Shapes.{shape_of, node_count};
 
 use crate::assign::{Cursor, count};

@@ -2,7 +2,7 @@
 ghost use Rattle.std.specs.Prelude.{◌≡◌, ◌≤◌, ◌<◌, ◌+◌, ◌-◌, ◌*◌, ◌^◌, [], length, true};
 ghost use Rattle.std.specs.Prelude.{IsTrue, is_some};
 ghost use Rattle.ipc_model.specs.Layouts.{number_bytes};
-ghost use Rattle.ipc_column.specs.Checks.{all_slots, has_bitmap, index_good};
+ghost use Rattle.ipc_column.specs.checks.Checks.{all_slots, has_bitmap, index_good};
 ghost use Rattle.ipc_column.specs.Values.{number_in, place_below};
 
 use crate::fixed::index_in;

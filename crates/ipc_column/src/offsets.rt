@@ -1,6 +1,6 @@
 ghost use Rattle.std.specs.Prelude.{◌≡◌, ◌≤◌, ◌<◌, ◌+◌, ◌*◌, ◌^◌, ℕ, List, length, true, pos};
 ghost use Rattle.std.specs.Prelude.{int_le};
-ghost use Rattle.ipc_column.specs.Checks.{are_ascending, have_slots};
+ghost use Rattle.ipc_column.specs.checks.Checks.{are_ascending, have_slots};
 ghost use Rattle.ipc_column.specs.Values.{offset, offset_position, between};
 ghost use Rattle.ipc_column.specs.Views.{part_columns};
 

@@ -1,6 +1,6 @@
 ghost use Rattle.std.specs.Prelude.{◌≡◌, ◌<◌, ◌+◌, ◌-◌, true, length, IfOk, OnOk, Some, slice_get};
 ghost use Rattle.ipc_column.specs.Cells.{cell_value, is_leaf};
-ghost use Rattle.ipc_column.specs.Checks.{PassTests};
+ghost use Rattle.ipc_column.specs.checks.Checks.{PassTests};
 ghost use Rattle.ipc_column.specs.Lent.{HaveValues, HasValue};
 ghost use Rattle.ipc_column.specs.Values.{row, rows_of, value_of, items, first_at, is_nested};
 ghost use Rattle.ipc_column.specs.Views.{part_columns, column_of, children_of};

@@ -4,9 +4,9 @@ ghost use Rattle.std.specs.Prelude.{◌≡◌, ℕ, List, map, true, false, IsTr
 ghost use Rattle.ipc_model.specs.Layouts.{needs_slot_checks};
 ghost use Rattle.ipc_column.specs.declared.cause.Cause.{Cause};
 ghost use Rattle.ipc_column.specs.declared.ranges.ColumnRanges.TheViews.{out-ColumnRanges};
-ghost use Rattle.ipc_column.specs.Checks.{passes};
+ghost use Rattle.ipc_column.specs.checks.Checks.{passes};
 ghost use Rattle.ipc_column.specs.Columns.{every};
-ghost use Rattle.ipc_column.specs.Marks.{AreMarked, IsMarked, all_valid, each_valid, mark};
+ghost use Rattle.ipc_column.specs.checks.Marks.{AreMarked, IsMarked, all_valid, each_valid, mark};
 ghost use Rattle.ipc_column.specs.Views.{part_columns, column_of, children_of, one};
 
 use crate::indices::are_indices;

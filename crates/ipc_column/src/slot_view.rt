@@ -10,17 +10,17 @@ ghost use Rattle.ipc_model.specs.declared.value.Value.{Value};
 ghost use Rattle.ipc_model.specs.declared.value.Value.TheVariants.{Null};
 ghost use Rattle.ipc_column.specs.Cells.{cell_value, is_leaf};
 ghost use Rattle.ipc_column.specs.Columns.{Columns};
-ghost use Rattle.ipc_column.specs.Checks.{PassTests, children_have_slots, holds_offsets};
-ghost use Rattle.ipc_column.specs.Checks.{holds_values, in_order};
-ghost use Rattle.ipc_column.specs.Checks.{are_ascending};
+ghost use Rattle.ipc_column.specs.checks.Checks.{PassTests, children_have_slots, holds_offsets};
+ghost use Rattle.ipc_column.specs.checks.Checks.{holds_values, in_order};
+ghost use Rattle.ipc_column.specs.checks.Checks.{are_ascending};
 ghost use Rattle.ipc_column.specs.Dictionaries.{has_no_children};
 ghost use Rattle.ipc_column.specs.Lending.{AreBuffers, AreNumbers, HoldsEntry, are_numbers};
 ghost use Rattle.ipc_column.specs.Lent.{AreFound, AreOfColumn, column_of_buffers};
 ghost use Rattle.ipc_column.specs.Slots.{HasChildSlots, is_null, nested, nested_in, value_in_slot};
 ghost use Rattle.ipc_column.specs.Slots.{text_prefix};
 ghost use Rattle.ipc_column.specs.Nested.{Nested, only_column, child_columns, slot_values};
-ghost use Rattle.ipc_column.specs.Plain.{IsShownBy, text_bytes_len};
-ghost use Rattle.ipc_column.specs.Rules.{HoldValues, SpellsTexts};
+ghost use Rattle.ipc_column.specs.checks.Plain.{IsShownBy, text_bytes_len};
+ghost use Rattle.ipc_column.specs.checks.Rules.{HoldValues, SpellsTexts};
 ghost use Rattle.ipc_column.specs.Values.{between, own_value, row, rows_of};
 ghost use Rattle.ipc_column.specs.Views.{part_columns, column_of, children_of};
 
@@ -330,7 +330,7 @@ fn text_in<'a>(offsets: &[u8], values: &'a [u8], slots: usize, slot: usize) -> (
 }
 
 // What a valid slot holds, one of the first `slots`.
-#[tactic(auto, using(crate::proofs::Widths::slot_inside))]
+#[tactic(auto, using(crate::proofs::lending::Widths::slot_inside))]
 #[inline(always)]
 fn own_slot<'a>(
     layout: Layout,

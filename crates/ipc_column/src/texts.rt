@@ -1,8 +1,9 @@
 ghost use Rattle.std.specs.Prelude.{◌≡◌, ◌≤◌, ◌<◌, ◌+◌, ◌-◌, ◌*◌, ◌^◌, [], length, true};
 ghost use Rattle.std.specs.Prelude.{IsTrue, IsUtf8};
 ghost use Rattle.std.specs.Str.{is_utf8};
-ghost use Rattle.ipc_column.specs.Checks.{AreCharBoundaries, all_slots, has_bitmap, are_ascending};
-ghost use Rattle.ipc_column.specs.Checks.{text_good};
+ghost use Rattle.ipc_column.specs.checks.Checks.{AreCharBoundaries, all_slots, has_bitmap};
+ghost use Rattle.ipc_column.specs.checks.Checks.{are_ascending};
+ghost use Rattle.ipc_column.specs.checks.Checks.{text_good};
 ghost use Rattle.ipc_column.specs.Values.{offset_position};
 
 use crate::offsets::{bytes_between, start_at};

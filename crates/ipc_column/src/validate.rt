@@ -1,11 +1,11 @@
 ghost use Rattle.std.specs.Prelude.{◌≡◌, ◌≤◌, ◌<◌, ◌+◌, ◌*◌, ◌^◌, ◌&&◌, ℕ, List, nat_le, length};
 ghost use Rattle.std.specs.Prelude.{true, IfOk, IfErr};
-ghost use Rattle.ipc_column.specs.Checks.{Judges, has_bitmap, holds_values, holds_offsets};
-ghost use Rattle.ipc_column.specs.Checks.{in_order, is_shown, nulls_in, passes, top_passes};
-ghost use Rattle.ipc_column.specs.Checks.{all_pass};
-ghost use Rattle.ipc_column.specs.Checks.{have_slots, children_have_slots, are_ascending};
+ghost use Rattle.ipc_column.specs.checks.Checks.{Judges, has_bitmap, holds_values, holds_offsets};
+ghost use Rattle.ipc_column.specs.checks.Checks.{in_order, is_shown, nulls_in, passes, top_passes};
+ghost use Rattle.ipc_column.specs.checks.Checks.{all_pass};
+ghost use Rattle.ipc_column.specs.checks.Checks.{have_slots, children_have_slots, are_ascending};
 ghost use Rattle.ipc_column.specs.Columns.{every, every_top};
-ghost use Rattle.ipc_column.specs.Rules.{visits_in};
+ghost use Rattle.ipc_column.specs.checks.Rules.{visits_in};
 ghost use Rattle.ipc_column.specs.Values.{offset_position};
 ghost use Rattle.ipc_column.specs.Views.{part_columns, column_of, children_of};
 
@@ -25,7 +25,7 @@ fn has_bitmap(slots: usize, bytes: usize) -> bool
 
 // Whether `bytes` bytes hold `slots` slots of `width` bytes, or the slots of a child hold such
 // lists.
-#[tactic(auto, using(crate::proofs::Widths::holds_by_quotient))]
+#[tactic(auto, using(crate::proofs::lending::Widths::holds_by_quotient))]
 fn holds_width(width: usize, slots: usize, bytes: usize) -> bool
     ensures { result ≡ nat_le (width * slots) bytes }
 {

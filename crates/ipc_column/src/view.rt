@@ -1,10 +1,10 @@
 //! A column, found in its body once for all its slots.
 ghost use Rattle.std.specs.Prelude.{◌≡◌, ◌<◌, ℕ, length, slice_get, Some};
 ghost use Rattle.ipc_column.specs.Cells.{cell_value};
-ghost use Rattle.ipc_column.specs.Checks.{PassTests};
+ghost use Rattle.ipc_column.specs.checks.Checks.{PassTests};
 ghost use Rattle.ipc_column.specs.Lent.{AreOfColumn, HoldSlots, column_of_buffers, values_in};
 ghost use Rattle.ipc_column.specs.Nested.{only_column, slot_values};
-ghost use Rattle.ipc_column.specs.Rules.{SpellsTexts};
+ghost use Rattle.ipc_column.specs.checks.Rules.{SpellsTexts};
 ghost use Rattle.ipc_column.specs.Values.{row, rows_of, value_of};
 ghost use Rattle.ipc_column.specs.Views.{part_columns, column_of, children_of};
 

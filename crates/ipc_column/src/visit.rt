@@ -1,13 +1,13 @@
 ghost use Rattle.std.specs.Prelude.{◌≡◌, ◌≤◌, ◌<◌, ◌+◌, ◌^◌, length, true, false};
-ghost use Rattle.ipc_column.specs.Checks.{IsIndexed, Judges, good, good_slot, has_bitmap};
-ghost use Rattle.ipc_column.specs.Checks.{range_good};
+ghost use Rattle.ipc_column.specs.checks.Checks.{IsIndexed, Judges, good, good_slot, has_bitmap};
+ghost use Rattle.ipc_column.specs.checks.Checks.{range_good};
 ghost use Rattle.ipc_column.specs.Lent.{AreSlots};
-ghost use Rattle.ipc_column.specs.Marks.{AreMarked, IsMarked};
-ghost use Rattle.ipc_column.specs.Rules.{has_slot_visits};
+ghost use Rattle.ipc_column.specs.checks.Marks.{AreMarked, IsMarked};
+ghost use Rattle.ipc_column.specs.checks.Rules.{has_slot_visits};
 ghost use Rattle.ipc_model.specs.Layouts.{needs_slot_checks, is_texts};
 ghost use Rattle.ipc_column.specs.Values.{is_valid};
 ghost use Rattle.ipc_column.specs.Views.{part_columns, column_of, children_of, one};
-ghost use Rattle.ipc_column.specs.Weights.{weight, weight_below};
+ghost use Rattle.ipc_column.specs.checks.Weights.{weight, weight_below};
 
 use crate::cause::Cause;
 use crate::cell::is_valid;

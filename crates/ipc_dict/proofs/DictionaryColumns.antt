@@ -13,7 +13,7 @@ use Rattle.ipc_dict_read.proofs.ValuesColumns as law
 use Rattle.ipc_dict.specs.declared.entry.TallyEntry.{TallyEntry}
 use Rattle.ipc_dict.specs.SchemaEntries.{AreInOrder, first_place}
 use Rattle.ipc_dict.specs.SchemaIds.{own, field_step, of_field, of_fields, empty_entries}
-use Rattle.ipc_dict.proofs.SchemaEntries.{are_of_schema}
+use Rattle.ipc_dict.proofs.ids.SchemaEntries.{are_of_schema}
 
 -- ---- columns beside the dictionaries that they are of
 

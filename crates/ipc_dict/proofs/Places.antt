@@ -12,7 +12,7 @@ use Rattle.ipc_dict.specs.declared.entry.TallyEntry.{TallyEntry}
 use Rattle.ipc_dict.specs.Distinct.{same, is_among, with_distinct, first_index}
 use Rattle.ipc_dict.specs.Noting.{note_entry, note_one, note_all, values_noted_for, place_of_value, KeepsPlaces, PlacesAll}
 use Rattle.ipc_dict.proofs.Finds.{has_place}
-use Rattle.ipc_dict.proofs.OneId.{one-note}
+use Rattle.ipc_dict.proofs.ids.OneId.{one-note}
 
 module _ (id : ℤ) (v : Value) where
   -- the entry that is found has the place

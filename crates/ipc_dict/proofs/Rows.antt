@@ -8,8 +8,8 @@ use Rattle.ipc_dict.specs.Noting.{note_entry, note_one, note_all}
 use Rattle.ipc_dict.specs.Pairs.{row_pairs, rows_pairs}
 use Rattle.ipc_dict.specs.SchemaIds.{tally_bounds, tally_ids, empty_entries}
 use Rattle.ipc_dict.specs.Counted.{HoldsRows}
-use Rattle.ipc_dict.proofs.OneId.{holds_distinct}
-use Rattle.ipc_dict.proofs.SchemaIds.{unused-noted_for}
+use Rattle.ipc_dict.proofs.ids.OneId.{holds_distinct}
+use Rattle.ipc_dict.proofs.ids.SchemaIds.{unused-noted_for}
 use Rattle.ipc_dict.specs.Distinct.{with_all_distinct}
 use Rattle.ipc_dict.specs.Noting.{of_id}
 

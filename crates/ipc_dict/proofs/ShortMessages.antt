@@ -11,7 +11,7 @@ use Rattle.ipc_column.specs.Shapes.{Shape, node_count, buffer_count}
 use Rattle.ipc_dict_read.specs.ValuesColumns.{columns_for, dictionary_columns, values_column, IsOneColumn}
 use Rattle.ipc_dict.specs.declared.entry.TallyEntry.{TallyEntry}
 use Rattle.ipc_dict.specs.Within.{AllShort, IsSomeLong, dictionary_room_of}
-use Rattle.ipc_dict.proofs.PairsFit.{column_parts, column_shape}
+use Rattle.ipc_dict.proofs.pairs.PairsFit.{column_parts, column_shape}
 
 -- one entry more, whose message is short
 pub short_push : (limits : Limits) (fields : List Field) (es : List TallyEntry) (e : TallyEntry) (columns : List Field)

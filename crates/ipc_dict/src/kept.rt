@@ -48,7 +48,7 @@ impl Kept {
     /// is sent later is moved here, which takes no memory.
     ///
     /// Errors: `OutOfMemory` if memory for the entries ran out.
-    #[tactic(auto, using(crate::proofs::Ids::ids_unsent))]
+    #[tactic(auto, using(crate::proofs::ids::Ids::ids_unsent))]
     pub fn new(alloc: Global, schema: &Schema) -> Result<Kept, WriteFault>
         ensures entries { IfOk result (λ kept. kept ≡ nothing_sent (ids_of schema.now.fields)) }
         ensures ids { IfOk result (λ kept. kept_ids kept ≡ ids_of schema.now.fields) }

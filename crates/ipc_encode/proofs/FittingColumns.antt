@@ -26,7 +26,7 @@ use Rattle.ipc_model.specs.declared.value.Value.TheVariants.{Null}
 use Rattle.ipc_model.specs.declared.value.Value.TheVariants as v
 use Rattle.ipc_column.proofs.Plain.{items_each, null_shown}
 use Rattle.ipc_column.specs.Nested.{Nested, child_columns, slot_values}
-use Rattle.ipc_column.specs.Plain.{IsShownBy}
+use Rattle.ipc_column.specs.checks.Plain.{IsShownBy}
 use Rattle.ipc_column.specs.Slots.{is_null, nested_in}
 use Rattle.ipc_column.specs.Values.{is_valid, own_value, row, value_at, value_of, first_of, items, offset_position}
 use Rattle.ipc_column.specs.Views.{part_columns}

@@ -21,15 +21,15 @@ use Rattle.ipc_model.specs.declared.value.Value.TheOpen.{Value-F}
 use Rattle.ipc_model.specs.declared.value.Value.TheVariants.{Null}
 use Rattle.ipc_model.specs.declared.value.Value.TheVariants as v
 use Rattle.ipc_column.proofs.Found.{items_first}
-use Rattle.ipc_column.proofs.Leads.{bytes_rise}
-use Rattle.ipc_column.proofs.Lendings.{lent_bitmap, lent_values, lent_offsets, lent_order}
+use Rattle.ipc_column.proofs.visited.Leads.{bytes_rise}
+use Rattle.ipc_column.proofs.lending.Lendings.{lent_bitmap, lent_values, lent_offsets, lent_order}
 use Rattle.ipc_column.proofs.Plain.{items_each}
-use Rattle.ipc_column.proofs.Slices.{above_in, places}
-use Rattle.ipc_column.proofs.Slots.{items_length, bytes_from}
-use Rattle.ipc_column.specs.Checks.{has_bitmap, are_ascending}
+use Rattle.ipc_column.proofs.lending.Slices.{above_in, places}
+use Rattle.ipc_column.proofs.lending.Slots.{items_length, bytes_from}
+use Rattle.ipc_column.specs.checks.Checks.{has_bitmap, are_ascending}
 use Rattle.ipc_column.specs.Lending.{AreBuffers, AreNumbers}
 use Rattle.ipc_column.specs.Nested.{Nested, child_columns, slot_values, only_column}
-use Rattle.ipc_column.specs.Rules.{IsText, SpellsTexts}
+use Rattle.ipc_column.specs.checks.Rules.{IsText, SpellsTexts}
 use Rattle.ipc_column.specs.Values.{between, is_valid, own_value, row, signed_at, value_of, offset_position}
 use Rattle.ipc_column.specs.declared.buffers.Buffers.{Buffers}
 use Rattle.ipc_column.specs.declared.buffers.Numbers.{Numbers}

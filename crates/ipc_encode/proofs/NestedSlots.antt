@@ -12,15 +12,15 @@ use Rattle.ipc_model.specs.declared.value.Value.TheOpen.{Value-F}
 use Rattle.ipc_model.specs.declared.value.Value.TheVariants.{Null}
 use Rattle.ipc_model.specs.declared.value.Value.TheVariants as v
 use Rattle.ipc_column.proofs.Cells.{items_more}
-use Rattle.ipc_column.proofs.Lendings.{lent_offsets, lent_order}
+use Rattle.ipc_column.proofs.lending.Lendings.{lent_offsets, lent_order}
 use Rattle.ipc_column.proofs.Parts.{children_out}
-use Rattle.ipc_column.proofs.Slices.{places}
-use Rattle.ipc_column.proofs.Slots.{bytes_from, order_from}
-use Rattle.ipc_column.specs.Checks.{are_ascending, have_slots}
+use Rattle.ipc_column.proofs.lending.Slices.{places}
+use Rattle.ipc_column.proofs.lending.Slots.{bytes_from, order_from}
+use Rattle.ipc_column.specs.checks.Checks.{are_ascending, have_slots}
 use Rattle.ipc_column.specs.Columns.{Columns}
 use Rattle.ipc_column.specs.Lending.{AreBuffers}
 use Rattle.ipc_column.specs.Nested.{Nested, child_columns, slot_values, only_column}
-use Rattle.ipc_column.specs.Rules.{IsText, SpellsTexts}
+use Rattle.ipc_column.specs.checks.Rules.{IsText, SpellsTexts}
 use Rattle.ipc_column.specs.Shapes.{Shape, bare, field}
 use Rattle.ipc_column.specs.Slots.{is_null, nested, nested_in}
 use Rattle.ipc_column.specs.Values.{first_of, is_valid, items, own_value, offset_position, row, value_of}

@@ -6,7 +6,7 @@ use Rattle.std.specs.List.{AllByRecursion}
 use Rattle.std.proofs.Math.Seq.{drop-append_seam, take-append_seam}
 use Rattle.std.proofs.lemmas.Int.{ints}
 use Rattle.ipc_column.specs.Columns.{body_range}
-use Rattle.ipc_column.specs.Rules.{IsWithinBody}
+use Rattle.ipc_column.specs.checks.Rules.{IsWithinBody}
 use Rattle.ipc_encode.specs.Buffers.{padded_buffer, padded_bytes, ranges_from}
 
 -- what stands behind a front

@@ -23,7 +23,7 @@ use Rattle.ipc_model.specs.declared.value.Value.TheOpen.{Value-F}
 use Rattle.ipc_model.specs.declared.value.Value.TheVariants as v
 use Rattle.ipc_column.specs.Columns.{Column}
 use Rattle.ipc_column.specs.Dictionaries.{Dictionaries, values_for}
-use Rattle.ipc_column.specs.Rules.{AreOffsets, HoldValues, HoldOffsets, IsLongEnough, HasWholeBitmap, CountsNulls}
+use Rattle.ipc_column.specs.checks.Rules.{AreOffsets, HoldValues, HoldOffsets, IsLongEnough, HasWholeBitmap, CountsNulls}
 use Rattle.ipc_column.specs.Shapes.{dictionary_at}
 use Rattle.ipc_column.specs.Values.{is_valid, offset, offset_position, between, signed_at, value_at, number_in}
 use Rattle.ipc_encode.specs.Bitmaps.{bitmap}

@@ -26,8 +26,9 @@ use Rattle.ipc_model.specs.declared.value.Value.TheVariants as v
 use Rattle.ipc_column.specs.Columns.{Column, Columns, Each, EachTop}
 use Rattle.ipc_column.specs.Dictionaries.{Dictionaries, values_for}
 use Rattle.ipc_column.specs.Rows.{Rows}
-use Rattle.ipc_column.specs.Rules.{IsFieldNode, IsWithinBody, IsLongEnough, CountsNulls, HasOffsets, HasLongChildren, IsText, SpellsTexts}
-use Rattle.ipc_column.specs.Rules.{HasIndex, HoldsIndices, IsIndex}
+use Rattle.ipc_column.specs.checks.Rules.{IsFieldNode, IsWithinBody, IsLongEnough, CountsNulls, HasOffsets, HasLongChildren, IsText}
+use Rattle.ipc_column.specs.checks.Rules.{SpellsTexts}
+use Rattle.ipc_column.specs.checks.Rules.{HasIndex, HoldsIndices, IsIndex}
 use Rattle.ipc_column.specs.Shapes.{dictionary_at, Shape, bare, field, shape_of, node_at, buffer_at, field_columns}
 use Rattle.ipc_column.specs.Values.{is_valid, offset_position, first_of, own_value, value_of, items as slots_from, row}
 use Rattle.ipc_encode.specs.Buffers.{child_values, nodes_of, row_columns, row_nodes, row_buffers_with, ranges_from, body_with}

@@ -11,7 +11,7 @@ ghost use Rattle.ipc_model.specs.declared.schema.IntBits.{IntBits};
 ghost use Rattle.ipc_model.specs.declared.value.Value.{Value, out-Value};
 ghost use Rattle.ipc_model.specs.declared.value.Value.TheVariants.{Null};
 ghost use Rattle.ipc_column.specs.Nested.{child_columns, slot_values};
-ghost use Rattle.ipc_column.specs.Plain.{IsShownBy};
+ghost use Rattle.ipc_column.specs.checks.Plain.{IsShownBy};
 ghost use Rattle.ipc_column.specs.Slots.{value_in_slot};
 ghost use Rattle.ipc_column.specs.Values.{is_valid, row};
 ghost use Rattle.ipc_encode.specs.Cells.{all_items, is_set};

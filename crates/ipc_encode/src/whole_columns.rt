@@ -9,7 +9,7 @@ ghost use Rattle.ipc_model.specs.declared.limits.Limits.{Limits};
 ghost use Rattle.ipc_model.specs.declared.value.Value.{Value};
 ghost use Rattle.ipc_model.specs.declared.value.Value.TheVariants.{Null};
 ghost use Rattle.ipc_column.specs.Nested.{Nested, only_column, slot_values};
-ghost use Rattle.ipc_column.specs.Rules.{SpellsTexts};
+ghost use Rattle.ipc_column.specs.checks.Rules.{SpellsTexts};
 ghost use Rattle.ipc_column.specs.Shapes as shapes;
 ghost use Rattle.ipc_column.specs.Shapes.{Shape, bare, field, field_children, field_layout};
 ghost use Rattle.ipc_column.specs.Shapes.{shape_of};

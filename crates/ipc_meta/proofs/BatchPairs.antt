@@ -12,7 +12,7 @@ use Rattle.ipc_meta.specs.Reached.{HasTable, batch_message}
 use Rattle.ipc_meta.specs.Reading.{pairs_read}
 use Rattle.ipc_meta.specs.Totals.{message_pairs}
 use Rattle.ipc_meta.proofs.Complete.{batch_pairs_complete, budget}
-use Rattle.ipc_meta.proofs.RefusedFields.{batch_pairs_refused}
+use Rattle.ipc_meta.proofs.refused.RefusedFields.{batch_pairs_refused}
 use Rattle.ipc_meta.proofs.Sound.{pairs_sound}
 use Rattle.ipc_meta.proofs.Spent.{pairs_taken}
 use Rattle.ipc_meta.proofs.Unique.{pairs_same, refused}

@@ -131,7 +131,7 @@ pub fn write_batch(
 
 /// Returns the size bound, in bytes, of the metadata of a dictionary batch's message (Message.fbs,
 /// table DictionaryBatch). It depends on the number of nodes and of buffers only.
-#[tactic(auto, using(crate::proofs::WrittenOrder::dictionary_counts))]
+#[tactic(auto, using(crate::proofs::written::WrittenOrder::dictionary_counts))]
 pub fn dictionary_room(nodes: u32, buffers: u32) -> u64
     ensures { result ≡ dictionary_room nodes buffers }
 {

@@ -35,8 +35,8 @@ use Rattle.ipc_dict.specs.Planning.{AllSettled, after_all, sends_of, sent_for}
 use Rattle.ipc_dict.specs.SchemaIds.{ids_of, kept_ids, tally_ids, empty_entries}
 use Rattle.ipc_dict.specs.Sending.{AreCounted, batch_values, sent_after, tally_of_rows}
 use Rattle.ipc_dict.specs.Within.{AllShort, AllWithin, dictionary_room_of}
-use Rattle.ipc_dict.proofs.Ids.{same_ids}
-use Rattle.ipc_dict.proofs.PairsFit.{column_fine, column_leaf, pair_fits}
+use Rattle.ipc_dict.proofs.ids.Ids.{same_ids}
+use Rattle.ipc_dict.proofs.pairs.PairsFit.{column_fine, column_leaf, pair_fits}
 use Rattle.ipc_dict.proofs.Sending.{counted_after, needed_is, sent_is, tallied_ids, tallied_unique, tallied_values}
 use Rattle.ipc_stream_read.specs.Stream.{InForce, IsMessage, Run, batch, values_in}
 use Rattle.ipc_stream_read.proofs.Runs.{run_one, run_then}

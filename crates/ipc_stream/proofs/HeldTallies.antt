@@ -30,8 +30,8 @@ use Rattle.ipc_dict.specs.SchemaIds.{empty_entries}
 use Rattle.ipc_dict.specs.Sending.{tally_of_rows}
 use Rattle.ipc_dict.specs.TallyState.{TallyState}
 use Rattle.ipc_dict.specs.Within.{IsOfLimits, IsOverLimit}
-use Rattle.ipc_dict.proofs.Covered.{covered}
-use Rattle.ipc_dict.proofs.CoveredIndices.{pair_placed}
+use Rattle.ipc_dict.proofs.pairs.Covered.{covered}
+use Rattle.ipc_dict.proofs.pairs.CoveredIndices.{pair_placed}
 use Rattle.ipc_dict.proofs.Notes.{note_all-append}
 use Rattle.ipc_dict.proofs.Places.{keeps_places}
 use Rattle.ipc_stream.specs.PendingBatches.{RefusesPending, with_row}

@@ -20,8 +20,8 @@ use Rattle.ipc_dict.specs.Pairs.{rows_pairs}
 use Rattle.ipc_dict.specs.Planning.{AllSettled, FindsAll, FindsNoted, after_all, index, number, sent_for}
 use Rattle.ipc_dict.specs.SchemaIds.{index_capacity, of_fields}
 use Rattle.ipc_dict.specs.Sending.{AreCounted, tally_of_rows}
-use Rattle.ipc_dict.proofs.Covered.{covered}
-use Rattle.ipc_dict.proofs.CoveredIndices.{index_within, pair_placed}
+use Rattle.ipc_dict.proofs.pairs.Covered.{covered}
+use Rattle.ipc_dict.proofs.pairs.CoveredIndices.{index_within, pair_placed}
 use Rattle.ipc_dict.proofs.Plans.{index_renumbered}
 
 module _ (limits : Limits) (s : Schema) (rows : List (List Value)) (kept : List KeptEntry) (os : List (Option (List ℕ)))

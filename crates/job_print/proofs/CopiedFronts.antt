@@ -5,7 +5,7 @@ use Rattle.std.proofs.Math.Seq.{take-append-add}
 use Rattle.csv.specs.Writing.{needs_byte, needs_quotes}
 use Rattle.ipc_text_csv.specs.Dialects.{writer}
 use Rattle.job_print.specs.Unquoted.{NeedNone}
-use Rattle.job_print.proofs.SetApart.{none_on_true}
+use Rattle.job_print.proofs.texts.SetApart.{none_on_true}
 use Rattle.std.specs.Bool.{OnTrue}
 use Rattle.json.specs.Filled.{Placed}
 use Rattle.json.specs.Print.{escape}

@@ -14,8 +14,8 @@ use Rattle.job_print.specs.Output.{Output, output, PrintsAs, Puts, PutFails}
 use Rattle.std.specs.Prelude.{⊤}
 use Rattle.job_print.specs.Rows.{batch_lines, last_lines}
 use Rattle.job_print.specs.Streams.{PrintsPart}
-use Rattle.job_print.proofs.FirstRows.{wanted_none, wanted_within}
-use Rattle.job_print.proofs.FirstRows.{within_none}
+use Rattle.job_print.proofs.streams.FirstRows.{wanted_none, wanted_within}
+use Rattle.job_print.proofs.streams.FirstRows.{within_none}
 use Rattle.job_print.proofs.Puts.{puts_then, puts_not_then, puts_never, missing_all, missing_at}
 use Rattle.job_print.proofs.Lines.{put_at, not_at}
 use Rattle.std.proofs.Common.{length, inl}

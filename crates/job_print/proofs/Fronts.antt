@@ -6,8 +6,8 @@ use Rattle.std.proofs.lemmas.List.{length-take-le, take-append-le}
 use Rattle.std.specs.Fmt.{decimal}
 use Rattle.std.specs.Int.{w64, to_le_bytes}
 use Rattle.job_print.specs.Digits.{last_digits}
-use Rattle.job_print.proofs.Decimals.{decimal_padded, behind_eight}
-use Rattle.job_print.proofs.Shifts.{shifted}
+use Rattle.job_print.proofs.numbers.Decimals.{decimal_padded, behind_eight}
+use Rattle.job_print.proofs.numbers.Shifts.{shifted}
 
 -- up to inside the part that was written
 pub front_of : (s bytes rest : List ℕ) (at j : ℕ) → at ≤ length s → j ≤ length bytes

@@ -7,7 +7,7 @@ use Rattle.job_print.specs.declared.rows.PrintFault.{PrintFault}
 use Rattle.job_print.specs.Output.{Output, Puts, PutFails}
 use Rattle.job_print.specs.Rows.{lines}
 use Rattle.job_print.proofs.Puts.{puts_then, puts_not_then, puts_not_front}
-use Rattle.job_print.proofs.Texts.{lines_more, lines_rest}
+use Rattle.job_print.proofs.texts.Texts.{lines_more, lines_rest}
 
 -- where a text was put, an equal text was
 pub put_at : (a b : Output) (t u : List ℕ) → t ≡ u → Puts a b t → Puts a b u

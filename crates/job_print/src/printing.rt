@@ -248,7 +248,7 @@ pub(crate) fn write_fault_of(fault: PrintFault) -> WriteFault
 }
 
 // Prints a stream whose schema was read.
-#[tactic(auto, using(crate::proofs::Reporting::none_reported))]
+#[tactic(auto, using(crate::proofs::streams::Reporting::none_reported))]
 fn print_open<R: Source, W: Sink, P: Progress>(
     alloc: Global,
     options: PrintOptions<'_>,

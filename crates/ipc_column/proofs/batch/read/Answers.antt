@@ -5,12 +5,12 @@ use Rattle.ipc_column.specs.Shapes.{shape_of}
 use Rattle.ipc_column.specs.DictionaryBatches.{dictionaries_in}
 use Rattle.ipc_column.specs.Lending.{layouts_of}
 use Rattle.ipc_column.proofs.Fields.{buffers_most}
-use Rattle.ipc_column.proofs.Lent.{layouts_cut, nested_columns, nested_layouts}
+use Rattle.ipc_column.proofs.lending.Lent.{layouts_cut, nested_columns, nested_layouts}
 use Rattle.ipc_column.specs.Nested.{found_columns}
-use Rattle.ipc_column.specs.Checks.{all, all_pass, is_node, is_slot_count}
+use Rattle.ipc_column.specs.checks.Checks.{all, all_pass, is_node, is_slot_count}
 use Rattle.ipc_column.specs.Columns.{Columns}
-use Rattle.ipc_column.proofs.Visits.{visits_most, slots_most}
-use Rattle.ipc_column.proofs.Marking.{kept_columns}
+use Rattle.ipc_column.proofs.visited.Visits.{visits_most, slots_most}
+use Rattle.ipc_column.proofs.visited.Marking.{kept_columns}
 use Rattle.ipc_column.proofs.Laws.{passing, exits, head_failing, columns_failing}
 use Rattle.ipc_column.proofs.batch.read.Goals as goal
 

@@ -1,4 +1,4 @@
-use Rattle.ipc_column.proofs.Slots.{part_stands}
+use Rattle.ipc_column.proofs.lending.Slots.{part_stands}
 use Rattle.ipc_column.proofs.cell.cell_at.Goals as goal
 
 pub is_valid_in-requires : goal.is_valid_in-requires

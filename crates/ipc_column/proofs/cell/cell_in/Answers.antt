@@ -1,5 +1,5 @@
 use Rattle.ipc_column.specs.Views.{part_columns}
-use Rattle.ipc_column.proofs.Slots.{row_values}
+use Rattle.ipc_column.proofs.lending.Slots.{row_values}
 use Rattle.ipc_column.proofs.cell.cell_in.Goals as goal
 
 pub value_at-requires-clause-values : goal.value_at-requires-clause-values

@@ -1,5 +1,5 @@
 use Rattle.std.proofs.Common.{◌∙◌, ◌+◌, ◌*◌, arith}
-use Rattle.ipc_column.proofs.FixedLists.{fixed_before, fixed_have, fixed_items}
+use Rattle.ipc_column.proofs.lending.FixedLists.{fixed_before, fixed_have, fixed_items}
 use Rattle.ipc_column.proofs.cell.fixed_list.Goals as goal
 
 pub fixed_place-first-requires : goal.fixed_place-first-requires

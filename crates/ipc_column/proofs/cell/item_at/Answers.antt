@@ -2,7 +2,7 @@ use Rattle.std.proofs.Common.{◌≡◌, ◌∙◌, sym, ap, Some, ◌<◌, ◌+
 use Rattle.ipc_model.specs.declared.value.Value.{Value}
 use Rattle.ipc_column.specs.Values.{first_at}
 use Rattle.ipc_column.specs.Views.{part_columns}
-use Rattle.ipc_column.proofs.Slots.{slot_value, items_at, first_is, first_none}
+use Rattle.ipc_column.proofs.lending.Slots.{slot_value, items_at, first_is, first_none}
 use Rattle.ipc_column.proofs.cell.item_at.Goals as goal
 
 pub cell_at-requires : goal.cell_at-requires

@@ -1,6 +1,6 @@
 use Rattle.std.proofs.Common.{length}
 use Rattle.ipc_column.specs.Views.{part_columns}
-use Rattle.ipc_column.proofs.Slots.{list_have, fixed_values, struct_values}
+use Rattle.ipc_column.proofs.lending.Slots.{list_have, fixed_values, struct_values}
 use Rattle.ipc_column.proofs.cell.own_cell.Goals as goal
 
 pub list_between-requires-clause-values : goal.list_between-requires-clause-values

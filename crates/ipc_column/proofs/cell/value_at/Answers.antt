@@ -1,7 +1,7 @@
 use Rattle.std.proofs.Common.{◌∙◌, sym, ap, Some, ◌+◌, arith}
 use Rattle.ipc_model.specs.declared.value.Value.{Value}
 use Rattle.ipc_column.proofs.Cells.{row_cell}
-use Rattle.ipc_column.proofs.Slots.{slot_value}
+use Rattle.ipc_column.proofs.lending.Slots.{slot_value}
 use Rattle.ipc_column.proofs.cell.value_at.Goals as goal
 
 pub cell_at-requires : goal.cell_at-requires

@@ -1,6 +1,6 @@
 use Rattle.std.proofs.Common.{◌∙◌, sym, ap, rules, FitsSigned, w8, w64, to_z}
 use Rattle.std.proofs.lemmas.Int.{to_z-of_z}
-use Rattle.ipc_column.proofs.Widths.{byte_is}
+use Rattle.ipc_column.proofs.lending.Widths.{byte_is}
 use Rattle.ipc_column.proofs.fixed.signed_at.Goals as goal
 
 pub returns-in-B8 : goal.returns-in-B8

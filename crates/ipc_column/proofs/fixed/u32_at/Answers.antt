@@ -1,5 +1,5 @@
 use Rattle.std.proofs.Common.{◌∙◌}
-use Rattle.ipc_column.proofs.Chunks.{slot_4}
+use Rattle.ipc_column.proofs.lending.Chunks.{slot_4}
 use Rattle.ipc_column.proofs.fixed.u32_at.Goals as goal
 
 pub returns : goal.returns

@@ -1,5 +1,5 @@
 use Rattle.std.proofs.Common.{◌∙◌, sym}
-use Rattle.ipc_column.proofs.Widths.{byte_is}
+use Rattle.ipc_column.proofs.lending.Widths.{byte_is}
 use Rattle.ipc_column.proofs.fixed.unsigned_at.Goals as goal
 
 pub returns-in-B8 : goal.returns-in-B8

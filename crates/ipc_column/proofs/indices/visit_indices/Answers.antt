@@ -1,9 +1,9 @@
 use Rattle.std.proofs.Common.{◌∙◌, sym, ◌+◌, ◌*◌, ◌≤◌, arith}
 use Rattle.std.proofs.Math.Nat.{mul-le-mul_left}
 use Rattle.ipc_model.specs.Layouts.{number_bytes}
-use Rattle.ipc_column.specs.Checks.{index_good}
-use Rattle.ipc_column.proofs.Goods.{slots_fail, slots_more}
-use Rattle.ipc_column.proofs.Slots.{bitmap_upto}
+use Rattle.ipc_column.specs.checks.Checks.{index_good}
+use Rattle.ipc_column.proofs.visited.Goods.{slots_fail, slots_more}
+use Rattle.ipc_column.proofs.lending.Slots.{bitmap_upto}
 use Rattle.ipc_column.proofs.indices.visit_indices.Goals as goal
 
 pub visit_index-requires-clause-inside : goal.visit_index-requires-clause-inside

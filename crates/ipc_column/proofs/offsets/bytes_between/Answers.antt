@@ -1,5 +1,5 @@
 use Rattle.std.proofs.Common.{length, arith, ◌+◌}
-use Rattle.ipc_column.proofs.Slices.{places}
+use Rattle.ipc_column.proofs.lending.Slices.{places}
 use Rattle.ipc_column.proofs.offsets.bytes_between.Goals as goal
 
 pub slice_bounds-result-count : goal.slice_bounds-result-count

@@ -1,7 +1,7 @@
 use Rattle.std.proofs.Common.{◌+◌, ◌*◌, ◌<◌, ◌≤◌, ◌^◌, length, rules, sym, subst, arith}
 use Rattle.ipc_column.specs.declared.ranges.ColumnRanges.{ColumnRanges}
 use Rattle.ipc_column.specs.declared.ranges.ColumnRanges.TheViews.{out-ColumnRanges}
-use Rattle.ipc_column.proofs.FixedLists.{slots_of_first}
+use Rattle.ipc_column.proofs.lending.FixedLists.{slots_of_first}
 use Rattle.ipc_column.proofs.offsets.fixed_place.Goals as goal
 
 pub overflow_mul-result : goal.overflow_mul-result

@@ -1,5 +1,5 @@
 use Rattle.std.proofs.Common.{◌∙◌}
-use Rattle.ipc_column.proofs.Chunks.{positive_is}
+use Rattle.ipc_column.proofs.lending.Chunks.{positive_is}
 use Rattle.ipc_column.proofs.offsets.start_at.Goals as goal
 
 pub returns : goal.returns

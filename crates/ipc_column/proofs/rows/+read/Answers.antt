@@ -5,9 +5,9 @@ use Rattle.ipc_column.specs.declared.ranges.ColumnRanges.TheViews.{the_lemmas, o
 use Rattle.ipc_column.specs.Values.{row, items, first_at}
 use Rattle.ipc_column.specs.Views.{part_columns, own_column}
 use Rattle.ipc_column.proofs.Cells.{row_cell, row_more, row_length, items_more}
-use Rattle.ipc_column.proofs.Slots.{slot_value, part_stands, stands_bytes, list_values, fixed_values, struct_values}
-use Rattle.ipc_column.proofs.Slots.{nested_struct}
-use Rattle.ipc_column.proofs.FixedLists.{fixed_have, fixed_items, fixed_place_have, fixed_value}
+use Rattle.ipc_column.proofs.lending.Slots.{slot_value, part_stands, stands_bytes, list_values, fixed_values, struct_values}
+use Rattle.ipc_column.proofs.lending.Slots.{nested_struct}
+use Rattle.ipc_column.proofs.lending.FixedLists.{fixed_have, fixed_items, fixed_place_have, fixed_value}
 use Rattle.ipc_column.proofs.rows.+read.Goals as goal
 
 pub read_first-read_slot-requires : goal.read_first-read_slot-requires

@@ -4,7 +4,7 @@ use Rattle.ipc_model.specs.declared.value.Value.{Value}
 use Rattle.ipc_column.specs.Values.{row}
 use Rattle.ipc_column.specs.Views.{part_columns}
 use Rattle.ipc_column.proofs.Cells.{row_cell, row_more, row_length}
-use Rattle.ipc_column.proofs.Slots.{slot_value, row_values}
+use Rattle.ipc_column.proofs.lending.Slots.{slot_value, row_values}
 use Rattle.ipc_column.proofs.rows.read_row.Goals as goal
 
 pub read_slot-requires : goal.read_slot-requires

@@ -2,7 +2,7 @@ use Rattle.std.proofs.Common.{◌∙◌, sym, ap, Some, arith, ◌+◌, Result, 
 use Rattle.ipc_model.specs.declared.value.Value.{Value}
 use Rattle.ipc_column.specs.Views.{part_columns}
 use Rattle.ipc_column.proofs.Cells.{row_cell}
-use Rattle.ipc_column.proofs.Slots.{row_values, slot_value}
+use Rattle.ipc_column.proofs.lending.Slots.{row_values, slot_value}
 use Rattle.ipc_column.proofs.rows.read_value.Goals as goal
 
 pub read_slot-requires : goal.read_slot-requires

@@ -1,5 +1,5 @@
 use Rattle.std.proofs.Common.{◌≡◌, take}
-use Rattle.ipc_column.specs.Marks.{AreMarked}
+use Rattle.ipc_column.specs.checks.Marks.{AreMarked}
 use Rattle.ipc_column.specs.Views.{part_columns}
 use Rattle.ipc_column.proofs.slot_facts.+mark.Given as goal
 

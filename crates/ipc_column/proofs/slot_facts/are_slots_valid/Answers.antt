@@ -1,6 +1,6 @@
 use Rattle.std.proofs.Common.{◌∙◌, sym, arith}
-use Rattle.ipc_column.proofs.Marking.{own_slots}
-use Rattle.ipc_column.proofs.Visited.{indices_bytes, layout_is, texts_of}
+use Rattle.ipc_column.proofs.visited.Marking.{own_slots}
+use Rattle.ipc_column.proofs.visited.Visited.{indices_bytes, layout_is, texts_of}
 use Rattle.ipc_column.specs.declared.ranges.ColumnRanges.TheViews.{out-ColumnRanges}
 use Rattle.ipc_column.proofs.slot_facts.are_slots_valid.Goals as goal
 

@@ -2,8 +2,8 @@ use Rattle.std.proofs.Common.{List, [], ap, length}
 use Rattle.ipc_model.specs.declared.value.Value.{Value}
 use Rattle.ipc_model.specs.declared.value.Value.TheVariants as v
 use Rattle.ipc_column.specs.Views.{part_columns}
-use Rattle.ipc_column.proofs.FixedLists.{fixed_items, fixed_place_have}
-use Rattle.ipc_column.proofs.Leads.{list_leads, fixed_leads, struct_leads, bytes_rise}
+use Rattle.ipc_column.proofs.lending.FixedLists.{fixed_items, fixed_place_have}
+use Rattle.ipc_column.proofs.visited.Leads.{list_leads, fixed_leads, struct_leads, bytes_rise}
 use Rattle.ipc_column.proofs.slot_view.own_slot.Goals as goal
 
 pub bytes_between-requires-clause-order : goal.bytes_between-requires-clause-order

@@ -3,11 +3,11 @@ use Rattle.std.specs.Prelude.{slice_get}
 use Rattle.ipc_model.specs.declared.layout.Layout.{Layout}
 use Rattle.ipc_column.specs.Lent.{AreOfColumn}
 use Rattle.ipc_column.specs.Nested.{Nested, only_column, slot_values}
-use Rattle.ipc_column.specs.Rules.{SpellsTexts}
+use Rattle.ipc_column.specs.checks.Rules.{SpellsTexts}
 use Rattle.ipc_column.specs.Values.{rows_of}
 use Rattle.ipc_column.specs.Views.{part_columns}
-use Rattle.ipc_column.proofs.Leads.{nested_at}
-use Rattle.ipc_column.proofs.Lent.{layout_at, nested_layouts, slots_found, slots_texts, slots_values}
+use Rattle.ipc_column.proofs.visited.Leads.{nested_at}
+use Rattle.ipc_column.proofs.lending.Lent.{layout_at, nested_layouts, slots_found, slots_texts, slots_values}
 use Rattle.ipc_column.proofs.slot_view.slots_in.Goals as goal
 
 pub slots_of-requires : goal.slots_of-requires

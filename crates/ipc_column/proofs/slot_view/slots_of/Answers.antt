@@ -1,5 +1,5 @@
 use Rattle.std.proofs.Common.{refl}
-use Rattle.ipc_column.proofs.Leads.{found_again}
+use Rattle.ipc_column.proofs.visited.Leads.{found_again}
 use Rattle.ipc_column.proofs.slot_view.slots_of.Goals as goal
 
 pub invariant_of-result : goal.invariant_of-result

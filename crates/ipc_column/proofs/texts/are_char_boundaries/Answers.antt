@@ -1,6 +1,6 @@
 use Rattle.std.proofs.Common.{arith}
 use Rattle.ipc_column.specs.Values.{offset_position}
-use Rattle.ipc_column.proofs.Slices.{above_in, places, cut_more}
+use Rattle.ipc_column.proofs.lending.Slices.{above_in, places, cut_more}
 use Rattle.ipc_column.proofs.texts.are_char_boundaries.Goals as goal
 
 pub start_at-first-requires-clause-positive : goal.start_at-first-requires-clause-positive

@@ -1,4 +1,4 @@
-use Rattle.ipc_column.specs.Checks.{AreCharBoundaries}
+use Rattle.ipc_column.specs.checks.Checks.{AreCharBoundaries}
 use Rattle.ipc_column.proofs.texts.are_char_boundaries.Given as goal
 
 abbrev pub invariant-loop-slot : goal.invariant-loop-slot

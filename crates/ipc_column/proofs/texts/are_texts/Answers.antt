@@ -1,5 +1,5 @@
 use Rattle.std.proofs.Common.{◌≡◌, ◌-◌, [], length, arith}
-use Rattle.ipc_column.proofs.Slices.{above_in, places, whole_good}
+use Rattle.ipc_column.proofs.lending.Slices.{above_in, places, whole_good}
 use Rattle.ipc_column.proofs.texts.are_texts.Goals as goal
 
 pub start_at-requires-clause-positive : goal.start_at-requires-clause-positive

@@ -1,4 +1,4 @@
-use Rattle.ipc_column.proofs.Slices.{utf8_tests}
+use Rattle.ipc_column.proofs.lending.Slices.{utf8_tests}
 use Rattle.ipc_column.proofs.texts.is_text.Goals as goal
 
 pub returns : goal.returns

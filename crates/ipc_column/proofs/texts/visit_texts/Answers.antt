@@ -1,6 +1,6 @@
 use Rattle.std.proofs.Common.{◌∙◌, sym, arith}
-use Rattle.ipc_column.specs.Checks.{text_good}
-use Rattle.ipc_column.proofs.Goods.{slots_more, slots_fail}
+use Rattle.ipc_column.specs.checks.Checks.{text_good}
+use Rattle.ipc_column.proofs.visited.Goods.{slots_more, slots_fail}
 use Rattle.ipc_column.proofs.texts.visit_texts.Goals as goal
 
 pub returns-then-not-visit_text-clause-good : goal.returns-then-not-visit_text-clause-good

@@ -1,5 +1,5 @@
 use Rattle.std.proofs.Common.{◌≡◌, ◌+◌, ◌-◌, true}
-use Rattle.ipc_column.specs.Checks.{all_slots, text_good}
+use Rattle.ipc_column.specs.checks.Checks.{all_slots, text_good}
 use Rattle.ipc_column.proofs.texts.visit_texts.Given as goal
 
 abbrev pub invariant-loop-slot : goal.invariant-loop-slot

@@ -2,7 +2,7 @@ use Rattle.std.proofs.Common.{◌∙◌, sym, ap, arith}
 use Rattle.std.proofs.lemmas.Result.{err_from_is_err_and}
 use Rattle.std.proofs.lemmas.Bool.{and_left}
 use Rattle.ipc_column.specs.Columns.{every}
-use Rattle.ipc_column.specs.Checks.{passes}
+use Rattle.ipc_column.specs.checks.Checks.{passes}
 use Rattle.ipc_column.specs.Views.{part_columns, column_of, children_of}
 use Rattle.ipc_column.proofs.Parts.{children_out, every_from, then_judges}
 use Rattle.ipc_column.proofs.validate.+check_all.Goals as goal

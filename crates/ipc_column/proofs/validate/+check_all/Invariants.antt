@@ -1,7 +1,7 @@
 use Rattle.std.proofs.Common.{◌≡◌, drop}
 use Rattle.ipc_column.specs.declared.cause.Cause.{Cause}
 use Rattle.ipc_column.specs.Columns.{every}
-use Rattle.ipc_column.specs.Checks.{passes}
+use Rattle.ipc_column.specs.checks.Checks.{passes}
 use Rattle.ipc_column.specs.Views.{part_columns}
 use Rattle.ipc_column.proofs.validate.+check_all.Given as goal
 

@@ -3,8 +3,8 @@ use Rattle.std.proofs.lemmas.Bool.{false≢true}
 use Rattle.std.proofs.lemmas.Result.{err_from_is_err_and}
 use Rattle.ipc_column.specs.declared.cause.Cause.TheVariants as cause
 use Rattle.ipc_column.specs.Views.{part_columns}
-use Rattle.ipc_column.proofs.Slots.{row_slots, all_judged, shown_fails, shown_asks}
-use Rattle.ipc_column.proofs.Weights.{weight_most}
+use Rattle.ipc_column.proofs.lending.Slots.{row_slots, all_judged, shown_fails, shown_asks}
+use Rattle.ipc_column.proofs.visited.Weights.{weight_most}
 use Rattle.ipc_column.proofs.validate.check_columns.Goals as goal
 
 pub visit_all-requires-clause-slots : goal.visit_all-requires-clause-slots

@@ -2,9 +2,9 @@ use Rattle.std.proofs.Common.{◌≡◌, ◌∙◌, refl, sym, true}
 use Rattle.std.proofs.lemmas.List.{drop_all}
 use Rattle.ipc_column.specs.declared.cause.Cause.TheVariants as cause
 use Rattle.ipc_column.specs.Columns.{every_top}
-use Rattle.ipc_column.specs.Checks.{top_passes}
+use Rattle.ipc_column.specs.checks.Checks.{top_passes}
 use Rattle.ipc_column.specs.Views.{part_columns}
-use Rattle.ipc_column.proofs.Slots.{tops_judged}
+use Rattle.ipc_column.proofs.lending.Slots.{tops_judged}
 use Rattle.ipc_column.proofs.validate.check_top_nodes.Goals as goal
 
 pub returns-then-same-2 : goal.returns-then-same-2

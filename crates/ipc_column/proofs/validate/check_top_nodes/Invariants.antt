@@ -2,7 +2,7 @@ use Rattle.std.proofs.Common.{◌≡◌, drop}
 use Rattle.std.specs.Prelude.{◌&&◌}
 use Rattle.ipc_column.specs.declared.cause.Cause.TheVariants as cause
 use Rattle.ipc_column.specs.Columns.{every_top}
-use Rattle.ipc_column.specs.Checks.{top_passes}
+use Rattle.ipc_column.specs.checks.Checks.{top_passes}
 use Rattle.ipc_column.specs.Views.{part_columns}
 use Rattle.ipc_column.proofs.validate.check_top_nodes.Given as goal
 

@@ -1,6 +1,6 @@
 use Rattle.std.proofs.Common.{◌≡◌, ℕ, List, drop}
 use Rattle.std.specs.Prelude.{◌&&◌}
-use Rattle.ipc_column.specs.Checks.{have_slots}
+use Rattle.ipc_column.specs.checks.Checks.{have_slots}
 use Rattle.ipc_column.specs.Views.{part_columns}
 use Rattle.ipc_column.proofs.validate.have_slots.Given as goal
 

@@ -1,6 +1,6 @@
 use Rattle.std.proofs.Common.{◌≡◌, ◌∙◌, sym, ap, subst, Bool, true, false, rules, arith, ◌+◌, ◌-◌, drop, length}
 use Rattle.ipc_column.specs.declared.ranges.ColumnRanges.TheViews.{the_lemmas, out-ColumnRanges}
-use Rattle.ipc_column.specs.Checks.{good, good_slot}
+use Rattle.ipc_column.specs.checks.Checks.{good, good_slot}
 use Rattle.ipc_model.specs.Layouts.{needs_slot_checks}
 use Rattle.ipc_column.specs.declared.cause.Cause.{Cause}
 use Rattle.ipc_column.specs.Columns.{Columns}
@@ -8,16 +8,17 @@ use Rattle.std.specs.Prelude.{◌&&◌}
 use Rattle.std.proofs.lemmas.Bool.{and_left}
 use Rattle.std.proofs.lemmas.Result.{err_from_is_err_and}
 use Rattle.ipc_column.specs.Views.{part_columns, one, column_of, children_of}
-use Rattle.ipc_column.proofs.Goods.{slots_more, slots_fail, good_one, good_first}
-use Rattle.ipc_column.proofs.Marks.{known_good, marked_at, marked_below, unknown_below}
+use Rattle.ipc_column.proofs.visited.Goods.{slots_more, slots_fail, good_one, good_first}
+use Rattle.ipc_column.proofs.visited.Marks.{known_good, marked_at, marked_below, unknown_below}
 use Rattle.ipc_column.proofs.Parts.{columns_from}
-use Rattle.ipc_column.proofs.Slots.{slots_first, slots_within, part_long, part_most, bitmap_front}
-use Rattle.ipc_column.proofs.FixedLists.{fixed_place_have, fixed_child}
-use Rattle.ipc_column.proofs.Visited.{layout_is, list_bytes, list_slots, fixed_slots, struct_slots, list_weight, fixed_weight_between}
-use Rattle.ipc_column.proofs.Visited.{struct_weight}
-use Rattle.ipc_column.proofs.Visited.{visited_below, quiet_part, not_judged, good_done}
-use Rattle.ipc_column.proofs.Judged.{list_judged, fixed_judged, struct_judged, slot_null, slot_judged, whole_judged}
-use Rattle.ipc_column.proofs.Weights.{weight_first, room_next, cost_next, cost_all, visited_weight, below_weight}
+use Rattle.ipc_column.proofs.lending.Slots.{slots_first, slots_within, part_long, part_most, bitmap_front}
+use Rattle.ipc_column.proofs.lending.FixedLists.{fixed_place_have, fixed_child}
+use Rattle.ipc_column.proofs.visited.Visited.{layout_is, list_bytes, list_slots, fixed_slots, struct_slots, list_weight}
+use Rattle.ipc_column.proofs.visited.Visited.{fixed_weight_between}
+use Rattle.ipc_column.proofs.visited.Visited.{struct_weight}
+use Rattle.ipc_column.proofs.visited.Visited.{visited_below, quiet_part, not_judged, good_done}
+use Rattle.ipc_column.proofs.visited.Judged.{list_judged, fixed_judged, struct_judged, slot_null, slot_judged, whole_judged}
+use Rattle.ipc_column.proofs.visited.Weights.{weight_first, room_next, cost_next, cost_all, visited_weight, below_weight}
 use Rattle.ipc_column.proofs.visit.+visit.Goals as goal
 
 pub visit_below-place_at-first-requires : goal.visit_below-place_at-first-requires

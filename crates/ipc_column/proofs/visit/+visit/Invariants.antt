@@ -1,10 +1,10 @@
 use Rattle.std.proofs.Common.{◌≡◌, ◌≤◌, ◌+◌, ◌-◌, drop}
 use Rattle.std.specs.Prelude.{true}
 use Rattle.ipc_column.specs.declared.cause.Cause.{Cause}
-use Rattle.ipc_column.specs.Checks.{good, good_slot, all_slots}
+use Rattle.ipc_column.specs.checks.Checks.{good, good_slot, all_slots}
 use Rattle.ipc_column.specs.Lent.{AreSlots}
 use Rattle.ipc_column.specs.Views.{part_columns, one, column_of, children_of}
-use Rattle.ipc_column.specs.Weights.{weight}
+use Rattle.ipc_column.specs.checks.Weights.{weight}
 use Rattle.ipc_column.proofs.visit.+visit.Given as goal
 
 abbrev pub invariant-visit_all-loop-part : goal.invariant-visit_all-loop-part

@@ -1,8 +1,8 @@
 use Rattle.std.proofs.Common.{◌∙◌, sym, arith}
 use Rattle.ipc_column.specs.Views.{column_of, children_of}
-use Rattle.ipc_column.proofs.Slots.{bitmap_upto, part_long, part_most}
-use Rattle.ipc_column.proofs.Visited.{indices_bytes, indices_judged, indices_part, indices_pass_part, visited_judged}
-use Rattle.ipc_column.proofs.Weights.{texts_weight}
+use Rattle.ipc_column.proofs.lending.Slots.{bitmap_upto, part_long, part_most}
+use Rattle.ipc_column.proofs.visited.Visited.{indices_bytes, indices_judged, indices_part, indices_pass_part, visited_judged}
+use Rattle.ipc_column.proofs.visited.Weights.{texts_weight}
 use Rattle.ipc_column.proofs.visit.visit_index_part.Goals as goal
 
 pub visit_indices-requires-clause-bitmap : goal.visit_indices-requires-clause-bitmap

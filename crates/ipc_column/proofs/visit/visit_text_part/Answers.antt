@@ -1,9 +1,9 @@
 use Rattle.std.proofs.Common.{◌∙◌, sym, ap, arith}
 use Rattle.ipc_model.specs.Layouts.{is_texts}
 use Rattle.ipc_column.specs.Views.{column_of, children_of}
-use Rattle.ipc_column.proofs.Slots.{part_long, part_most}
-use Rattle.ipc_column.proofs.Visited.{layout_is, texts_judged, texts_of, texts_part, texts_pass_part, visited_judged}
-use Rattle.ipc_column.proofs.Weights.{texts_weight}
+use Rattle.ipc_column.proofs.lending.Slots.{part_long, part_most}
+use Rattle.ipc_column.proofs.visited.Visited.{layout_is, texts_judged, texts_of, texts_part, texts_pass_part, visited_judged}
+use Rattle.ipc_column.proofs.visited.Weights.{texts_weight}
 use Rattle.ipc_column.proofs.visit.visit_text_part.Goals as goal
 
 pub visit_texts-requires-clause-bitmap : goal.visit_texts-requires-clause-bitmap

@@ -1,4 +1,4 @@
-use Rattle.ipc_dict.proofs.SchemaEntries as law
+use Rattle.ipc_dict.proofs.ids.SchemaEntries as law
 use Rattle.ipc_dict.proofs.schema_ids.entries_of_schema.Goals as goal
 
 pub returns : goal.returns

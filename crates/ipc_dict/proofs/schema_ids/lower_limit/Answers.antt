@@ -1,7 +1,7 @@
 use Rattle.std.proofs.Common.{◌≡◌, ◌∙◌, ap, set, get_or, ℕ}
 use Rattle.std.specs.Prelude.{min}
 use Rattle.ipc_dict.specs.SchemaIds.{index_capacity}
-use Rattle.ipc_dict.proofs.SchemaIds.{absent-with_field, set-with_field}
+use Rattle.ipc_dict.proofs.ids.SchemaIds.{absent-with_field, set-with_field}
 use Rattle.ipc_dict.proofs.schema_ids.lower_limit.Goals as goal
 
 pub returns-in_default-clause-absent : goal.returns-in_default-clause-absent

@@ -1,6 +1,6 @@
 use Rattle.std.proofs.Common.{rules}
 use Rattle.ipc_dict.specs.Planning.{AllSettled}
-use Rattle.ipc_dict.proofs.Ids.{same_ids}
+use Rattle.ipc_dict.proofs.ids.Ids.{same_ids}
 use Rattle.ipc_dict.proofs.Plans.{finds_all, finds_noted, knows_all}
 use Rattle.ipc_dict.proofs.settle.settle.Goals as goal
 

@@ -1,4 +1,4 @@
-use Rattle.ipc_dict.proofs.OneId as law
+use Rattle.ipc_dict.proofs.ids.OneId as law
 use Rattle.ipc_dict.proofs.tally.holds_distinct.Goals as goal
 
 pub returns : goal.returns

@@ -1,7 +1,7 @@
 use Rattle.ipc_model.specs.Layouts.{type_layout}
 use Rattle.ipc_model.specs.declared.schema.Field.{out-Field}
 use Rattle.ipc_column.specs.Nested.{slot_values}
-use Rattle.ipc_column.specs.Plain.{IsShownBy}
+use Rattle.ipc_column.specs.checks.Plain.{IsShownBy}
 use Rattle.ipc_encode.proofs.FittingColumns.{all_at, own_slot, shown_slot, plain_shows}
 use Rattle.ipc_encode.proofs.conforming.leaf_fits.Goals as goal
 

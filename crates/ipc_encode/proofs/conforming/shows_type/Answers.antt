@@ -4,7 +4,7 @@ use Rattle.ipc_model.specs.Layouts.{type_layout}
 use Rattle.ipc_model.specs.declared.layout.Layout.{Layout}
 use Rattle.ipc_model.specs.declared.value.Value.{Value}
 use Rattle.ipc_column.specs.Nested.{slot_values}
-use Rattle.ipc_column.specs.Plain.{IsShownBy}
+use Rattle.ipc_column.specs.checks.Plain.{IsShownBy}
 use Rattle.ipc_encode.proofs.FittingColumns.{indexed_shown}
 use Rattle.ipc_encode.proofs.conforming.shows_type.Goals as goal
 

@@ -2,7 +2,7 @@ use Rattle.std.proofs.Common.{◌∙◌, sym, subst, ℕ, ◌<◌, List, [], len
 use Rattle.std.proofs.lemmas.Result.{on_ok_weaker, IfErr-weaker}
 use Rattle.ipc_model.specs.declared.value.Value.{Value}
 use Rattle.ipc_column.specs.Nested.{only_column, slot_values}
-use Rattle.ipc_column.specs.Rules.{SpellsTexts}
+use Rattle.ipc_column.specs.checks.Rules.{SpellsTexts}
 use Rattle.ipc_column.specs.Shapes.{bare, field, field_children, field_layout}
 use Rattle.ipc_encode.specs.Numbers.{new_indices, index_or_zero}
 use Rattle.ipc_encode.specs.Segments.{AddsColumns, AreRefusedAfter}

@@ -4,7 +4,7 @@ use Rattle.ipc_column.specs.Slots.{value_in_slot}
 use Rattle.ipc_column.specs.Values.{first_of}
 use Rattle.ipc_column.specs.declared.slot_view.Slot.{Slot}
 use Rattle.ipc_column.specs.declared.slot_view.Slot.TheVariants as slot
-use Rattle.ipc_column.proofs.Slots.{items_length}
+use Rattle.ipc_column.proofs.lending.Slots.{items_length}
 use Rattle.ipc_encode.specs.Cells.{items}
 use Rattle.ipc_encode.proofs.NumberSlots.{items_are, no_items}
 use Rattle.ipc_encode.proofs.slot_pushing.item_count.Goals as goal

@@ -4,7 +4,7 @@ use Rattle.ipc_model.specs.declared.layout.Layout.{Layout}
 use Rattle.ipc_model.specs.declared.limits.Limits.{Limits}
 use Rattle.ipc_model.specs.declared.value.Value.{Value}
 use Rattle.ipc_column.specs.Nested.{Nested, only_column, slot_values}
-use Rattle.ipc_column.specs.Rules.{SpellsTexts}
+use Rattle.ipc_column.specs.checks.Rules.{SpellsTexts}
 use Rattle.ipc_column.specs.Shapes.{Shape}
 use Rattle.ipc_column.specs.Slots.{nested_in}
 use Rattle.ipc_encode.specs.Buffers.{child_values}

@@ -1,6 +1,6 @@
 use Rattle.std.proofs.Common.{◌≡◌, ◌∙◌, sym, ap, subst, ℕ, ◌<◌, length, arith}
 use Rattle.ipc_column.specs.Nested.{Nested, only_column, slot_values}
-use Rattle.ipc_column.specs.Rules.{SpellsTexts}
+use Rattle.ipc_column.specs.checks.Rules.{SpellsTexts}
 use Rattle.ipc_encode.proofs.LentBuffers.{buffers_bits}
 use Rattle.ipc_encode.proofs.NestedSlots.{some_same, struct_gives, struct_spells}
 use Rattle.ipc_encode.proofs.whole_columns.structs_use_all_slots.Goals as goal

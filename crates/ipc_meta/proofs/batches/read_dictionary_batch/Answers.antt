@@ -9,7 +9,7 @@ use Rattle.std.proofs.lemmas.Result.{err_from_is_err_and}
 use Rattle.std.specs.Prelude.{pos}
 use Rattle.ipc_scalar.specs.Bytes.{int64}
 use Rattle.ipc_meta.specs.Reached.{dictionary_batch, id, is_delta, values, of_values}
-use Rattle.ipc_meta.proofs.Refused.{bad_number, bad_flag, bad_table, batch_refused}
+use Rattle.ipc_meta.proofs.refused.Refused.{bad_number, bad_flag, bad_table, batch_refused}
 use Rattle.ipc_meta.proofs.batches.read_dictionary_batch.Goals as goal
 use Rattle.ipc_meta.proofs.Binds.{lift_ok}
 

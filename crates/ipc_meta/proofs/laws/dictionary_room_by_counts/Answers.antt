@@ -1,4 +1,4 @@
-use Rattle.ipc_meta.proofs.WrittenOrder.{dictionary_needs}
+use Rattle.ipc_meta.proofs.written.WrittenOrder.{dictionary_needs}
 use Rattle.ipc_meta.proofs.laws.dictionary_room_by_counts.Goals as goal
 
 pub returns : goal.returns

@@ -1,4 +1,4 @@
-use Rattle.ipc_meta.proofs.WrittenOrder.{batch_needs}
+use Rattle.ipc_meta.proofs.written.WrittenOrder.{batch_needs}
 use Rattle.ipc_meta.proofs.laws.room_by_counts.Goals as goal
 
 pub returns : goal.returns

@@ -3,7 +3,7 @@ use Rattle.std.proofs.lemmas.Result.{err_from_is_err_and}
 use Rattle.ipc_scalar.specs.Bytes.{int16}
 use Rattle.ipc_meta.specs.FlatFaults.{map_fault}
 use Rattle.ipc_meta.specs.Reached.{schema, endianness}
-use Rattle.ipc_meta.proofs.Refused.{bad_number}
+use Rattle.ipc_meta.proofs.refused.Refused.{bad_number}
 use Rattle.ipc_meta.proofs.message.check_endianness.Goals as goal
 
 pub returns-in_err-map_fault-clause-refused : goal.returns-in_err-map_fault-clause-refused

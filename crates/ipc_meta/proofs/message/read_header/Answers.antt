@@ -5,7 +5,7 @@ use Rattle.ipc_meta.specs.FlatFaults.{map_fault}
 use Rattle.ipc_meta.proofs.Unique.{dictionary_refused, record_batch_refused}
 use Rattle.ipc_scalar.specs.Bytes.{byte}
 use Rattle.ipc_meta.specs.Reached.{message, header_type, at_header, of_schema, of_dictionary, of_batch, with_batch}
-use Rattle.ipc_meta.proofs.Refused.{bad_number, bad_value}
+use Rattle.ipc_meta.proofs.refused.Refused.{bad_number, bad_value}
 use Rattle.ipc_meta.proofs.message.read_header.Goals as goal
 use Rattle.ipc_meta.proofs.Binds.{lift_ok}
 

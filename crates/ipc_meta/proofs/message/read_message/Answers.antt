@@ -3,7 +3,7 @@ use Rattle.std.proofs.lemmas.Bool.{lt-ltb}
 use Rattle.std.proofs.lemmas.Result.{err_from_is_err_and}
 use Rattle.ipc_meta.specs.FlatFaults.{map_fault}
 use Rattle.ipc_meta.specs.Reached.{of_root, no_root}
-use Rattle.ipc_meta.proofs.Refused.{illegible}
+use Rattle.ipc_meta.proofs.refused.Refused.{illegible}
 use Rattle.ipc_meta.proofs.Texts.{no_table_from}
 use Rattle.ipc_meta.proofs.message.read_message.Goals as goal
 use Rattle.ipc_meta.proofs.Binds.{lift_ok}

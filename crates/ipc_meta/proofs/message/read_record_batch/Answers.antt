@@ -2,7 +2,7 @@ use Rattle.std.proofs.Common.{refl}
 use Rattle.std.proofs.lemmas.Result.{err_from_is_err_and}
 use Rattle.ipc_meta.specs.Reading.{batch_read}
 use Rattle.ipc_meta.proofs.Complete.{batch_complete}
-use Rattle.ipc_meta.proofs.Refused.{batch_refused}
+use Rattle.ipc_meta.proofs.refused.Refused.{batch_refused}
 use Rattle.ipc_meta.proofs.Sound.{batch_sound}
 use Rattle.ipc_meta.proofs.Unique.{batch_one, pairs_same, refused}
 use Rattle.ipc_meta.proofs.message.read_record_batch.Goals as goal

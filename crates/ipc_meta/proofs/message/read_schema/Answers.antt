@@ -5,8 +5,8 @@ use Rattle.ipc_meta.proofs.Sound.{pairs_sound, fields_sound, field_sound}
 use Rattle.ipc_meta.proofs.Complete.{schema_complete}
 use Rattle.ipc_meta.proofs.Unique.{schema_same, refused, fields_refused, check_refused}
 use Rattle.ipc_meta.specs.Reading.{field_read}
-use Rattle.ipc_meta.proofs.RefusedSchemas as told
-use Rattle.ipc_meta.proofs.RefusedFields.{own_pairs_refused, columns_refused}
+use Rattle.ipc_meta.proofs.refused.RefusedSchemas as told
+use Rattle.ipc_meta.proofs.refused.RefusedFields.{own_pairs_refused, columns_refused}
 use Rattle.ipc_meta.proofs.message.read_schema.Goals as goal
 
 pub returns-clause-found : goal.returns-clause-found

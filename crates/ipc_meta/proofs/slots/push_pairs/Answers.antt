@@ -1,6 +1,6 @@
 use Rattle.std.proofs.Common.{◌∙◌, ap, map, arith}
 use Rattle.ipc_meta.specs.Written.{pair_tree}
-use Rattle.ipc_meta.proofs.WrittenTrees.{push_pairs_more}
+use Rattle.ipc_meta.proofs.written.WrittenTrees.{push_pairs_more}
 use Rattle.ipc_meta.proofs.slots.push_pairs.Goals as goal
 
 pub returns-in_ok-push : goal.returns-in_ok-push

@@ -1,4 +1,4 @@
-use Rattle.ipc_meta.proofs.WrittenTrees.{tree_is}
+use Rattle.ipc_meta.proofs.written.WrittenTrees.{tree_is}
 use Rattle.ipc_meta.proofs.slots.table_of.Goals as goal
 
 pub returns : goal.returns

@@ -1,5 +1,5 @@
 use Rattle.std.proofs.Common.{◌∙◌}
-use Rattle.ipc_meta.proofs.WrittenTrees.{field_made}
+use Rattle.ipc_meta.proofs.written.WrittenTrees.{field_made}
 use Rattle.ipc_meta.proofs.trees.field_table.Goals as goal
 
 pub returns : goal.returns

@@ -1,7 +1,7 @@
 use Rattle.std.proofs.Common.{◌∙◌, refl, arith}
 use Rattle.std.specs.Int.{w64}
 use Rattle.std.proofs.Math.Facts.{sfits_to_z, to_z-of_z, to_z_pos}
-use Rattle.ipc_meta.proofs.WrittenTrees.{message_made}
+use Rattle.ipc_meta.proofs.written.WrittenTrees.{message_made}
 use Rattle.ipc_meta.proofs.trees.message_tree.Goals as goal
 
 pub returns : goal.returns

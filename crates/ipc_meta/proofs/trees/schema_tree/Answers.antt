@@ -1,4 +1,4 @@
-use Rattle.ipc_meta.proofs.WrittenTrees.{schema_made}
+use Rattle.ipc_meta.proofs.written.WrittenTrees.{schema_made}
 use Rattle.ipc_meta.proofs.trees.schema_tree.Goals as goal
 
 pub returns : goal.returns

@@ -1,5 +1,5 @@
 use Rattle.std.proofs.Common.{◌∙◌}
-use Rattle.ipc_meta.proofs.WrittenTrees.{dictionary_more}
+use Rattle.ipc_meta.proofs.written.WrittenTrees.{dictionary_more}
 use Rattle.ipc_meta.proofs.type_slots.push_dictionary.Goals as goal
 
 pub returns-in_ok-push : goal.returns-in_ok-push

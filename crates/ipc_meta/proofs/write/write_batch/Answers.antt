@@ -1,7 +1,7 @@
 use Rattle.ipc_model.specs.Entries.{AllowPairs}
 use Rattle.std.proofs.Common.{refl, subst, ℕ, ◌+◌, ◌*◌, ◌/◌, ◌≤◌, length}
-use Rattle.ipc_meta.proofs.WrittenOrder.{batch_ascends}
-use Rattle.ipc_meta.proofs.WrittenAnswers.{ok_then, err_then, batch_states, batch_room_is, batch_refused, not_too_long}
+use Rattle.ipc_meta.proofs.written.WrittenOrder.{batch_ascends}
+use Rattle.ipc_meta.proofs.written.WrittenAnswers.{ok_then, err_then, batch_states, batch_room_is, batch_refused, not_too_long}
 use Rattle.ipc_meta.proofs.write.write_batch.Goals as goal
 
 pub finished_metadata-requires : goal.finished_metadata-requires

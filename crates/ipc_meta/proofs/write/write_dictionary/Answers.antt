@@ -1,7 +1,7 @@
 use Rattle.std.proofs.Common.{subst, ℕ, ◌+◌, ◌*◌, ◌/◌, ◌≤◌, length, arith}
-use Rattle.ipc_meta.proofs.WrittenOrder.{dictionary_ascends}
-use Rattle.ipc_meta.proofs.WrittenAnswers.{ok_then, err_then, dictionary_is, dictionary_states}
-use Rattle.ipc_meta.proofs.WrittenAnswers.{dictionary_room_is, dictionary_refused, dictionary_not_too_long}
+use Rattle.ipc_meta.proofs.written.WrittenOrder.{dictionary_ascends}
+use Rattle.ipc_meta.proofs.written.WrittenAnswers.{ok_then, err_then, dictionary_is, dictionary_states}
+use Rattle.ipc_meta.proofs.written.WrittenAnswers.{dictionary_room_is, dictionary_refused, dictionary_not_too_long}
 use Rattle.ipc_meta.proofs.write.write_dictionary.Goals as goal
 
 pub finished_metadata-requires : goal.finished_metadata-requires

@@ -1,6 +1,6 @@
 use Rattle.std.proofs.Common.{refl, subst, ℕ, ◌+◌, ◌*◌, ◌/◌, ◌≤◌, [], length}
-use Rattle.ipc_meta.proofs.WrittenOrder.{schema_ascends}
-use Rattle.ipc_meta.proofs.WrittenAnswers.{ok_then, err_then, schema_states, schema_room_is, schema_refused}
+use Rattle.ipc_meta.proofs.written.WrittenOrder.{schema_ascends}
+use Rattle.ipc_meta.proofs.written.WrittenAnswers.{ok_then, err_then, schema_states, schema_room_is, schema_refused}
 use Rattle.ipc_meta.proofs.write.write_schema.Goals as goal
 
 pub finished_metadata-requires : goal.finished_metadata-requires

@@ -12,8 +12,8 @@ use Rattle.ipc_encode.specs.Numbers.{no_indices}
 use Rattle.ipc_encode.specs.Weights.{capped, row_weight}
 use Rattle.ipc_encode.proofs.Growing.{refused_more}
 use Rattle.ipc_dict.specs.SchemaIds.{of_fields}
-use Rattle.ipc_dict.proofs.Covered.{covered}
-use Rattle.ipc_dict.proofs.PairsFit.{column_names}
+use Rattle.ipc_dict.proofs.pairs.Covered.{covered}
+use Rattle.ipc_dict.proofs.pairs.PairsFit.{column_names}
 use Rattle.ipc_stream.proofs.WithinLimits.{memory_alone}
 use Rattle.ipc_stream.proofs.messages.plain_parts.Goals as goal
 

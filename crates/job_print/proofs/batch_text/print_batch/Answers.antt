@@ -1,5 +1,5 @@
 use Rattle.std.proofs.lemmas.Result.{err_from_is_err_and}
-use Rattle.job_print.proofs.Heads.{rows_behind}
+use Rattle.job_print.proofs.streams.Heads.{rows_behind}
 use Rattle.job_print.proofs.Puts.{puts_not_more}
 use Rattle.job_print.proofs.batch_text.print_batch.Goals as goal
 

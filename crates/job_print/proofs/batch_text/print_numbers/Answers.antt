@@ -2,7 +2,7 @@ use Rattle.std.proofs.Common.{◌∙◌, ℕ, List, Bor, arith}
 use Rattle.std.proofs.lemmas.List.{take_all}
 use Rattle.std.proofs.lemmas.Result.{err_from_is_err_and}
 use Rattle.job_print.proofs.Lines.{put_at, not_at}
-use Rattle.job_print.proofs.NumberRows.{are_lines, have_lines, same_lines}
+use Rattle.job_print.proofs.numbers.NumberRows.{are_lines, have_lines, same_lines}
 use Rattle.job_print.proofs.Puts.{puts_never}
 use Rattle.job_print.proofs.batch_text.print_numbers.Goals as goal
 

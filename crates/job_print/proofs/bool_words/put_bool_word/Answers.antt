@@ -1,5 +1,5 @@
 use Rattle.std.proofs.Common.{rules, ◌≡◌, length, take, refl}
-use Rattle.job_print.proofs.Truths.{truth_written}
+use Rattle.job_print.proofs.texts.Truths.{truth_written}
 use Rattle.job_print.proofs.bool_words.put_bool_word.Goals as goal
 
 pub returns-clause-text : goal.returns-clause-text

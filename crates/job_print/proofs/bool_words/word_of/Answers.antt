@@ -1,4 +1,4 @@
-use Rattle.job_print.proofs.Truths.{table_word}
+use Rattle.job_print.proofs.texts.Truths.{table_word}
 use Rattle.job_print.proofs.bool_words.word_of.Goals as goal
 
 pub returns : goal.returns

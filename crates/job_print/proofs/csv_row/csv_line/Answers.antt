@@ -1,5 +1,5 @@
 use Rattle.job_print.specs.LentRows.{row_at}
-use Rattle.job_print.proofs.RecordEnds.{row_record}
+use Rattle.job_print.proofs.texts.RecordEnds.{row_record}
 use Rattle.job_print.proofs.csv_row.csv_line.Goals as goal
 
 pub returns-clause-ok : goal.returns-clause-ok

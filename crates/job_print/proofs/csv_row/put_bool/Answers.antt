@@ -1,4 +1,4 @@
-use Rattle.job_print.proofs.Truths.{truth_field}
+use Rattle.job_print.proofs.texts.Truths.{truth_field}
 use Rattle.job_print.proofs.csv_row.put_bool.Goals as goal
 
 pub returns-clause-text : goal.returns-clause-text

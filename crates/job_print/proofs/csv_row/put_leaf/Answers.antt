@@ -1,7 +1,7 @@
 use Rattle.std.proofs.Common.{rules, ap, Some, FitsSigned, w64}
 use Rattle.std.proofs.lemmas.Int.{to_z-of_z}
 use Rattle.ipc_column.specs.declared.slot_view.Slot.TheVariants as slot
-use Rattle.job_print.proofs.SlotTexts.{slot_csv}
+use Rattle.job_print.proofs.texts.SlotTexts.{slot_csv}
 use Rattle.job_print.proofs.csv_row.put_leaf.Goals as goal
 
 pub returns-in-Int-clause-ok : goal.returns-in-Int-clause-ok

@@ -1,6 +1,6 @@
 use Rattle.std.proofs.Common.{ap, Some}
 use Rattle.ipc_column.specs.declared.slot_view.Slot.TheVariants as slot
-use Rattle.job_print.proofs.SlotTexts.{slot_csv, told_csv}
+use Rattle.job_print.proofs.texts.SlotTexts.{slot_csv, told_csv}
 use Rattle.job_print.proofs.csv_row.put_other.Goals as goal
 
 pub returns-in-Text-clause-ok : goal.returns-in-Text-clause-ok

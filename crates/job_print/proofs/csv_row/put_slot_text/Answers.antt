@@ -1,7 +1,7 @@
 use Rattle.std.proofs.Common.{rules, ap, inr, refl, Some, FitsSigned, w64}
 use Rattle.std.proofs.lemmas.Int.{to_z-of_z}
 use Rattle.ipc_column.specs.declared.slot_view.Slot.TheVariants as slot
-use Rattle.job_print.proofs.SlotTexts.{slot_csv}
+use Rattle.job_print.proofs.texts.SlotTexts.{slot_csv}
 use Rattle.job_print.proofs.csv_row.put_slot_text.Goals as goal
 
 pub returns-in_ok-put_null-in-Null-clause-ok : goal.returns-in_ok-put_null-in-Null-clause-ok

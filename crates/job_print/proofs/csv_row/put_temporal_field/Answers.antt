@@ -1,7 +1,7 @@
 use Rattle.std.proofs.Common.{rules, FitsSigned, w64}
 use Rattle.std.proofs.lemmas.Int.{to_z-of_z}
 use Rattle.ipc_text_temporal.specs.Temporals.{temporal_text}
-use Rattle.job_print.proofs.MomentTexts.{field_moment, lacks_moment}
+use Rattle.job_print.proofs.texts.MomentTexts.{field_moment, lacks_moment}
 use Rattle.job_print.proofs.csv_row.put_temporal_field.Goals as goal
 
 pub returns-in-Some-clause-ok : goal.returns-in-Some-clause-ok

@@ -1,4 +1,4 @@
-use Rattle.job_print.proofs.Zeros.{zeros_are}
+use Rattle.job_print.proofs.numbers.Zeros.{zeros_are}
 use Rattle.job_print.proofs.digits.digits_and_zeros.Goals as goal
 
 pub returns-clause-zeros : goal.returns-clause-zeros

@@ -1,5 +1,5 @@
 use Rattle.std.proofs.Common.{◌/◌, ◌%◌, arith}
-use Rattle.job_print.proofs.Parts.{tens_of_quarters}
+use Rattle.job_print.proofs.numbers.Parts.{tens_of_quarters}
 use Rattle.job_print.proofs.digits.in_digits.Goals as goal
 
 pub returns : goal.returns

@@ -1,5 +1,5 @@
 use Rattle.std.proofs.Common.{◌/◌, ◌%◌, arith}
-use Rattle.job_print.proofs.Parts.{hundreds_of_halves}
+use Rattle.job_print.proofs.numbers.Parts.{hundreds_of_halves}
 use Rattle.job_print.proofs.digits.in_pairs.Goals as goal
 
 pub returns : goal.returns

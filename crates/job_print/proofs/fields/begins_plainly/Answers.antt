@@ -1,5 +1,5 @@
 use Rattle.std.proofs.Common.{take}
-use Rattle.job_print.proofs.NullTexts.{plain_chars}
+use Rattle.job_print.proofs.texts.NullTexts.{plain_chars}
 use Rattle.job_print.proofs.fields.begins_plainly.Goals as goal
 
 pub returns : goal.returns

@@ -1,7 +1,7 @@
 use Rattle.std.proofs.Common.{◌≡◌, ◌∙◌, ◌||◌, [], ◌∷◌, true, refl, sym, take}
 use Rattle.csv.specs.Writing.{needs_quotes}
 use Rattle.ipc_text_csv.specs.Dialects.{writer}
-use Rattle.job_print.proofs.Quotes.{backslash_quoted}
+use Rattle.job_print.proofs.texts.Quotes.{backslash_quoted}
 use Rattle.job_print.proofs.fields.put_backslashed.Goals.{then-needs_quotes-via-then-needs_quotes}
 use Rattle.job_print.proofs.fields.put_backslashed.Goals.{then-needs_quotes-via-else-needs_quotes+then-needs_quotes-2}
 use Rattle.job_print.proofs.fields.put_backslashed.Goals as goal

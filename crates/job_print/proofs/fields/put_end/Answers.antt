@@ -1,7 +1,7 @@
 use Rattle.std.proofs.Common.{◌≡◌, ◌<◌, ◌∙◌, ◌++◌, refl, ap, sym, List, ℕ, length, take, arith}
 use Rattle.std.proofs.lemmas.List.{length-take-le}
 use Rattle.ipc_text_csv.proofs.Records.{ended}
-use Rattle.job_print.proofs.RecordEnds.{end_of_none, end_of_some}
+use Rattle.job_print.proofs.texts.RecordEnds.{end_of_none, end_of_some}
 use Rattle.job_print.proofs.fields.put_end.Goals as goal
 
 pub returns-then-at-eq0-clause-ended : goal.returns-then-at-eq0-clause-ended

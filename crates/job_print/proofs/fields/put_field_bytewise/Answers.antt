@@ -1,5 +1,5 @@
 use Rattle.std.proofs.Common.{◌∙◌, sym, take}
-use Rattle.job_print.proofs.Quotes.{field_quoted}
+use Rattle.job_print.proofs.texts.Quotes.{field_quoted}
 use Rattle.job_print.proofs.fields.put_field_bytewise.Goals as goal
 
 pub returns-then-needs_quotes-clause-text : goal.returns-then-needs_quotes-clause-text

@@ -1,5 +1,5 @@
 use Rattle.std.proofs.Common.{append_assoc, get_or, refl, rules}
-use Rattle.job_print.proofs.Quotes.{all_between, between_from}
+use Rattle.job_print.proofs.texts.Quotes.{all_between, between_from}
 use Rattle.job_print.proofs.fields.put_quoted_bytes.Goals as goal
 
 pub loop-byte-preserved : goal.loop-byte-preserved

@@ -1,6 +1,6 @@
 use Rattle.std.proofs.Common.{w64}
 use Rattle.std.proofs.lemmas.Int.{to_z-of_z}
-use Rattle.job_print.proofs.NumberFields.{signed_as_it_stands}
+use Rattle.job_print.proofs.texts.NumberFields.{signed_as_it_stands}
 use Rattle.job_print.proofs.fields.put_signed_field.Goals as goal
 
 pub returns-clause-text : goal.returns-clause-text

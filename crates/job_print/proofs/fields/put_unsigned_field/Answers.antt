@@ -1,4 +1,4 @@
-use Rattle.job_print.proofs.NumberFields.{unsigned_as_it_stands}
+use Rattle.job_print.proofs.texts.NumberFields.{unsigned_as_it_stands}
 use Rattle.job_print.proofs.fields.put_unsigned_field.Goals as goal
 
 pub returns-clause-text : goal.returns-clause-text

@@ -1,4 +1,4 @@
-use Rattle.job_print.proofs.HexDigits.{digits_are}
+use Rattle.job_print.proofs.numbers.HexDigits.{digits_are}
 use Rattle.job_print.proofs.hexadecimal.digits_of.Goals as goal
 
 pub returns : goal.returns

@@ -1,5 +1,5 @@
 use Rattle.std.proofs.Common.{◌≡◌, ◌∙◌, ap, length, get_or, append_assoc, arith, refl, rules}
-use Rattle.job_print.proofs.HexDigits.{digits_from, two_digits, all_digits}
+use Rattle.job_print.proofs.numbers.HexDigits.{digits_from, two_digits, all_digits}
 use Rattle.job_print.proofs.hexadecimal.put_digits.Goals as goal
 
 pub loop-byte-preserved : goal.loop-byte-preserved

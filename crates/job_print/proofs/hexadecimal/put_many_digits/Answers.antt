@@ -1,7 +1,7 @@
 use Rattle.std.proofs.Common.{◌≡◌, ◌∙◌, ◌*◌, ap, arith, length, rules}
 use Rattle.hex.specs.Hex.{lower_digits}
 use Rattle.hex.proofs.HexLemmas.{length-encode_with}
-use Rattle.job_print.proofs.HexDigits.{sixteen_written}
+use Rattle.job_print.proofs.numbers.HexDigits.{sixteen_written}
 use Rattle.job_print.proofs.hexadecimal.put_many_digits.Goals as goal
 
 pub loop-first-preserved : goal.loop-first-preserved

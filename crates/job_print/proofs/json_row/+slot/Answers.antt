@@ -1,12 +1,12 @@
 use Rattle.std.proofs.Common.{rules, arith, ◌+◌, FitsSigned, w64}
 use Rattle.std.proofs.lemmas.Int.{to_z-of_z}
 use Rattle.ipc_column.specs.declared.slot_view.Slot.TheVariants as slot
-use Rattle.ipc_column.proofs.Slots.{items_at}
+use Rattle.ipc_column.proofs.lending.Slots.{items_at}
 use Rattle.ipc_text_json.specs.RowJson.{cell_json}
 use Rattle.job_print.specs.LentSlots.{slot_value}
-use Rattle.job_print.proofs.CellTexts.{cell_written, item_written, no_values}
+use Rattle.job_print.proofs.texts.CellTexts.{cell_written, item_written, no_values}
 use Rattle.ipc_model.specs.declared.schema.Field.TheViews.{the_lemmas}
-use Rattle.job_print.proofs.SlotTexts.{children_done, list_child, list_nulls, slot_json, slots_done, struct_child}
+use Rattle.job_print.proofs.texts.SlotTexts.{children_done, list_child, list_nulls, slot_json, slots_done, struct_child}
 use Rattle.job_print.proofs.json_row.+slot.Goals as goal
 
 pub put_slot-returns-in-Utf8-clause-text : goal.put_slot-returns-in-Utf8-clause-text

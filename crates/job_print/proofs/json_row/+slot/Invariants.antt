@@ -4,7 +4,7 @@ use Rattle.ipc_column.specs.Nested.{child_columns}
 use Rattle.ipc_column.specs.Values.{row}
 use Rattle.ipc_text_json.specs.RowJson.{cell_json, items_json, row_field, values_json}
 use Rattle.job_print.specs.LentSlots.{values_between}
-use Rattle.job_print.proofs.CellTexts.{text_behind}
+use Rattle.job_print.proofs.texts.CellTexts.{text_behind}
 use Rattle.job_print.proofs.json_row.+slot.Given as goal
 
 -- the first of the slots were written

@@ -1,4 +1,4 @@
-use Rattle.job_print.proofs.Truths.{truth_json}
+use Rattle.job_print.proofs.texts.Truths.{truth_json}
 use Rattle.job_print.proofs.json_row.put_bool.Goals as goal
 
 pub returns-clause-text : goal.returns-clause-text

@@ -1,5 +1,5 @@
 use Rattle.std.proofs.Common.{append_assoc, refl}
-use Rattle.job_print.proofs.OwnBytes.{own_digits}
+use Rattle.job_print.proofs.texts.OwnBytes.{own_digits}
 use Rattle.job_print.proofs.json_row.put_bytes.Goals as goal
 
 pub returns-clause-text : goal.returns-clause-text

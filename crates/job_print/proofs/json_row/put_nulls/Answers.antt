@@ -2,8 +2,8 @@ use Rattle.std.proofs.Common.{arith, replicate}
 use Rattle.std.specs.Prelude.{nat_lt}
 use Rattle.ipc_model.specs.declared.value.Value.TheVariants as v
 use Rattle.ipc_text_json.specs.RowJson.{cell_json}
-use Rattle.job_print.proofs.CellTexts.{item_written}
-use Rattle.job_print.proofs.SlotTexts.{json_null, later_next, repeated_at}
+use Rattle.job_print.proofs.texts.CellTexts.{item_written}
+use Rattle.job_print.proofs.texts.SlotTexts.{json_null, later_next, repeated_at}
 use Rattle.job_print.proofs.json_row.put_nulls.Goals as goal
 
 pub loop-number-preserved : goal.loop-number-preserved

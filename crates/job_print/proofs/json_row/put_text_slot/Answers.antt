@@ -1,5 +1,5 @@
 use Rattle.ipc_column.specs.declared.slot_view.Slot.TheVariants as slot
-use Rattle.job_print.proofs.SlotTexts.{slot_json, told_json}
+use Rattle.job_print.proofs.texts.SlotTexts.{slot_json, told_json}
 use Rattle.job_print.proofs.json_row.put_text_slot.Goals as goal
 
 pub returns-in-Some-clause-text : goal.returns-in-Some-clause-text

@@ -1,7 +1,7 @@
 use Rattle.std.proofs.Common.{◌∙◌, rules, arith, FitsSigned, w64, refl}
 use Rattle.std.proofs.lemmas.Int.{to_z-of_z}
 use Rattle.ipc_text_temporal.specs.Temporals.{temporal_text}
-use Rattle.job_print.proofs.MomentTexts.{shown_moment, shown_number, before_byte}
+use Rattle.job_print.proofs.texts.MomentTexts.{shown_moment, shown_number, before_byte}
 use Rattle.job_print.proofs.json_row.write_temporal.Goals as goal
 
 pub returns-in-Some-clause-text : goal.returns-in-Some-clause-text

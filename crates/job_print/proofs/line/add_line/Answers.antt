@@ -1,6 +1,6 @@
 use Rattle.std.proofs.Common.{◌∙◌, ap, refl, List, ℕ, ◌++◌, take}
 use Rattle.std.proofs.lemmas.Slice.{take-put_mid}
-use Rattle.job_print.proofs.Truths.{front_written}
+use Rattle.job_print.proofs.texts.Truths.{front_written}
 use Rattle.job_print.proofs.line.add_line.Goals as goal
 
 pub returns-clause-text : goal.returns-clause-text

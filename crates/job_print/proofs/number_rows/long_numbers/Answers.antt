@@ -1,5 +1,5 @@
 use Rattle.std.proofs.Common.{sym, ◌∙◌}
-use Rattle.job_print.proofs.Lanes.{lane_from}
+use Rattle.job_print.proofs.numbers.Lanes.{lane_from}
 use Rattle.job_print.proofs.number_rows.long_numbers.Goals as goal
 
 pub returns-in-B64 : goal.returns-in-B64

@@ -1,5 +1,5 @@
 use Rattle.std.proofs.Common.{ℕ, List, Bor}
-use Rattle.job_print.proofs.Lanes.{lent_more}
+use Rattle.job_print.proofs.numbers.Lanes.{lent_more}
 use Rattle.job_print.proofs.number_rows.numbers_of.Goals as goal
 
 pub loop-column-preserved : goal.loop-column-preserved

@@ -1,5 +1,5 @@
 use Rattle.std.proofs.Common.{ℕ, List, Bor}
-use Rattle.job_print.proofs.Lanes.{LentSome}
+use Rattle.job_print.proofs.numbers.Lanes.{LentSome}
 use Rattle.job_print.proofs.number_rows.numbers_of.Given as goal
 
 -- the first columns lend their numbers

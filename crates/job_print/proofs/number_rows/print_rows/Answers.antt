@@ -1,7 +1,7 @@
 use Rattle.std.proofs.Common.{ℕ, List, ap, arith, Bor, length}
 use Rattle.std.proofs.lemmas.Result.{err_from_is_err_and}
 use Rattle.job_print.specs.Columns.{number_line}
-use Rattle.job_print.proofs.Lanes.{long_less}
+use Rattle.job_print.proofs.numbers.Lanes.{long_less}
 use Rattle.job_print.proofs.Lines.{rows_next, rows_cut, rows_end, put_at, not_at}
 use Rattle.job_print.proofs.number_rows.print_rows.Goals as goal
 

@@ -5,7 +5,7 @@ use Rattle.ipc_model.specs.declared.value.Value.TheVariants.{Int}
 use Rattle.std.specs.Fmt.{signed_decimal}
 use Rattle.job_print.specs.Columns.{delimiter_of, opening_of, row_in, separator}
 use Rattle.job_print.proofs.Shown.{all_at}
-use Rattle.job_print.proofs.NumberRows.{longer, number_written, rest, row_written, some_digits}
+use Rattle.job_print.proofs.numbers.NumberRows.{longer, number_written, rest, row_written, some_digits}
 use Rattle.job_print.proofs.number_rows.put_row.Goals as goal
 
 abbrev at : Bor (List (List ℕ)) → List (List ℕ)

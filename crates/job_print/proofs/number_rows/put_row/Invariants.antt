@@ -1,6 +1,6 @@
 use Rattle.std.proofs.Common.{◌≡◌, ◌≤◌, ◌+◌, ◌-◌, ◌*◌, ◌++◌, ℕ, List, Bor, length, take, drop}
 use Rattle.job_print.specs.Columns.{opening_of, row_in}
-use Rattle.job_print.proofs.NumberRows.{rest}
+use Rattle.job_print.proofs.numbers.NumberRows.{rest}
 use Rattle.job_print.proofs.number_rows.put_row.Given as goal
 
 -- the first numbers were written, and there is room for the rest

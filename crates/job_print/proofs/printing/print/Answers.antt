@@ -1,9 +1,9 @@
 use Rattle.std.proofs.Common.{◌∙◌, sym, inl, None, Err}
 use Rattle.ipc_stream.proofs.Reporting.{unopened_to}
 use Rattle.job_print.specs.declared.stop.PrintStop.TheVariants.{Read}
-use Rattle.job_print.proofs.Held.{printed_closed, printed_marked, stream_tells}
-use Rattle.job_print.proofs.Limited.{printed_first}
-use Rattle.job_print.proofs.Streams.{part_of, prints_all, prints_none}
+use Rattle.job_print.proofs.streams.Held.{printed_closed, printed_marked, stream_tells}
+use Rattle.job_print.proofs.streams.Limited.{printed_first}
+use Rattle.job_print.proofs.streams.Streams.{part_of, prints_all, prints_none}
 use Rattle.job_print.proofs.printing.print.Goals as goal
 
 pub returns-in-Ok-clause-prints : goal.returns-in-Ok-clause-prints

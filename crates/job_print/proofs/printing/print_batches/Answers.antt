@@ -4,8 +4,8 @@ use Rattle.ipc_model.specs.declared.schema.Schema.{Schema}
 use Rattle.ipc_stream.proofs.Reporting.{progressed_all, progressed_break, progressed_end, progressed_less, progressed_more}
 use Rattle.ipc_stream.proofs.Reporting.{progressed_none}
 use Rattle.job_print.specs.Output.{output}
-use Rattle.job_print.proofs.BatchesRead.{batches_none, batches_limited, batches_more, batches_cut, batches_unsent}
-use Rattle.job_print.proofs.BatchesRead.{batches_refused, batches_end, batches_unmarked, batches_break}
+use Rattle.job_print.proofs.streams.BatchesRead.{batches_none, batches_limited, batches_more, batches_cut, batches_unsent}
+use Rattle.job_print.proofs.streams.BatchesRead.{batches_refused, batches_end, batches_unmarked, batches_break}
 use Rattle.job_print.proofs.printing.print_batches.Goals as goal
 
 pub loop-form-init : goal.loop-form-init

@@ -2,9 +2,9 @@ use Rattle.std.proofs.Common.{Ok, Err, refl}
 use Rattle.std.proofs.lemmas.Result.{err_from_is_err_and}
 use Rattle.ipc_stream.proofs.Reporting.{opened_some}
 use Rattle.job_print.specs.Output.{output}
-use Rattle.job_print.proofs.Endings.{behind_front, flushed, unflushed, tail_cut}
+use Rattle.job_print.proofs.streams.Endings.{behind_front, flushed, unflushed, tail_cut}
 use Rattle.job_print.proofs.FrontPuts.{part_none, part_front, front_sent, front_unsent}
-use Rattle.job_print.proofs.Reporting.{outcome_some}
+use Rattle.job_print.proofs.streams.Reporting.{outcome_some}
 use Rattle.job_print.proofs.printing.print_stream.Goals as goal
 
 pub returns-in_err-lines-clause-prints : goal.returns-in_err-lines-clause-prints

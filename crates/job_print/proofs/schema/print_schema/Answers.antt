@@ -1,6 +1,6 @@
 use Rattle.std.proofs.Common.{refl}
 use Rattle.std.proofs.KnownBytes.{Keeps-refl}
-use Rattle.job_print.proofs.Streams.{schema_printed, schema_cut}
+use Rattle.job_print.proofs.streams.Streams.{schema_printed, schema_cut}
 use Rattle.job_print.proofs.schema.print_schema.Goals as goal
 
 pub returns-in-Ok-send_schema-clause-prints : goal.returns-in-Ok-send_schema-clause-prints

@@ -1,6 +1,6 @@
 use Rattle.std.proofs.Common.{◌≡◌, ◌+◌, ◌++◌, take, append_assoc, refl, arith}
 use Rattle.json.specs.Print.{escape, quoted}
-use Rattle.job_print.proofs.OwnBytes.{where_own}
+use Rattle.job_print.proofs.texts.OwnBytes.{where_own}
 use Rattle.job_print.proofs.strings.put_few_plain.Goals as goal
 
 pub returns-clause-text : goal.returns-clause-text

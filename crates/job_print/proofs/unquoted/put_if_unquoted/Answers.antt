@@ -1,4 +1,4 @@
-use Rattle.job_print.proofs.SetApart.{none_on_true}
+use Rattle.job_print.proofs.texts.SetApart.{none_on_true}
 use Rattle.job_print.proofs.unquoted.put_if_unquoted.Goals as goal
 
 pub returns-clause-none : goal.returns-clause-none

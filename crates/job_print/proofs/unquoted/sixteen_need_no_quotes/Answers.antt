@@ -1,5 +1,5 @@
 use Rattle.std.proofs.Common.{arith}
-use Rattle.job_print.proofs.SetApart.{none_in_lanes}
+use Rattle.job_print.proofs.texts.SetApart.{none_in_lanes}
 use Rattle.job_print.proofs.unquoted.sixteen_need_no_quotes.Goals as goal
 
 pub returns : goal.returns

@@ -1,7 +1,7 @@
 use Rattle.std.proofs.Common.{◌∙◌, sym, ap, subst, length, ◌-◌, ◌<◌, ℕ}
 use Rattle.ipc_column.specs.Values.{Cells, first_at}
 use Rattle.ipc_column.specs.Views.{part_columns}
-use Rattle.ipc_column.proofs.Slots.{items_length}
+use Rattle.ipc_column.proofs.lending.Slots.{items_length}
 use Rattle.ipc_column.proofs.cell.ListCell.at.Goals as goal
 
 pub item_at-requires-clause-inside : goal.item_at-requires-clause-inside

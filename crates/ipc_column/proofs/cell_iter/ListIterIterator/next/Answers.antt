@@ -2,7 +2,7 @@ use Rattle.std.proofs.Common.{◌∙◌, sym, ap, List, length, arith}
 use Rattle.ipc_model.specs.declared.value.Value.{Value}
 use Rattle.ipc_column.specs.Values.{first_at}
 use Rattle.ipc_column.specs.Views.{part_columns}
-use Rattle.ipc_column.proofs.CellIters.{have_next, items_then}
+use Rattle.ipc_column.proofs.lending.CellIters.{have_next, items_then}
 use Rattle.ipc_column.proofs.cell_iter.ListIterIterator.next.Goals as goal
 
 pub invariant_of-self : goal.invariant_of-self

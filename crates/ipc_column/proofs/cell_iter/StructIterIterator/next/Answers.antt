@@ -1,5 +1,5 @@
 use Rattle.std.proofs.Common.{◌≡◌, ◌+◌, ◌∷◌, rules, arith}
-use Rattle.ipc_column.proofs.CellIters.{have_first, have_others}
+use Rattle.ipc_column.proofs.lending.CellIters.{have_first, have_others}
 use Rattle.ipc_column.proofs.cell_iter.StructIterIterator.next.Goals as goal
 
 pub cell_at-cell-requires : goal.cell_at-cell-requires

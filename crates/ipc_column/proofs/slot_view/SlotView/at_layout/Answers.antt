@@ -7,8 +7,8 @@ use Rattle.ipc_column.specs.Nested.{Nested, child_columns}
 use Rattle.ipc_column.specs.Slots.{HasChildSlots, value_in_slot}
 use Rattle.ipc_column.specs.Values.{own_value, row}
 use Rattle.ipc_column.specs.Views.{part_columns}
-use Rattle.ipc_column.proofs.Leads.{order_any, long_any, slot_inside, slot_shows}
-use Rattle.ipc_column.proofs.Slots.{bitmap_front}
+use Rattle.ipc_column.proofs.visited.Leads.{order_any, long_any, slot_inside, slot_shows}
+use Rattle.ipc_column.proofs.lending.Slots.{bitmap_front}
 use Rattle.ipc_column.proofs.slot_view.SlotView.at_layout.Goals as goal
 
 pub is_valid-requires : goal.is_valid-requires

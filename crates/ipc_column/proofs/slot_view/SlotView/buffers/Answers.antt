@@ -1,7 +1,7 @@
 use Rattle.std.proofs.Common.{ap, subst}
 use Rattle.ipc_column.specs.Lent.{AreFound}
 use Rattle.ipc_column.specs.Nested.{Nested, child_columns}
-use Rattle.ipc_column.proofs.Lendings.{found_children, found_long, found_order}
+use Rattle.ipc_column.proofs.lending.Lendings.{found_children, found_long, found_order}
 use Rattle.ipc_column.proofs.slot_view.SlotView.buffers.Goals as goal
 
 pub returns : goal.returns

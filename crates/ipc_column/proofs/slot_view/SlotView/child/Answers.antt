@@ -5,7 +5,7 @@ use Rattle.ipc_column.specs.Lent.{AreFound}
 use Rattle.ipc_column.specs.Nested.{Nested}
 use Rattle.ipc_column.specs.Slots.{nested, nested_in}
 use Rattle.ipc_column.specs.Views.{column_of, children_of}
-use Rattle.ipc_column.proofs.Leads.{child_found, nested_at}
+use Rattle.ipc_column.proofs.visited.Leads.{child_found, nested_at}
 use Rattle.ipc_column.proofs.slot_view.SlotView.child.Goals as goal
 
 pub slots_of-requires : goal.slots_of-requires

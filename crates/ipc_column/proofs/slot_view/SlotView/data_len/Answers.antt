@@ -2,8 +2,8 @@ use Rattle.std.proofs.Common.{◌≡◌, ◌≤◌, subst, length, true}
 use Rattle.ipc_column.specs.Dictionaries.{has_no_children}
 use Rattle.ipc_column.specs.Lent.{column_of_buffers}
 use Rattle.ipc_column.specs.Nested.{Nested, slot_values}
-use Rattle.ipc_column.specs.Plain.{text_bytes_len}
-use Rattle.ipc_column.specs.Rules.{HoldValues}
+use Rattle.ipc_column.specs.checks.Plain.{text_bytes_len}
+use Rattle.ipc_column.specs.checks.Rules.{HoldValues}
 use Rattle.ipc_column.specs.Views.{part_columns}
 use Rattle.ipc_column.proofs.Plain.{has_room, all_spelled}
 use Rattle.ipc_column.proofs.slot_view.SlotView.data_len.Goals as goal

@@ -11,11 +11,11 @@ use Rattle.ipc_column.specs.Nested.{Nested, slot_values}
 use Rattle.ipc_column.specs.Values.{is_valid, number_in, own_value, place_below, row, value_at}
 use Rattle.ipc_column.specs.Views.{part_columns}
 use Rattle.ipc_column.proofs.Alone.{index_value, index_within, no_value}
-use Rattle.ipc_column.proofs.Lendings.{entry_held, null_holds, other_holds}
+use Rattle.ipc_column.proofs.lending.Lendings.{entry_held, null_holds, other_holds}
 use Rattle.ipc_column.specs.Lending.{HoldsEntry}
-use Rattle.ipc_column.proofs.Leads.{slot_inside, slot_shows}
-use Rattle.ipc_column.proofs.Slots.{bitmap_front}
-use Rattle.ipc_column.proofs.Widths.{slot_inside as width_inside}
+use Rattle.ipc_column.proofs.visited.Leads.{slot_inside, slot_shows}
+use Rattle.ipc_column.proofs.lending.Slots.{bitmap_front}
+use Rattle.ipc_column.proofs.lending.Widths.{slot_inside as width_inside}
 use Rattle.ipc_column.proofs.slot_view.SlotView.entry_at.Goals as goal
 
 pub is_valid-valid-requires : goal.is_valid-valid-requires

@@ -6,8 +6,8 @@ use Rattle.ipc_column.specs.Lent.{column_of_buffers}
 use Rattle.ipc_column.specs.Slots.{is_null}
 use Rattle.ipc_column.specs.Values.{row}
 use Rattle.ipc_column.specs.Views.{part_columns}
-use Rattle.ipc_column.proofs.Leads.{nothing_shown, null_slot, slot_inside, slot_shows}
-use Rattle.ipc_column.proofs.Slots.{bitmap_front}
+use Rattle.ipc_column.proofs.visited.Leads.{nothing_shown, null_slot, slot_inside, slot_shows}
+use Rattle.ipc_column.proofs.lending.Slots.{bitmap_front}
 use Rattle.ipc_column.proofs.slot_view.SlotView.is_null.Goals as goal
 
 pub is_valid-requires : goal.is_valid-requires

@@ -1,6 +1,6 @@
 use Rattle.std.proofs.Common.{subst}
 use Rattle.ipc_column.specs.Nested.{Nested, slot_values}
-use Rattle.ipc_column.specs.Plain.{IsShownBy}
+use Rattle.ipc_column.specs.checks.Plain.{IsShownBy}
 use Rattle.std.specs.List.{AllByRecursion}
 use Rattle.ipc_column.specs.Lent.{column_of_buffers}
 use Rattle.ipc_column.specs.Views.{part_columns}

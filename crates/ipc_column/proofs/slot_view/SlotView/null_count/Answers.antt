@@ -4,7 +4,7 @@ use Rattle.ipc_column.specs.Lent.{column_of_buffers}
 use Rattle.ipc_column.specs.Nested.{Nested, slot_values}
 use Rattle.ipc_column.specs.Values.{row, value_of}
 use Rattle.ipc_column.specs.Views.{part_columns}
-use Rattle.ipc_column.proofs.Slots.{items_length}
+use Rattle.ipc_column.proofs.lending.Slots.{items_length}
 use Rattle.ipc_column.proofs.slot_view.SlotView.null_count.Goals as goal
 
 pub returns-clause-with_bitmap : goal.returns-clause-with_bitmap

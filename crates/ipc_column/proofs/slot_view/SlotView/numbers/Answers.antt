@@ -2,7 +2,7 @@ use Rattle.std.proofs.Common.{◌∙◌, sym, ap, refl}
 use Rattle.ipc_column.specs.Lending.{are_numbers}
 use Rattle.ipc_column.specs.Lent.{column_of_buffers}
 use Rattle.ipc_column.specs.Nested.{Nested}
-use Rattle.ipc_column.proofs.Lent.{lent_numbers}
+use Rattle.ipc_column.proofs.lending.Lent.{lent_numbers}
 use Rattle.ipc_column.proofs.slot_view.SlotView.numbers.Goals as goal
 
 pub returns-in-Numbers-clause-lent : goal.returns-in-Numbers-clause-lent

@@ -5,8 +5,8 @@ use Rattle.ipc_column.specs.Lent.{column_of_buffers}
 use Rattle.ipc_column.specs.Nested.{Nested}
 use Rattle.ipc_column.specs.Values.{own_value, row}
 use Rattle.ipc_column.specs.Views.{part_columns}
-use Rattle.ipc_column.proofs.Leads.{slot_inside, slot_shows}
-use Rattle.ipc_column.proofs.Slots.{bitmap_front}
+use Rattle.ipc_column.proofs.visited.Leads.{slot_inside, slot_shows}
+use Rattle.ipc_column.proofs.lending.Slots.{bitmap_front}
 use Rattle.ipc_model.specs.declared.layout.Layout.TheVariants as l
 use Rattle.std.specs.Prelude.{true}
 use Rattle.ipc_column.proofs.slot_view.SlotView.text_at.Goals as goal

@@ -5,7 +5,7 @@ use Rattle.ipc_column.specs.Lent.{column_of_buffers}
 use Rattle.ipc_column.specs.Values.{Cells, row, value_of}
 use Rattle.ipc_column.specs.Views.{part_columns}
 use Rattle.ipc_column.proofs.Found.{items_first}
-use Rattle.ipc_column.proofs.Slots.{items_length}
+use Rattle.ipc_column.proofs.lending.Slots.{items_length}
 use Rattle.ipc_column.proofs.view.ColumnView.at.Goals as goal
 
 pub cell_of_slot-requires-clause-slot : goal.cell_of_slot-requires-clause-slot

@@ -2,7 +2,7 @@ use Rattle.std.proofs.Common.{◌∙◌, sym, ap, length}
 use Rattle.ipc_column.specs.Lent.{column_of_buffers}
 use Rattle.ipc_column.specs.Values.{Cells, row, value_of}
 use Rattle.ipc_column.specs.Views.{part_columns}
-use Rattle.ipc_column.proofs.Slots.{items_length}
+use Rattle.ipc_column.proofs.lending.Slots.{items_length}
 use Rattle.ipc_column.proofs.view.ColumnView.len.Goals as goal
 
 pub returns : goal.returns

@@ -1,5 +1,5 @@
 use Rattle.ipc_column.specs.Lent.{column_of_buffers}
-use Rattle.ipc_column.proofs.Leads.{slots_spell}
+use Rattle.ipc_column.proofs.visited.Leads.{slots_spell}
 use Rattle.ipc_column.proofs.view.ColumnView.slots.Goals as goal
 
 pub returns-clause-values : goal.returns-clause-values

@@ -3,7 +3,7 @@ use Rattle.std.proofs.Math.Seq.{take-append_seam}
 use Rattle.ipc_dict.specs.PlanState.{PlanState}
 use Rattle.ipc_dict.specs.SchemaIds.{kept_ids, tally_ids}
 use Rattle.ipc_dict.specs.Sending.{AreAddressed, AreCounted}
-use Rattle.ipc_dict.proofs.Ids.{ids_after_all}
+use Rattle.ipc_dict.proofs.ids.Ids.{ids_after_all}
 use Rattle.ipc_dict.proofs.Sending.{counted_plan}
 use Rattle.ipc_dict.proofs.plan.Plan.commit.Goals as goal
 

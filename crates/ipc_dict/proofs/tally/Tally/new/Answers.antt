@@ -8,7 +8,7 @@ use Rattle.ipc_dict.specs.Noting.{AllFit}
 use Rattle.ipc_dict.specs.SchemaIds.{tally_bounds, empty_entries}
 use Rattle.ipc_dict.specs.Within.{AllWithin}
 use Rattle.ipc_dict.proofs.EntryColumns.{counted_within}
-use Rattle.ipc_dict.proofs.SchemaIds.{fit-unused}
+use Rattle.ipc_dict.proofs.ids.SchemaIds.{fit-unused}
 use Rattle.ipc_dict.proofs.tally.Tally.new.Goals as goal
 
 -- columns that count entries, where these are seen in another way

@@ -4,7 +4,7 @@ use Rattle.ipc_dict.specs.SchemaIds.{ids_of, tally_ids, empty_entries}
 use Rattle.ipc_dict.specs.Sending.{AreAddressed}
 use Rattle.ipc_dict.specs.TallyState.{TallyState}
 use Rattle.ipc_dict.specs.Within.{AllWithin}
-use Rattle.ipc_dict.proofs.CoveredIndices.{addressed, bounds_ids}
+use Rattle.ipc_dict.proofs.pairs.CoveredIndices.{addressed, bounds_ids}
 use Rattle.ipc_dict.proofs.EntryColumns.{counted_within}
 use Rattle.ipc_dict.proofs.tally.Tally.settle.Goals as goal
 

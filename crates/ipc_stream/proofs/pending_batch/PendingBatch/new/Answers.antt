@@ -6,7 +6,7 @@ use Rattle.ipc_dict.specs.Noting.{place_of_value}
 use Rattle.ipc_dict.specs.Sending.{tally_of_rows}
 use Rattle.ipc_dict.specs.TallyState.{TallyState}
 use Rattle.ipc_dict.specs.Within.{AllWithin}
-use Rattle.ipc_dict.proofs.SchemaIds.{fit-unused}
+use Rattle.ipc_dict.proofs.ids.SchemaIds.{fit-unused}
 use Rattle.ipc_stream.proofs.pending_batch.PendingBatch.new.Goals as goal
 
 pub returns-clause-holds : goal.returns-clause-holds

@@ -1,0 +1,9 @@
+pub mod Goods
+pub mod Shown
+pub mod Visits
+pub mod Weights
+pub mod Visited
+pub mod Marks
+pub mod Marking
+pub mod Leads
+pub mod Judged

@@ -1,0 +1,5 @@
+pub mod Rules
+pub mod Checks
+pub mod Weights
+pub mod Marks
+pub mod Plain

@@ -1,0 +1,5 @@
+pub mod CoveredIndices
+pub mod CoveredColumns
+pub mod Covered
+pub mod PairsFitEntries
+pub mod PairsFit

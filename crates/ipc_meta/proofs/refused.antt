@@ -1,0 +1,4 @@
+pub mod Refused
+pub mod RefusedTypes
+pub mod RefusedFields
+pub mod RefusedSchemas

@@ -1,0 +1,10 @@
+pub mod Endings
+pub mod FirstRows
+pub mod Heads
+pub mod Messages
+pub mod BatchesRead
+pub mod Reporting
+pub mod Streams
+pub mod Held
+pub mod Shortest
+pub mod Limited

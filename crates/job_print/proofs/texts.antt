@@ -1,0 +1,11 @@
+pub mod CellTexts
+pub mod MomentTexts
+pub mod NumberFields
+pub mod NullTexts
+pub mod OwnBytes
+pub mod RecordEnds
+pub mod SetApart
+pub mod Texts
+pub mod SlotTexts
+pub mod Quotes
+pub mod Truths
