@@ -32,8 +32,8 @@ fn collect_words(alloc: Global, words: Args) -> Result<Vec<String>, AllocError> 
 }
 
 // What the command line asks for.
-fn read_invocation(rt: &HostRuntime) -> Result<Invocation, Usage>
-    ensures { IfOk result (λ asked. HasGoodSize asked.job) }
+fn read_command_line(rt: &HostRuntime) -> Result<Invocation, Usage>
+    ensures { IfOk result (λ invocation. HasGoodSize invocation.job) }
 {
     match env::args(rt) {
         Ok(words) => read_words(rt.alloc(), collect_words(rt.alloc(), words)?),
@@ -67,10 +67,10 @@ fn ask_input(rt: &HostRuntime) -> Result<(), Usage> {
 fn read_invocation_and_schema(rt: &HostRuntime) -> Result<(Invocation, SchemaFile), Usage>
     ensures { IfOk result (λ read. HasGoodSize read.0.job) }
 {
-    let asked = read_invocation(rt)?;
+    let invocation = read_command_line(rt)?;
     ask_input(rt)?;
-    let schema = open_schema(rt, &asked.job)?;
-    Ok((asked, schema))
+    let schema = open_schema(rt, &invocation.job)?;
+    Ok((invocation, schema))
 }
 
 // Prints why there is no job, and returns the exit status.
@@ -100,7 +100,7 @@ fn draw_seed(rt: &HostRuntime) -> Seed {
     }
 }
 
-// Prints why a call of a device failed, in the system's words, if the system gave a code.
+// Appends a line with the system's words for the failure of a device, if the system gave a code.
 fn explain_device<W: Write>(alloc: Global, messages: &mut W, name: &str, code: Option<i32>) {
     let Some(code) = code else {
         return;
@@ -112,20 +112,20 @@ fn explain_device<W: Write>(alloc: Global, messages: &mut W, name: &str, code: O
 }
 
 // Does the job, and returns the exit status. All that is printed of a job that stops is one write.
-fn do_job(rt: &HostRuntime, asked: Invocation, schema: SchemaFile) -> Result<u8, Usage>
-    requires { HasGoodSize asked.job }
+fn run_job(rt: &HostRuntime, invocation: Invocation, schema: SchemaFile) -> Result<u8, Usage>
+    requires { HasGoodSize invocation.job }
 {
     let alloc = rt.alloc();
     let Ok(stderr) = BufWriter::new(alloc, Retry::new(rt.stderr())) else {
         return Err(Usage::OutOfMemory);
     };
     let mut messages = Device::new(stderr);
-    let mut progress = ProgressLine::start(rt, asked.progress);
-    let explain = asked.explain;
+    let mut progress = ProgressLine::start(rt, invocation.progress);
+    let explain = invocation.explain;
     let (status, input, output, file) = run(
         alloc,
         draw_seed(rt),
-        asked,
+        invocation,
         schema.file,
         Device::new(Retry::new(rt.reader())),
         Device::new(Retry::new(io::writer(rt))),
@@ -135,23 +135,18 @@ fn do_job(rt: &HostRuntime, asked: Invocation, schema: SchemaFile) -> Result<u8,
     progress.finish();
     let mut messages = messages.into_inner();
     if explain {
-        let code = match file {
+        let schema_code = match file {
             Some(file) => file.into_inner().code(),
             None => schema.code,
         };
-        explain_device(alloc, &mut messages, schema.path.as_str(), code);
-        explain_device(
-            alloc,
-            &mut messages,
-            "standard input",
-            input.into_inner().code(),
-        );
-        explain_device(
-            alloc,
-            &mut messages,
-            "standard output",
-            output.into_inner().code(),
-        );
+        let devices = [
+            (schema.path.as_str(), schema_code),
+            ("standard input", input.into_inner().code()),
+            ("standard output", output.into_inner().code()),
+        ];
+        for &(name, code) in &devices {
+            explain_device(alloc, &mut messages, name, code);
+        }
     }
     let _ = messages.flush();
     Ok(status)
@@ -159,7 +154,7 @@ fn do_job(rt: &HostRuntime, asked: Invocation, schema: SchemaFile) -> Result<u8,
 
 fn main(rt: HostRuntime) -> ExitCode {
     let result = match read_invocation_and_schema(&rt) {
-        Ok((asked, schema)) => do_job(&rt, asked, schema),
+        Ok((invocation, schema)) => run_job(&rt, invocation, schema),
         Err(usage) => Err(usage),
     };
     match result {

@@ -17,11 +17,11 @@ struct Counts {
     rows: u64,
 }
 
-// When the line was begun, and when it was last written.
+// When the job began, and when the line was last written.
 #[derive(Clone, Copy, Drop)]
 struct Times {
-    begun: Instant,
-    written: Instant,
+    start: Instant,
+    last_write: Instant,
 }
 
 /// Writes one line to standard error, each time over the one before: the bytes that were read, the
@@ -41,8 +41,8 @@ impl<'a> ProgressLine<'a> {
     pub fn start(rt: &'a HostRuntime, on: bool) -> ProgressLine<'a> {
         let times = match Instant::now(rt) {
             Ok(now) if on => Some(Times {
-                begun: now,
-                written: now,
+                start: now,
+                last_write: now,
             }),
             _ => None,
         };
@@ -74,8 +74,8 @@ impl<'a> ProgressLine<'a> {
         let (Some(times), Some(counts)) = (self.times, self.counts) else {
             return;
         };
-        let now = Instant::now(self.rt).unwrap_or(times.written);
-        self.write(now.duration_since(times.begun), counts);
+        let now = Instant::now(self.rt).unwrap_or(times.last_write);
+        self.write(now.duration_since(times.start), counts);
         let _ = Retry::new(self.rt.stderr()).write_all(b"\n");
     }
 }
@@ -93,12 +93,12 @@ impl Progress for ProgressLine<'_> {
         let (Some(times), Ok(now)) = (self.times, Instant::now(self.rt)) else {
             return;
         };
-        if now.duration_since(times.written) >= Duration::from_millis(PAUSE) {
+        if now.duration_since(times.last_write) >= Duration::from_millis(PAUSE) {
             self.times = Some(Times {
-                begun: times.begun,
-                written: now,
+                start: times.start,
+                last_write: now,
             });
-            self.write(now.duration_since(times.begun), counts);
+            self.write(now.duration_since(times.start), counts);
         }
     }
 }

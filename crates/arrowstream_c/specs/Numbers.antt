@@ -24,8 +24,8 @@ absent = 64
 
 -- the value, or the most that it may be
 pub record Caps (value most result : ℕ) : Type 0 where
-  pub kept : value ≤ most → result ≡ value
-  pub cut : most ≤ value → result ≡ most
+  pub below : value ≤ most → result ≡ value
+  pub above : most ≤ value → result ≡ most
 
 -- each limit is the one that was asked for, or its maximum
 pub record AreCapped (asked : ReadLimits) (limits : Limits) : Type 0 where

@@ -94,7 +94,7 @@ fn at_most(value: u64, most: u64) -> u64
 }
 
 // Limits of the library, each at most its maximum.
-pub(crate) fn capped(asked: &ReadLimits) -> Limits
+pub(crate) fn cap_limits(asked: &ReadLimits) -> Limits
     ensures { AreCapped asked.now result }
 {
     Limits {

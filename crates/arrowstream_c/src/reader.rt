@@ -5,7 +5,7 @@ ghost use Rattle.ipc_stream_session.specs.contracts.session.ReadSession as sessi
 ghost use Rattle.ipc_stream_session.specs.declared.session.ReadSession.{ReadSession};
 ghost use Rattle.arrowstream_c.specs.Calls.{OpensReader};
 
-use crate::answers::{ReadLimits, capped};
+use crate::answers::{ReadLimits, cap_limits};
 use crate::block::Block;
 use ipc_stream_session::ReadSession;
 use std::alloc::Global;
@@ -29,7 +29,7 @@ impl ReaderHandle {
     pub(crate) fn fresh(alloc: Global, limits: &ReadLimits) -> ReaderHandle
         ensures { OpensReader limits.now result.held }
     {
-        match Box::new(alloc, ReadSession::new(alloc, capped(limits))) {
+        match Box::new(alloc, ReadSession::new(alloc, cap_limits(limits))) {
             Ok(whole) => ReaderHandle::of(Block::out_of(whole)),
             Err(_) => ReaderHandle::none(),
         }

@@ -71,7 +71,7 @@ pub record Stored (b : List ℕ) (c : ℕ) (f : Tree) (h p : ℕ) : Type 0 where
 -- the vtable of the table at t has the entries of these fields, whose first is number n or above and stands at h
 pub record Entered (b : List ℕ) (t n h : ℕ) (f : Tree) : Type 0 where
   pub vtable : ℕ
-  pub found : vtable_of b t ≡ Ok vtable
+  pub vtable_is : vtable_of b t ≡ Ok vtable
   pub size : num b vtable 2 ≡ 4 + 2 * entry_count n f
   pub ends : t + num b (vtable + 2) 2 ≡ h + 8 * members f
   pub there : Has b (vtable + (4 + 2 * n)) (vtable_entries n (h - t) f)

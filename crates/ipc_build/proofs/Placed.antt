@@ -63,7 +63,7 @@ module _ (P : ℕ → ℕ → Type 0) (b : List ℕ) (aligned : (w p q : ℕ) �
     found,
     record {
       vtable = p;
-      found = found;
+      vtable_is = found;
       holds = aligned 4 _ ((p + 4 + 2 * entry_count 0 f + 3) / 8 * 2 + 1) (omega arith);
       inside = omega (arith, inline_size, ends);
       entries = λ i j. aligned 2 _ (p / 2 + i) (omega arith);
@@ -71,7 +71,7 @@ module _ (P : ℕ → ℕ → Type 0) (b : List ℕ) (aligned : (w p q : ℕ) �
     },
     record {
       vtable = p;
-      found = found;
+      vtable_is = found;
       size = size;
       ends = omega (arith, inline_size);
       there = subst (λ (d : ℕ). Has b (p + 4) (vtable_entries 0 d f)) (omega arith) ps.entered;
@@ -243,14 +243,14 @@ module _ (P : ℕ → ℕ → Type 0) (b : List ℕ) (aligned : (w p q : ℕ) �
   in_table_more m content inner rest inner_placed rest_table t n h p writable entered stored even = (
     (
       h,
-      (found_h, (entered.vtable, entered.found, omega (arith, ends, narrow))),
+      (found_h, (entered.vtable, entered.vtable_is, omega (arith, ends, narrow))),
       aligned (inline_width content) h (h / 8 * wide.0) (multiple h wide.0 (inline_width content) even wide.1),
       one.lies,
     ),
     rest_table t (m + 1) (h + 8) (target_end content inner (targets_end inner) p) writable.4
         (record {
           vtable = entered.vtable;
-          found = entered.found;
+          vtable_is = entered.vtable_is;
           size = entered.size;
           ends = omega (arith, ends);
           there = subst (λ (d : ℕ). Has b (entered.vtable + (4 + 2 * (m + 1))) (vtable_entries (m + 1) d rest)) (omega (arith, above)) next;
@@ -291,7 +291,7 @@ module _ (P : ℕ → ℕ → Type 0) (b : List ℕ) (aligned : (w p q : ℕ) �
       tops = entry_count_up rest (m + 1) writable.4
 
       found_h : slot_of b t m (inline_width content) ≡ Ok (Some h)
-      found_h = slot_found b t entered.vtable m (inline_width content) h entered.found
+      found_h = slot_found b t entered.vtable m (inline_width content) h entered.vtable_is
           (let s = entered.size in omega (arith, s, tops)) entry (omega (arith, above)) (let i = one.inside in omega (arith, i, narrow))
 
   in_vector_more : (m : ℕ) (content : Content) (inner rest : Tree) → Placed inner → InVector rest → InVector (field m content inner rest)

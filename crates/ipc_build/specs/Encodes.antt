@@ -55,7 +55,7 @@ module _ (P : ℕ → ℕ → Type 0) (b : List ℕ) where
   -- number is not among these fields is absent
   pub record IsTablePlaced (t : ℕ) (f : Tree) : Type 0 where
     pub vtable : ℕ
-    pub found : vtable_of b t ≡ Ok vtable
+    pub vtable_is : vtable_of b t ≡ Ok vtable
     pub holds : P 4 t
     pub inside : inline_end_of b vtable t ≤ length b
     pub entries : (i : ℕ) → 2 * i < num b vtable 2 → P 2 (vtable + 2 * i)

@@ -8,11 +8,9 @@ use Rattle.ipc_column.specs.declared.ranges.ColumnRanges.{ColumnRanges}
 use Rattle.ipc_column.specs.declared.ranges.ColumnRanges.TheViews.{out-ColumnRanges}
 use Rattle.ipc_column.specs.declared.ranges.ColumnRanges.TheFolds.{fold_out-ColumnRanges}
 use Rattle.ipc_column.specs.declared.cause.Cause.{Cause}
-use Rattle.ipc_model.specs.Layouts.{needs_slot_checks}
 use Rattle.ipc_column.specs.Columns.{Column, Columns, column, every, every_top}
-use Rattle.ipc_column.specs.checks.Rules.{have_slot_checks}
 use Rattle.ipc_column.specs.checks.Checks.{Judges}
-use Rattle.ipc_column.specs.Views.{part_columns, part_step, column_of, children_of, own_column, one}
+use Rattle.ipc_column.specs.Views.{part_columns, part_step, column_of, children_of, own_column}
 
 -- the columns below a part are those of its children
 pub children_out : (body : List ℕ) (p : ColumnRanges) → children_of body p ≡ part_columns body (out-ColumnRanges p).children.items
@@ -40,25 +38,6 @@ pub every_from : (test : Column → Columns → Bool) (body : List ℕ) (ps : Li
 every_from test body ps i p h e = rw (columns_from body ps i p h e)
     (regroup (test (column_of body p) (children_of body p)) (every test (children_of body p))
     (every test (part_columns body (drop (i + 1) ps))))
-
--- the top columns from a part on pass a test where its own does and those behind it do
-pub every_top_from : (test : Column → Bool) (body : List ℕ) (ps : List ColumnRanges) (i : ℕ) (p : ColumnRanges) → i < length ps
-    → p ≡ get_or ps i p
-    → every_top test (part_columns body (drop i ps)) ≡ (test (column_of body p) && every_top test (part_columns body (drop (i + 1) ps)))
-every_top_from test body ps i p h e = rw (columns_from body ps i p h e) refl
-
--- texts or indices stand in the columns from a part on where they stand in it, below it or behind it
-pub judged_from : (body : List ℕ) (ps : List ColumnRanges) (i : ℕ) (p : ColumnRanges) → i < length ps → p ≡ get_or ps i p
-    → have_slot_checks (part_columns body (drop i ps)) ≡ (have_slot_checks (one body p)
-    || have_slot_checks (part_columns body (drop (i + 1) ps)))
-judged_from body ps i p h e = rw (columns_from body ps i p h e)
-    (shift (needs_slot_checks (column_of body p).layout) (have_slot_checks (children_of body p))
-    (have_slot_checks (part_columns body (drop (i + 1) ps))))
-  where
-    shift : (a b c : Bool) → (a || (b || c)) ≡ ((a || (b || false)) || c)
-    shift true b c = refl
-    shift false true c = refl
-    shift false false c = refl
 
 -- a test of every part of a list is one of the parts
 pub every_at : (test : Column → Columns → Bool) (body : List ℕ) (ps : List ColumnRanges) (j : ℕ) (p : ColumnRanges) → j < length ps

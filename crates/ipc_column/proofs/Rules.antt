@@ -22,7 +22,7 @@ use Rattle.ipc_column.specs.checks.Rules.{IsSlotCount}
 use Rattle.ipc_column.specs.checks.Rules.{IsFieldNode, IsWithinBody, HoldValues, HoldOffsets, IsLongEnough, CountsNulls, AreOffsets}
 use Rattle.ipc_column.specs.checks.Rules.{HasOffsets}
 use Rattle.ipc_column.specs.checks.Rules.{IsText}
-use Rattle.ipc_column.specs.checks.Rules.{SpellsTexts, HasLongChildren, IsIndex, HasIndex, HoldsIndices, HasIndices}
+use Rattle.ipc_column.specs.checks.Rules.{HasUtf8Texts, HasLongChildren, IsIndex, HasIndex, HoldsIndices, HasIndices}
 use Rattle.ipc_column.specs.Dictionaries.{Dictionaries}
 use Rattle.ipc_model.specs.declared.value.Value.{Value}
 use Rattle.ipc_column.specs.checks.Checks.{is_slot_count, is_node, is_within_body, all, all_below, holds_values, holds_offsets}
@@ -319,7 +319,7 @@ decides limits cause.BadNullCount m fields head body = of_columns _ _ (field_col
 decides limits cause.BadOffsets m fields head body =
     of_columns _ _ (field_columns m fields head body) (λ c children. of_order c.layout c.slots c.offsets (length c.values) children)
 decides limits cause.ValueNotUtf8 m fields head body = of_visible _ _ (field_columns m fields head body)
-    (of_rows _ (SpellsTexts (field_columns m fields head body)) (unsigned_abs head.length)
+    (of_rows _ (HasUtf8Texts (field_columns m fields head body)) (unsigned_abs head.length)
     (of_good (field_columns m fields head body) 0 (unsigned_abs head.length)))
 decides limits cause.BadIndex m fields head body = of_visible _ _ (field_columns m fields head body)
     (of_rows _ (HoldsIndices (field_columns m fields head body)) (unsigned_abs head.length)

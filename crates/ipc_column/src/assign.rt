@@ -63,7 +63,7 @@ pub fn count(fields: &[Field], before: Cursor) -> Cursor
 }
 
 // The range of a buffer in the body, as the head states it.
-fn span_at(head: &BatchHead, buffer: usize) -> BufferRange
+fn buffer_range(head: &BatchHead, buffer: usize) -> BufferRange
     requires { buffer < length head.now.buffers }
     ensures { (body : List ℕ) → span_bytes body result ≡ buffer_at head.now body buffer }
 {
@@ -76,32 +76,32 @@ fn span_at(head: &BatchHead, buffer: usize) -> BufferRange
 
 // The validity bitmap of a field with this first buffer.
 #[tactic(auto, using(crate::proofs::Fields::empty_bytes))]
-fn validity_span(layout: Layout, head: &BatchHead, first: usize) -> BufferRange
+fn validity_range(layout: Layout, head: &BatchHead, first: usize) -> BufferRange
     requires { first + own_buffers layout ≤ length head.now.buffers }
     ensures { (body : List ℕ) → span_bytes body result ≡ validity_at layout head.now body first }
 {
     match layout {
         Layout::Null => BufferRange { start: 0, len: 0 },
-        _ => span_at(head, first),
+        _ => buffer_range(head, first),
     }
 }
 
 // The offsets of a field with this first buffer.
 #[tactic(auto, using(crate::proofs::Fields::empty_bytes))]
-fn offsets_span(layout: Layout, head: &BatchHead, first: usize) -> BufferRange
+fn offsets_range(layout: Layout, head: &BatchHead, first: usize) -> BufferRange
     requires buffers { first + own_buffers layout ≤ length head.now.buffers }
     requires few { length head.now.buffers < 2 ^ 60 }
     ensures { (body : List ℕ) → span_bytes body result ≡ offsets_at layout head.now body first }
 {
     match layout {
-        Layout::VariableBytes { .. } | Layout::Lists => span_at(head, first + 1),
+        Layout::VariableBytes { .. } | Layout::Lists => buffer_range(head, first + 1),
         _ => BufferRange { start: 0, len: 0 },
     }
 }
 
 // The values of a field with this first buffer.
 #[tactic(auto, using(crate::proofs::Fields::empty_bytes))]
-fn values_span(layout: Layout, head: &BatchHead, first: usize) -> BufferRange
+fn values_range(layout: Layout, head: &BatchHead, first: usize) -> BufferRange
     requires buffers { first + own_buffers layout ≤ length head.now.buffers }
     requires few { length head.now.buffers < 2 ^ 60 }
     ensures { (body : List ℕ) → span_bytes body result ≡ values_at layout head.now body first }
@@ -110,8 +110,8 @@ fn values_span(layout: Layout, head: &BatchHead, first: usize) -> BufferRange
         Layout::Null | Layout::Lists | Layout::FixedLists(_) | Layout::Structs => {
             BufferRange { start: 0, len: 0 }
         }
-        Layout::VariableBytes { .. } => span_at(head, first + 2),
-        _ => span_at(head, first + 1),
+        Layout::VariableBytes { .. } => buffer_range(head, first + 2),
+        _ => buffer_range(head, first + 1),
     }
 }
 
@@ -185,9 +185,9 @@ fn assign_field(
         layout,
         slots: slots.unsigned_abs() as usize,
         nulls: nulls.unsigned_abs() as usize,
-        validity: validity_span(layout, head, at.buffer),
-        offsets: offsets_span(layout, head, at.buffer),
-        values: values_span(layout, head, at.buffer),
+        validity: validity_range(layout, head, at.buffer),
+        offsets: offsets_range(layout, head, at.buffer),
+        values: values_range(layout, head, at.buffer),
         children,
         dictionary: dictionary_of(layout, dictionaries)?,
         known_valid: false,

@@ -6,7 +6,7 @@ ghost use Rattle.ipc_model.specs.declared.value.Value.{Value};
 ghost use Rattle.ipc_model.specs.Entries.{entries};
 ghost use Rattle.ipc_column.specs.Contents.{layouts};
 ghost use Rattle.ipc_column.specs.Nested.{only_column, found_columns, slot_values, with_children};
-ghost use Rattle.ipc_column.specs.checks.Rules.{SpellsTexts, visits_in, slots_in};
+ghost use Rattle.ipc_column.specs.checks.Rules.{HasUtf8Texts, visits_in, slots_in};
 ghost use Rattle.ipc_column.specs.Shapes.{shape_of, node_count, field_columns, assigned_columns};
 ghost use Rattle.ipc_column.specs.Shapes.{field_layout};
 ghost use Rattle.ipc_column.specs.Rows.{Rows, RefusesParts, IsOneList};
@@ -21,8 +21,8 @@ use crate::assign::{Cursor, assign_buffers};
 use crate::cell::{Cell, cell_in};
 use crate::dictionary::{DictionaryValues, is_one_leaf, share_values};
 use crate::head::check_head;
+use crate::owned_rows::{read_row, read_value, rows_in};
 use crate::ranges::ColumnRanges;
-use crate::rows::{read_row, read_value, rows_in};
 use crate::slot_view::{SlotView, slots_in};
 use crate::validate::check_columns;
 use crate::view::{ColumnView, view_in};
@@ -291,7 +291,7 @@ impl Batch {
         ensures values { AreOfColumn self.now.rows column (slot_values result) }
         // Each text that they lead to is UTF-8.
         ensures texts { (i : ℕ) → i < length (slot_values result)
-            → SpellsTexts (only_column result) i }
+            → HasUtf8Texts (only_column result) i }
     {
         let shared = self.shared.as_ref();
         slots_in(shared.body.as_slice(), &shared.parts, shared.count, column)

@@ -13,14 +13,13 @@ ghost use Rattle.ipc_column.specs.Columns.{Columns};
 ghost use Rattle.ipc_column.specs.checks.Checks.{PassTests, children_have_slots, holds_offsets};
 ghost use Rattle.ipc_column.specs.checks.Checks.{holds_values, in_order};
 ghost use Rattle.ipc_column.specs.checks.Checks.{are_ascending};
-ghost use Rattle.ipc_column.specs.Dictionaries.{has_no_children};
 ghost use Rattle.ipc_column.specs.Lending.{AreBuffers, AreNumbers, HoldsEntry, are_numbers};
 ghost use Rattle.ipc_column.specs.Lent.{AreFound, AreOfColumn, column_of_buffers};
 ghost use Rattle.ipc_column.specs.Slots.{HasChildSlots, is_null, nested, nested_in, value_in_slot};
 ghost use Rattle.ipc_column.specs.Slots.{text_prefix};
 ghost use Rattle.ipc_column.specs.Nested.{Nested, only_column, child_columns, slot_values};
-ghost use Rattle.ipc_column.specs.checks.Plain.{IsShownBy, text_bytes_len};
-ghost use Rattle.ipc_column.specs.checks.Rules.{HoldValues, SpellsTexts};
+ghost use Rattle.ipc_column.specs.checks.Plain.{IsShownBy};
+ghost use Rattle.ipc_column.specs.checks.Rules.{HasUtf8Texts};
 ghost use Rattle.ipc_column.specs.Values.{between, own_value, row, rows_of};
 ghost use Rattle.ipc_column.specs.Views.{part_columns, column_of, children_of};
 
@@ -237,18 +236,6 @@ impl<'a> SlotView<'a> {
         count_clear(self.validity, self.slots)
     }
 
-    /// Returns the number of bytes of the values, as they are laid out in the body. Values of slots
-    /// that no row shows are included.
-    pub fn data_len(&self) -> usize
-        ensures lent { result ≡ length self.now.column.values }
-        ensures room { HoldValues self.now.column.layout (length (slot_values self.now)) result }
-        // The bytes of texts and binary values do not overlap.
-        ensures spelled { has_no_children self.now.column.layout ≡ true
-            → text_bytes_len (slot_values self.now) ≤ result }
-    {
-        self.values.len()
-    }
-
     /// Returns the index that a slot holds, that of the dictionary's value which it shows. `slot`
     /// must be below `len`. Returns `None` if the slot is null, if its index is not that of a
     /// value, or if the column has no dictionary.
@@ -258,7 +245,7 @@ impl<'a> SlotView<'a> {
         ensures entry { IfSome result (λ i. HoldsEntry self.now slot i) }
         ensures none { IfNone result ((i : ℕ) → ¬ HoldsEntry self.now slot i) }
         ensures within { IfSome result (λ i. i < length self.now.column.dictionary) }
-        ensures shown { IfSome result (λ i. slice_get self.now.column.dictionary i
+        ensures shows { IfSome result (λ i. slice_get self.now.column.dictionary i
             ≡ slice_get (slot_values self.now) slot) }
         // In a column of indices null is shown where there is none.
         ensures null { (bits : IntBits) (signed : Bool) (id : ℤ)
@@ -465,7 +452,8 @@ pub(crate) fn slots_in<'a>(
         ≡ Some result.column.layout }
     ensures values { AreOfColumn (rows_of (part_columns body.now parts.now) rows) column
         (slot_values result) }
-    ensures texts { (i : ℕ) → i < length (slot_values result) → SpellsTexts (only_column result) i }
+    ensures texts { (i : ℕ) → i < length (slot_values result)
+        → HasUtf8Texts (only_column result) i }
 {
     slots_of(body, &parts[column])
 }

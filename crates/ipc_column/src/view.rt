@@ -4,7 +4,7 @@ ghost use Rattle.ipc_column.specs.Cells.{cell_value};
 ghost use Rattle.ipc_column.specs.checks.Checks.{PassTests};
 ghost use Rattle.ipc_column.specs.Lent.{AreOfColumn, HoldSlots, column_of_buffers, values_in};
 ghost use Rattle.ipc_column.specs.Nested.{only_column, slot_values};
-ghost use Rattle.ipc_column.specs.checks.Rules.{SpellsTexts};
+ghost use Rattle.ipc_column.specs.checks.Rules.{HasUtf8Texts};
 ghost use Rattle.ipc_column.specs.Values.{row, rows_of, value_of};
 ghost use Rattle.ipc_column.specs.Views.{part_columns, column_of, children_of};
 
@@ -87,7 +87,7 @@ impl<'a> ColumnView<'a> {
     pub fn slots(&self) -> SlotView<'a>
         ensures values { slot_values result ≡ self.now }
         // Each text that they lead to is UTF-8.
-        ensures texts { (i : ℕ) → i < length self.now → SpellsTexts (only_column result) i }
+        ensures texts { (i : ℕ) → i < length self.now → HasUtf8Texts (only_column result) i }
     {
         slots_of_buffers(
             self.layout,
@@ -130,7 +130,7 @@ fn cell_of_slot<'a>(
     )
 }
 
-// A part, found.
+// Returns a view of a column.
 fn view_of<'a>(body: &'a [u8], part: &'a ColumnRanges) -> ColumnView<'a>
     requires { HoldSlots (column_of body.now part.now) (children_of body.now part.now) }
     ensures { result ≡ values_in (column_of body.now part.now) (children_of body.now part.now) }

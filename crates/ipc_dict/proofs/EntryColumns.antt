@@ -186,13 +186,13 @@ module _ (fields : List Field) where
 
   -- there are as many as entries, also where these grew
   pub many_columns : (t u : List TallyEntry) (columns : EntryColumns) → AllGrow t u → AreEntriesCounted fields t columns
-      → length columns.counted.items ≡ length u
+      → length columns.sizes.items ≡ length u
   many_columns t u columns grows h =
-      counted_length columns.limits fields t columns.counted.items h.counted ∙ sym (grow_length t u grows)
+      counted_length columns.limits fields t columns.sizes.items h.counted ∙ sym (grow_length t u grows)
 
   pub counted_within : (es : List TallyEntry) (columns : EntryColumns) → AreEntriesCounted fields es columns
       → AllWithin columns.limits fields es
-  counted_within es columns h = all_within columns.limits fields es columns.counted.items h.counted
+  counted_within es columns h = all_within columns.limits fields es columns.sizes.items h.counted
 
   -- the same of entries that were written back, of which there are as many as before
   pub within_again : (fs : List Field) (new old : List TallyEntry) (n : ℕ) (columns : EntryColumns) → fs ≡ fields → n ≡ length new

@@ -26,5 +26,5 @@ AllCounted limits fields _ _ = ⊥
 -- the columns have the counts of these dictionaries, and an entry in `next` for each
 pub record AreEntriesCounted (fields : List Field) (entries : List TallyEntry)
     (columns : EntryColumns) : Type 0 where
-  pub counted : AllCounted columns.limits fields entries columns.counted.items
-  pub room : length columns.next.items ≡ length columns.counted.items
+  pub counted : AllCounted columns.limits fields entries columns.sizes.items
+  pub room : length columns.next.items ≡ length columns.sizes.items

@@ -23,7 +23,7 @@ use std::mem;
 #[derive(Debug, Drop)]
 pub(crate) struct EntryColumns {
     pub(crate) limits: Limits,
-    pub(crate) counted: Vec<ColumnSizes>,
+    pub(crate) sizes: Vec<ColumnSizes>,
     // The numbers with the values of the next row; what they are between two rows has no meaning.
     pub(crate) next: Vec<ColumnSizes>,
 }
@@ -50,16 +50,16 @@ impl EntryColumns {
         let Ok(dictionaries) = Dictionaries::new(alloc, schema) else {
             return Err(WriteFault::OutOfMemory);
         };
-        let mut counted = Vec::with_capacity(alloc, entries.len())?;
+        let mut sizes = Vec::with_capacity(alloc, entries.len())?;
         let mut next = Vec::with_capacity(alloc, entries.len())?;
         for entry in entries {
             let column = fresh_column(&dictionaries, entry, limits)?;
-            counted.push(column)?;
+            sizes.push(column)?;
             next.push(column)?;
         }
         Ok(EntryColumns {
             limits: *limits,
-            counted,
+            sizes,
             next,
         })
     }
@@ -69,7 +69,7 @@ impl EntryColumns {
     ///
     /// Errors: `TooLong` or `TooMany` if an entry's values exceed the limits of a column.
     pub(crate) fn count(&mut self, entries: &[TallyEntry], marks: &[usize]) -> Result<(), PushFault>
-        requires columns { length self.old.counted.items ≡ length entries.now }
+        requires columns { length self.old.sizes.items ≡ length entries.now }
         requires room { length self.old.next.items ≡ length entries.now }
         requires marks { length marks.now ≡ length entries.now }
         ensures counted { (fields : List Field)
@@ -84,8 +84,8 @@ impl EntryColumns {
             → OnErr result (AreEntriesCounted fields others self.new) }
         ensures limits { self.new.limits ≡ self.old.limits }
     {
-        count_next(&mut self.next, &self.counted, entries, marks, &self.limits)?;
-        mem::swap(&mut self.counted, &mut self.next);
+        count_next(&mut self.next, &self.sizes, entries, marks, &self.limits)?;
+        mem::swap(&mut self.sizes, &mut self.next);
         Ok(())
     }
 }

@@ -27,7 +27,7 @@ pub struct TallyEntry {
 // The position of the dictionary's entry.
 pub(crate) fn find(entries: &[TallyEntry], id: i64) -> Option<usize>
     ensures within { IfSome result (λ i. i < length entries.now) }
-    ensures found { IfSome result
+    ensures finds { IfSome result
         (λ i. (d : TallyEntry) → i < length entries.now
         → int_eq (slice_index_or entries.now i d).id id ≡ true) }
     ensures before { IfSome result

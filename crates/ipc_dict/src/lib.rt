@@ -1,6 +1,6 @@
-//! The dictionaries of a stream, each replaced as a whole and shared by the fields with its id:
-//! those that a reader has in force, and what a writer has sent, counts in a batch and plans to
-//! send (Arrow Columnar Format, "Dictionary Messages").
+//! The dictionaries that a writer sends: the values that it has sent of each, the distinct values
+//! of a batch, and which dictionaries to send before the batch. A dictionary is replaced as a
+//! whole, and the fields with its id share it (Arrow Columnar Format, "Dictionary Messages").
 #![tactic(auto)]
 
 mod column_notes;

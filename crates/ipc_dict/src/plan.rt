@@ -158,9 +158,9 @@ impl Plan {
         ensures only { IfErr result (λ fault. ((fault ≡ WriteFault.DictionaryFull)
             ⊎ IsOfLimits fault) ⊎ (fault ≡ WriteFault.OutOfMemory)) }
     {
-        let mut counted = Tally::new(alloc, limits, schema, seed)?;
-        counted.note_columns(batch)?;
-        counted.settle(alloc, kept)
+        let mut column_tally = Tally::new(alloc, limits, schema, seed)?;
+        column_tally.note_columns(batch)?;
+        column_tally.settle(alloc, kept)
     }
 
     /// Returns the dictionaries to send before the batch, each with its id, in the order in which

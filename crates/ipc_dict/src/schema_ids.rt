@@ -15,22 +15,23 @@ use std::alloc::{AllocError, Global};
 
 // Appends the dictionaries of a field and of its descendants to those that were found.
 #[cycle(collect)]
-fn collect_one(found: &mut Vec<Dictionary>, field: &Field) -> Result<(), AllocError>
-    ensures { OnOk result (found.new.items ≡ found.old.items ++ of_field field.now) }
+fn collect_one(dictionaries: &mut Vec<Dictionary>, field: &Field) -> Result<(), AllocError>
+    ensures { OnOk result (dictionaries.new.items ≡ dictionaries.old.items ++ of_field field.now) }
 {
     if let Some(dictionary) = field.dictionary {
-        found.push(dictionary)?;
+        dictionaries.push(dictionary)?;
     }
-    collect(found, field.children.as_slice())
+    collect(dictionaries, field.children.as_slice())
 }
 
 // Appends the dictionaries of several fields and of their descendants to those that were found.
 #[cycle(collect)]
-fn collect(found: &mut Vec<Dictionary>, fields: &[Field]) -> Result<(), AllocError>
-    ensures { OnOk result (found.new.items ≡ found.old.items ++ of_fields fields.now) }
+fn collect(dictionaries: &mut Vec<Dictionary>, fields: &[Field]) -> Result<(), AllocError>
+    ensures { OnOk result (dictionaries.new.items
+        ≡ dictionaries.old.items ++ of_fields fields.now) }
 {
     for field in fields {
-        collect_one(found, field)?;
+        collect_one(dictionaries, field)?;
     }
     Ok(())
 }
@@ -54,7 +55,7 @@ fn index_capacity(dictionary: &Dictionary) -> usize
 // The position of the dictionary's entry.
 fn find_entry(entries: &[TallyEntry], dictionary: &Dictionary) -> Option<usize>
     ensures within { IfSome result (λ i. i < length entries.now) }
-    ensures found { IfSome result (λ i. (e : TallyEntry) → i < length entries.now
+    ensures finds { IfSome result (λ i. (e : TallyEntry) → i < length entries.now
         → int_eq (slice_index_or entries.now i e).id dictionary.now.id ≡ true) }
     ensures before { IfSome result (λ i. (k : ℕ) (e : TallyEntry) → k < i
         → int_eq (slice_index_or entries.now k e).id dictionary.now.id ≡ false) }
@@ -73,7 +74,7 @@ fn find_entry(entries: &[TallyEntry], dictionary: &Dictionary) -> Option<usize>
 // there is.
 fn lower_limit(entries: &mut [TallyEntry], dictionary: &Dictionary, limit: usize) -> bool
     requires { limit ≡ index_capacity dictionary.now }
-    ensures found { result ≡ true → entries.new ≡ with_field entries.old dictionary.now }
+    ensures finds { result ≡ true → entries.new ≡ with_field entries.old dictionary.now }
     ensures unchanged { result ≡ false → entries.new ≡ entries.old }
     ensures absent { result ≡ false
         → entries.old ++ fresh dictionary.now ∷ [] ≡ with_field entries.old dictionary.now }
@@ -115,10 +116,10 @@ pub(crate) fn empty_entries(
 ) -> Result<Vec<TallyEntry>, AllocError>
     ensures { IfOk result (λ entries. entries.items ≡ empty_entries fields.now) }
 {
-    let mut found = Vec::new(alloc);
-    collect(&mut found, fields)?;
+    let mut dictionaries = Vec::new(alloc);
+    collect(&mut dictionaries, fields)?;
     let mut entries = Vec::new(alloc);
-    for dictionary in &found {
+    for dictionary in &dictionaries {
         add_field(alloc, seed, &mut entries, dictionary)?;
     }
     Ok(entries)

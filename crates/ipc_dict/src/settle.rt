@@ -92,19 +92,19 @@ fn kept_number(numbers: &Option<Items<u64>>, from: u64) -> Option<u64>
     }
 }
 
-// The index of each of the values among those that are known, or None where one isn't known.
+// Returns the index of each of the values among the distinct ones, or `None` if one is not there.
 fn numbers_in(
     alloc: Global,
-    known: &DistinctValues,
+    distinct: &DistinctValues,
     values: &[Value],
 ) -> Result<Option<Vec<u64>>, AllocError>
     ensures all { IfOk result
-        (λ o. IfSome o (λ to. AreFirstIndices known.now values.now to.items)) }
-    ensures lacks { IfOk result (λ o. IfNone o (LacksValue known.now values.now)) }
+        (λ o. IfSome o (λ to. AreFirstIndices distinct.now values.now to.items)) }
+    ensures lacks { IfOk result (λ o. IfNone o (LacksValue distinct.now values.now)) }
 {
     let mut to = Vec::with_capacity(alloc, values.len())?;
     for value in values {
-        let Some(index) = known.index_of(value) else {
+        let Some(index) = distinct.index_of(value) else {
             return Ok(None);
         };
         to.push(index as u64)?;
@@ -121,7 +121,7 @@ fn settle_one(
     ensures { IfOk result (IsSettled kept.now.values entry.now.values) }
 {
     Ok(match &kept.values {
-        Some(known) => numbers_in(alloc, known, entry.values.as_slice())?.map(Items::from_vec),
+        Some(values) => numbers_in(alloc, values, entry.values.as_slice())?.map(Items::from_vec),
         None => None,
     })
 }

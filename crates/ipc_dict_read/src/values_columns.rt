@@ -36,15 +36,15 @@ fn own_columns(alloc: Global, field: &Field) -> Result<Items<Field>, AllocError>
 // Appends the column of a field's own dictionary, if it has one, to those that were found.
 fn collect_own(
     alloc: Global,
-    found: &mut Vec<(i64, Items<Field>)>,
+    columns_by_id: &mut Vec<(i64, Items<Field>)>,
     field: &Field,
 ) -> Result<(), AllocError>
-    ensures { OnOk result (found.new.items ≡ found.old.items
+    ensures { OnOk result (columns_by_id.new.items ≡ columns_by_id.old.items
         ++ own_columns (out-Field field.now) (out-Field field.now).dictionary) }
 {
     if let Some(dictionary) = field.dictionary {
         let columns = own_columns(alloc, field)?;
-        found.push((dictionary.id, columns))?;
+        columns_by_id.push((dictionary.id, columns))?;
     }
     Ok(())
 }
@@ -53,27 +53,28 @@ fn collect_own(
 #[cycle(collect_columns)]
 fn collect_one(
     alloc: Global,
-    found: &mut Vec<(i64, Items<Field>)>,
+    columns_by_id: &mut Vec<(i64, Items<Field>)>,
     field: &Field,
 ) -> Result<(), AllocError>
-    ensures { OnOk result (found.new.items ≡ found.old.items
+    ensures { OnOk result (columns_by_id.new.items ≡ columns_by_id.old.items
         ++ field_dictionary_columns field.now) }
 {
-    collect_own(alloc, found, field)?;
-    collect_columns(alloc, found, field.children.as_slice())
+    collect_own(alloc, columns_by_id, field)?;
+    collect_columns(alloc, columns_by_id, field.children.as_slice())
 }
 
 // Appends the columns of several fields and of their descendants to those that were found.
 #[cycle(collect_columns)]
 pub(crate) fn collect_columns(
     alloc: Global,
-    found: &mut Vec<(i64, Items<Field>)>,
+    columns_by_id: &mut Vec<(i64, Items<Field>)>,
     fields: &[Field],
 ) -> Result<(), AllocError>
-    ensures { OnOk result (found.new.items ≡ found.old.items ++ dictionary_columns fields.now) }
+    ensures { OnOk result (columns_by_id.new.items ≡ columns_by_id.old.items
+        ++ dictionary_columns fields.now) }
 {
     for field in fields {
-        collect_one(alloc, found, field)?;
+        collect_one(alloc, columns_by_id, field)?;
     }
     Ok(())
 }

@@ -399,9 +399,9 @@ bytes_more fs gs bs full size small e =
     let held : (length fs + 7) / 8 ≡ n = omega arith in
     let all = length-append fs gs in
     let count : (length (fs ++ gs) + 7) / 8 ≡ n + length bs = omega (arith, all, size, split) in
-    let told = bytes_tell bs gs size small e in
+    let report = bytes_tell bs gs size small e in
     ap (λ (k : ℕ). flags_bytes k fs ++ bs) held
-    ∙ (ap (λ (b : List ℕ). flags_bytes n fs ++ b) (sym told)
+    ∙ (ap (λ (b : List ℕ). flags_bytes n fs ++ b) (sym report)
     ∙ (sym (bytes_append n (length bs) fs gs split) ∙ ap (λ (k : ℕ). flags_bytes k (fs ++ gs)) (sym count)))
 
 -- the flags of values and of others

@@ -55,53 +55,53 @@ ShowsKind layout kind = (children : ℕ) (value : Value) → IsShownBy layout va
 
 bool_shows : ShowsKind l.Bits t.Bool
 unfolding out-Value denote.Hole.Carrier.out
-bool_shows children v.Null shown some = absurd (cc)
-bool_shows children (v.Bool truth) shown some = tt
-bool_shows children value shown some = absurd shown
+bool_shows children v.Null shows some = absurd (cc)
+bool_shows children (v.Bool truth) shows some = tt
+bool_shows children value shows some = absurd shows
 
 int_shows : (bits : IntBits) (signed : Bool) → ShowsKind (l.Numbers bits signed) (t.Int bits signed)
 unfolding out-Value denote.Hole.Carrier.out
-int_shows bits signed children v.Null shown some = absurd (cc)
-int_shows bits true children (v.Int number) shown some = shown
-int_shows bits false children (v.UInt number) shown some = shown
-int_shows bits true children value shown some = absurd shown
-int_shows bits false children value shown some = absurd shown
+int_shows bits signed children v.Null shows some = absurd (cc)
+int_shows bits true children (v.Int number) shows some = shows
+int_shows bits false children (v.UInt number) shows some = shows
+int_shows bits true children value shows some = absurd shows
+int_shows bits false children value shows some = absurd shows
 
 binary_shows : ShowsKind (l.VariableBytes false) t.Binary
 unfolding out-Value denote.Hole.Carrier.out
-binary_shows children v.Null shown some = absurd (cc)
-binary_shows children (v.Bytes bytes) shown some = tt
-binary_shows children value shown some = absurd shown
+binary_shows children v.Null shows some = absurd (cc)
+binary_shows children (v.Bytes bytes) shows some = tt
+binary_shows children value shows some = absurd shows
 
 text_shows : ShowsKind (l.VariableBytes true) t.Utf8
 unfolding out-Value denote.Hole.Carrier.out
-text_shows children v.Null shown some = absurd (cc)
-text_shows children (v.Text text) shown some = tt
-text_shows children value shown some = absurd shown
+text_shows children v.Null shows some = absurd (cc)
+text_shows children (v.Text text) shows some = tt
+text_shows children value shows some = absurd shows
 
 fixed_shows : (size : ℕ) → ShowsKind (l.FixedBytes size) (t.FixedSizeBinary size)
 unfolding out-Value denote.Hole.Carrier.out
-fixed_shows size children v.Null shown some = absurd (cc)
-fixed_shows size children (v.Bytes bytes) shown some = shown
-fixed_shows size children value shown some = absurd shown
+fixed_shows size children v.Null shows some = absurd (cc)
+fixed_shows size children (v.Bytes bytes) shows some = shows
+fixed_shows size children value shows some = absurd shows
 
 day_shows : ShowsKind (l.Numbers B32 true) (t.Date Day)
 unfolding out-Value denote.Hole.Carrier.out
-day_shows children v.Null shown some = absurd (cc)
-day_shows children (v.Int number) shown some = shown
-day_shows children value shown some = absurd shown
+day_shows children v.Null shows some = absurd (cc)
+day_shows children (v.Int number) shows some = shows
+day_shows children value shows some = absurd shows
 
 stamp_shows : (unit : TimeUnit) (timezone : Option (List ℕ)) → ShowsKind (l.Numbers B64 true) (t.Timestamp unit timezone)
 unfolding out-Value denote.Hole.Carrier.out
-stamp_shows unit timezone children v.Null shown some = absurd (cc)
-stamp_shows unit timezone children (v.Int number) shown some = shown
-stamp_shows unit timezone children value shown some = absurd shown
+stamp_shows unit timezone children v.Null shows some = absurd (cc)
+stamp_shows unit timezone children (v.Int number) shows some = shows
+stamp_shows unit timezone children value shows some = absurd shows
 
 length_shows : (unit : TimeUnit) → ShowsKind (l.Numbers B64 true) (t.Duration unit)
 unfolding out-Value denote.Hole.Carrier.out
-length_shows unit children v.Null shown some = absurd (cc)
-length_shows unit children (v.Int number) shown some = shown
-length_shows unit children value shown some = absurd shown
+length_shows unit children v.Null shows some = absurd (cc)
+length_shows unit children (v.Int number) shows some = shows
+length_shows unit children value shows some = absurd shows
 
 -- slots of a plain type's layout show its values
 pub plain_shows : (kind : DataType) → layout_implies_type kind ≡ true → ShowsKind (type_layout kind) kind
@@ -303,12 +303,12 @@ list_slot s f fs i laid kind those m may inner = either (is_valid s.column.valid
         let vs = items (λ j. first_of (row (child_columns s) j)) (offset_position s.column.offsets i) (offset_position s.column.offsets
         (i + 1) - offset_position s.column.offsets i) in
         let is : value ≡ v.List vs = slot_is s i m ∙ rw (e, laid) refl in
-        let shown : out-Value value ≡ o.List vs = ap out-Value is ∙ list_out vs in
+        let shows : out-Value value ≡ o.List vs = ap out-Value is ∙ list_out vs in
         let own = subst (λ (w : Value-F Value). FitsOwnType (out-Field f).kind (out-Field f).nullable (length (out-Field f).children) w)
-        (sym shown)
+        (sym shows)
         (subst (λ (k : DataType). FitsOwnType k (out-Field f).nullable (length (out-Field f).children) (o.List vs)) (sym kind) tt) in
         list_fits f value fs vs vs those refl is own
-        (subst (λ (ws : List Value). InnerFit Fits t.List fs (o.List ws)) (ap items_in shown) (inner_at fs (slot_values s) i m inner))
+        (subst (λ (ws : List Value). InnerFit Fits t.List fs (o.List ws)) (ap items_in shows) (inner_at fs (slot_values s) i m inner))
     either false e = null_slot f (get_or (slot_values s) i Null) (slot_is s i m ∙ rw e refl) may
 
 -- ---- structs
@@ -329,11 +329,11 @@ struct_slot s f fs i laid kind those many m may each = either (is_valid s.column
         let value = get_or (slot_values s) i Null in
         let vs = row (child_columns s) i in
         let is : value ≡ v.Struct vs = slot_is s i m ∙ rw (e, laid) refl in
-        let shown : out-Value value ≡ o.Struct vs = ap out-Value is ∙ struct_out vs in
+        let shows : out-Value value ≡ o.Struct vs = ap out-Value is ∙ struct_out vs in
         let size : length vs ≡ length (out-Field f).children =
         row_length s.body s.children i ∙ (sym many ∙ ap (λ (gs : List Field). length gs) those) in
         let own = subst (λ (w : Value-F Value). FitsOwnType (out-Field f).kind (out-Field f).nullable (length (out-Field f).children) w)
-        (sym shown)
+        (sym shows)
         (subst (λ (k : DataType). FitsOwnType k (out-Field f).nullable (length (out-Field f).children) (o.Struct vs)) (sym kind) size) in
         struct_fits f value fs vs vs those refl is own (each e)
     either false e = null_slot f (get_or (slot_values s) i Null) (slot_is s i m ∙ rw e refl) may
@@ -353,7 +353,7 @@ pub misfit : (fields : List Field) (rows : List (List Value)) (number : ℕ) (fo
     (r : Result Unit RowFault) (fault : WriteFault) → number < length rows → found ≡ get_or rows number []
     → AllByRecursion (RowFits fields) (take number rows) → (RowFits fields found → IsOk r) → r ≡ verdict (row_faults fields found)
     → r ≡ Err cause → fault ≡ refusal_of cause number → AreMismatches fields rows fault
-misfit fields rows number found cause r fault inside is before fits judged failed told = record {
+misfit fields rows number found cause r fault inside is before fits judged failed report = record {
   number = number;
   inside = inside;
   before = before;
@@ -361,7 +361,7 @@ misfit fields rows number found cause r fault inside is before fits judged faile
       subst (λ q. IsOk q) failed (fits (subst (RowFits fields) (sym is) h)) in cc;
   cause = cause;
   first = subst (λ (w : List Value). verdict (row_faults fields w) ≡ Err cause) is (sym judged ∙ failed);
-  told = told;
+  report = report;
 }
 
 all_last : (fields : List Field) (rows : List (List Value)) (last : List Value) → AllByRecursion (RowFits fields) rows

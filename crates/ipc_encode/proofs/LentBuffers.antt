@@ -29,7 +29,7 @@ use Rattle.ipc_column.proofs.lending.Slots.{items_length, bytes_from}
 use Rattle.ipc_column.specs.checks.Checks.{has_bitmap, are_ascending}
 use Rattle.ipc_column.specs.Lending.{AreBuffers, AreNumbers}
 use Rattle.ipc_column.specs.Nested.{Nested, child_columns, slot_values, only_column}
-use Rattle.ipc_column.specs.checks.Rules.{IsText, SpellsTexts}
+use Rattle.ipc_column.specs.checks.Rules.{IsText, HasUtf8Texts}
 use Rattle.ipc_column.specs.Values.{between, is_valid, own_value, row, signed_at, value_of, offset_position}
 use Rattle.ipc_column.specs.declared.buffers.Buffers.{Buffers}
 use Rattle.ipc_column.specs.declared.buffers.Numbers.{Numbers}
@@ -569,14 +569,14 @@ lie_whole s b h utf8 e count size some small empty =
 
 -- the texts of a column are UTF-8 where each of its slots spells them
 pub texts_hold : (s : Nested) (utf8 : Bool) → s.column.layout ≡ l.VariableBytes utf8
-    → ((i : ℕ) → i < length (slot_values s) → SpellsTexts (only_column s) i) → AllByRecursion HasUtf8 (slot_values s)
+    → ((i : ℕ) → i < length (slot_values s) → HasUtf8Texts (only_column s) i) → AllByRecursion HasUtf8 (slot_values s)
 texts_hold s utf8 e spelled =
     items_each HasUtf8 (value_of (row (child_columns s)) s.column) 0 s.column.slots
     (λ k from to. one k utf8 e (is_valid s.column.validity k) refl
     (spelled k (let count = slot_count s in omega (arith, to, count))).0)
   where
     one : (k : ℕ) (u : Bool) → s.column.layout ≡ l.VariableBytes u → (valid : Bool) → is_valid s.column.validity k ≡ valid
-        → (is_valid s.column.validity k ≡ true → IsText s.column.layout (SpellsTexts (child_columns s)) s.column.offsets s.column.values k)
+        → (is_valid s.column.validity k ≡ true → IsText s.column.layout (HasUtf8Texts (child_columns s)) s.column.offsets s.column.values k)
         → HasUtf8 (value_of (row (child_columns s)) s.column k)
     one k u e false none text = rw none (subst SpellsOut (sym null_out) tt)
     one k true e true valid text =
@@ -585,6 +585,6 @@ texts_hold s utf8 e spelled =
 
 -- slots that spell their texts are stored in a column that lies as they do
 pub slots_stored : (s : Nested) (layout : Layout) → s.column.layout ≡ layout
-    → ((i : ℕ) → i < length (slot_values s) → SpellsTexts (only_column s) i) → AreStored layout (slot_values s)
+    → ((i : ℕ) → i < length (slot_values s) → HasUtf8Texts (only_column s) i) → AreStored layout (slot_values s)
 slots_stored s (l.VariableBytes utf8) laid spelled = texts_hold s utf8 laid spelled
 slots_stored s _ laid spelled = tt

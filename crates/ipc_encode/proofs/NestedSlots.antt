@@ -20,7 +20,7 @@ use Rattle.ipc_column.specs.checks.Checks.{are_ascending, have_slots}
 use Rattle.ipc_column.specs.Columns.{Columns}
 use Rattle.ipc_column.specs.Lending.{AreBuffers}
 use Rattle.ipc_column.specs.Nested.{Nested, child_columns, slot_values, only_column}
-use Rattle.ipc_column.specs.checks.Rules.{IsText, SpellsTexts}
+use Rattle.ipc_column.specs.checks.Rules.{IsText, HasUtf8Texts}
 use Rattle.ipc_column.specs.Shapes.{Shape, bare, field}
 use Rattle.ipc_column.specs.Slots.{is_null, nested, nested_in}
 use Rattle.ipc_column.specs.Values.{first_of, is_valid, items, own_value, offset_position, row, value_of}
@@ -290,26 +290,26 @@ shared_null own marks vs i m marked among null = either (is_valid own i) refl
 -- ---- the texts of children whose slots are those that the slots of their column lead to
 
 -- a slot of a column that spells its texts does so in child k
-pub child_spells : (s child : Nested) (k j : ℕ) → slice_get (nested_in s) k ≡ Some child → SpellsTexts (child_columns s) j → SpellsTexts
+pub child_spells : (s child : Nested) (k j : ℕ) → slice_get (nested_in s) k ≡ Some child → HasUtf8Texts (child_columns s) j → HasUtf8Texts
     (only_column child) j
 child_spells s child k j e h = at s.children k e h
   where
     one : (p : ColumnRanges)
         → (is_valid (column_of s.body p).validity j ≡ true
-        → IsText (column_of s.body p).layout (SpellsTexts (children_of s.body p)) (column_of s.body p).offsets
+        → IsText (column_of s.body p).layout (HasUtf8Texts (children_of s.body p)) (column_of s.body p).offsets
         (column_of s.body p).values j)
-        → SpellsTexts (only_column (nested s.body p)) j
+        → HasUtf8Texts (only_column (nested s.body p)) j
     one p h = (
-      λ valid. subst (λ (cs : Columns). IsText (column_of s.body p).layout (SpellsTexts cs) (column_of s.body p).offsets
+      λ valid. subst (λ (cs : Columns). IsText (column_of s.body p).layout (HasUtf8Texts cs) (column_of s.body p).offsets
           (column_of s.body p).values j)
           (children_out s.body p) (h valid),
       tt,
     )
 
-    at : (ps : List ColumnRanges) (k : ℕ) → slice_get (map (nested s.body) ps) k ≡ Some child → SpellsTexts (part_columns s.body ps) j
-        → SpellsTexts (only_column child) j
+    at : (ps : List ColumnRanges) (k : ℕ) → slice_get (map (nested s.body) ps) k ≡ Some child → HasUtf8Texts (part_columns s.body ps) j
+        → HasUtf8Texts (only_column child) j
     at [] k e h = absurd (none-some child e)
-    at (p ∷ ps) zero e h = subst (λ (n : Nested). SpellsTexts (only_column n) j) (some_same (nested s.body p) child e) (one p h.0)
+    at (p ∷ ps) zero e h = subst (λ (n : Nested). HasUtf8Texts (only_column n) j) (some_same (nested s.body p) child e) (one p h.0)
     at (p ∷ ps) (suc k) e h = at ps k e h.1
 
 -- the step of a stair on which a number stands
@@ -339,16 +339,16 @@ stands at (suc n) j low high = elim (cases_lt j (at n)) as (λ _. Stands at (suc
 
 -- the slots of the child of lists that have all of them
 pub list_texts : (s child : Nested) (n j : ℕ) → slice_get (nested_in s) 0 ≡ Some child → s.column.layout ≡ l.Lists
-    → ((i : ℕ) → i < n → SpellsTexts (only_column s) i)
+    → ((i : ℕ) → i < n → HasUtf8Texts (only_column s) i)
     → ((i : ℕ) → i < n → (is_valid s.column.validity i ≡ true → ⊥) → offset_position s.column.offsets (i + 1)
     ≡ offset_position s.column.offsets i)
-    → offset_position s.column.offsets 0 ≡ 0 → j < offset_position s.column.offsets n → SpellsTexts (only_column child) j
+    → offset_position s.column.offsets 0 ≡ 0 → j < offset_position s.column.offsets n → HasUtf8Texts (only_column child) j
 list_texts s child n j is laid spelled empty first last =
     let o = s.column.offsets in
     let at = stands (offset_position o) n j (omega (arith, first)) last in
     either at (is_valid s.column.validity at.step) refl
   where
-    either : (at : Stands (offset_position s.column.offsets) n j) (valid : Bool) → is_valid s.column.validity at.step ≡ valid → SpellsTexts
+    either : (at : Stands (offset_position s.column.offsets) n j) (valid : Bool) → is_valid s.column.validity at.step ≡ valid → HasUtf8Texts
         (only_column child) j
     either at true e = child_spells s child 0 j is ((rw laid at ((spelled at.step at.within).0 e)) j at.from at.to)
     either at false e =
@@ -371,8 +371,8 @@ module _ (s : Nested) (b : Buffers) (h : AreBuffers s b) (e : b.layout ≡ l.Lis
 
   pub list_spells : (child : Nested) → slice_get (nested_in s) 0 ≡ Some child → start_of b.offsets.now 0 ≡ 0
       → start_of b.offsets.now (length (slot_values s)) ≡ length (slot_values child)
-      → ((i : ℕ) → i < length (slot_values s) → SpellsTexts (only_column s) i)
-      → (j : ℕ) → j < length (slot_values child) → SpellsTexts (only_column child) j
+      → ((i : ℕ) → i < length (slot_values s) → HasUtf8Texts (only_column s) i)
+      → (j : ℕ) → j < length (slot_values child) → HasUtf8Texts (only_column child) j
   list_spells child is first last spelled j m =
       let end = own_place (length (slot_values s)) (omega arith) in
       list_texts s child (length (slot_values s)) j is (list_laid s b h e some) spelled
@@ -395,9 +395,9 @@ nothing_spelled l.Structs d under child_columns o w i h =
 nothing_spelled _ d under child_columns o w i h = tt
 
 pub null_spells : (child : Nested) (j : ℕ) → j < length (slot_values child) → get_or (slot_values child) j Null ≡ Null
-    → SpellsTexts (only_column child) j
+    → HasUtf8Texts (only_column child) j
 null_spells child j m null = (
-  λ valid. nothing_spelled child.column.layout child.column.dictionary (row (child_columns child)) (SpellsTexts (child_columns child))
+  λ valid. nothing_spelled child.column.layout child.column.dictionary (row (child_columns child)) (HasUtf8Texts (child_columns child))
       child.column.offsets
       child.column.values j
       (ap (is_set Valid) (sym (slot_is child j m ∙ rw valid refl) ∙ null) ∙ ap (λ (f : Value-F Value). not (cells.is_null f)) null_out),
@@ -406,11 +406,11 @@ null_spells child j m null = (
 
 -- the slots of a child of structs, which are null where these are
 pub struct_texts : (s child : Nested) (k j : ℕ) → slice_get (nested_in s) k ≡ Some child → s.column.layout ≡ l.Structs
-    → SpellsTexts (only_column s) j → j < length (slot_values child)
-    → ((is_valid s.column.validity j ≡ true → ⊥) → get_or (slot_values child) j Null ≡ Null) → SpellsTexts (only_column child) j
+    → HasUtf8Texts (only_column s) j → j < length (slot_values child)
+    → ((is_valid s.column.validity j ≡ true → ⊥) → get_or (slot_values child) j Null ≡ Null) → HasUtf8Texts (only_column child) j
 struct_texts s child k j is laid spelled m null = either (is_valid s.column.validity j) refl
   where
-    either : (valid : Bool) → is_valid s.column.validity j ≡ valid → SpellsTexts (only_column child) j
+    either : (valid : Bool) → is_valid s.column.validity j ≡ valid → HasUtf8Texts (only_column child) j
     either true e = child_spells s child k j is (rw laid at (spelled.0 e))
     either false e = null_spells child j m (null (λ valid. absurd (cc)))
 
@@ -419,8 +419,8 @@ pub struct_spells : (s child : Nested) (b : Buffers) (k : ℕ) → AreBuffers s 
     (nested_in s) k ≡ Some child
     → length (slot_values s) ≡ length (slot_values child)
     → ((i : ℕ) → i < length (slot_values s) → is_valid b.validity.now i ≡ false → get_or (slot_values child) i Null ≡ Null)
-    → ((i : ℕ) → i < length (slot_values s) → SpellsTexts (only_column s) i)
-    → (j : ℕ) → j < length (slot_values child) → SpellsTexts (only_column child) j
+    → ((i : ℕ) → i < length (slot_values s) → HasUtf8Texts (only_column s) i)
+    → (j : ℕ) → j < length (slot_values child) → HasUtf8Texts (only_column child) j
 struct_spells s child b k h e is size empty spelled j m =
     let here : j < length (slot_values s) = omega (arith, size, m) in
     struct_texts s child k j is (sym h.layout ∙ e) (spelled j here) m

@@ -492,4 +492,4 @@ pub index_back : (ds : Dictionaries) (known : Numbering) (bits : IntBits) (signe
 index_back ds known bits signed id vs i w k e valid found =
     let here = found (flag_from (get_or vs i v.Null) w e valid) in
     ap (λ (z : ℤ). value_at (values_for ds id) z) (index_number (known id) bits signed vs i w k e valid here.within)
-    ∙ get_or_from_slice_get (values_for ds id) (known id (get_or vs i v.Null)) (get_or vs i v.Null) v.Null here.found
+    ∙ get_or_from_slice_get (values_for ds id) (known id (get_or vs i v.Null)) (get_or vs i v.Null) v.Null here.value_is

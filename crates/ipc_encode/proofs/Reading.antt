@@ -27,7 +27,7 @@ use Rattle.ipc_column.specs.Columns.{Column, Columns, Each, EachTop}
 use Rattle.ipc_column.specs.Dictionaries.{Dictionaries, values_for}
 use Rattle.ipc_column.specs.Rows.{Rows}
 use Rattle.ipc_column.specs.checks.Rules.{IsFieldNode, IsWithinBody, IsLongEnough, CountsNulls, HasOffsets, HasLongChildren, IsText}
-use Rattle.ipc_column.specs.checks.Rules.{SpellsTexts}
+use Rattle.ipc_column.specs.checks.Rules.{HasUtf8Texts}
 use Rattle.ipc_column.specs.checks.Rules.{HasIndex, HoldsIndices, IsIndex}
 use Rattle.ipc_column.specs.Shapes.{dictionary_at, Shape, bare, field, shape_of, node_at, buffer_at, field_columns}
 use Rattle.ipc_column.specs.Values.{is_valid, offset_position, first_of, own_value, value_of, items as slots_from, row}
@@ -329,8 +329,8 @@ record IsGood (ds : Dictionaries) (known : Numbering) (most : ℕ) (l : Layout) 
   pub held : AllHeld l n vs
   pub short : IsShort l vs
   pub few : length vs ≤ most
-  pub stored : AreStored l vs
-  pub found : InColumn (FindsIndex ds known) l vs
+  pub stores : AreStored l vs
+  pub finds : InColumn (FindsIndex ds known) l vs
 
 -- the same of each column, and of each below it
 abbrev AllGood : Dictionaries → Numbering → ℕ → Shape → (ℕ → List Value) → Type 0
@@ -370,20 +370,20 @@ short_is most _ children vs m held short few = tt
 goods : (ds : Dictionaries) (known : Numbering) (most : ℕ) (s : Shape) (given : ℕ → List Value) → most ≤ 2 ^ 31 - 1 → ColumnsHeld s given
     → AllStored s given → InColumns (FindsIndex ds known) s given
     → ¬ SomeColumn HasLongData s given → ¬ HasLongNode most s given → AllGood ds known most s given
-goods ds known most bare given m held stored found short few = tt
-goods ds known most (field l children rest) given m held stored found short few = (
+goods ds known most bare given m held stores found short few = tt
+goods ds known most (field l children rest) given m held stores found short few = (
   record {
     child = held.0.0;
     held = held.0.1;
     short = short_is most l children (given 0) m held.0.1 (λ x. short (inl x)) (λ x. few (inr (inl x)));
     few = not_above (length (given 0)) most (λ x. few (inl x));
-    stored = stored.0;
-    found = found.0;
+    stores = stores.0;
+    finds = found.0;
   },
   (
-    goods ds known most children (child_values l (given 0)) m held.1.0 stored.1.0 found.1.0 (λ x. short (inr (inl x)))
+    goods ds known most children (child_values l (given 0)) m held.1.0 stores.1.0 found.1.0 (λ x. short (inr (inl x)))
         (λ x. few (inr (inl x))),
-    goods ds known most rest (λ j. given (suc j)) m held.1.1 stored.1.1 found.1.1 (λ x. short (inr (inr x))) (λ x. few (inr (inr x))),
+    goods ds known most rest (λ j. given (suc j)) m held.1.1 stores.1.1 found.1.1 (λ x. short (inr (inr x))) (λ x. few (inr (inr x))),
   ),
 )
 
@@ -439,7 +439,7 @@ text_is : (ds : Dictionaries) (known : Numbering) (most : ℕ) (l : Layout) (n :
 text_is ds known most (l.VariableBytes true) n vs i under g k valid more =
     let value = get_or vs i v.Null in
     let own = held_at (l.VariableBytes true) n vs i v.Null g.held k in
-    let text = each_at HasUtf8 vs i v.Null g.stored k in
+    let text = each_at HasUtf8 vs i v.Null g.stores k in
     subst IsUtf8 (sym (between_is vs i v.Null k g.short))
     (spelled n (out-Value value) value refl own text (sym (valid_is vs i v.Null k) ∙ valid))
 text_is ds known most (l.VariableBytes false) n vs i under g k valid more = tt
@@ -457,10 +457,10 @@ text_is ds known most _ n vs i under g k valid more = tt
 
 spelled_written : (ds : Dictionaries) (known : Numbering) (most : ℕ) (s : Shape) (given : ℕ → List Value)
     → AllGood ds known most s given → (i : ℕ) → ((j : ℕ) → i < length (given j))
-    → SpellsTexts (written ds known s given) i
+    → HasUtf8Texts (written ds known s given) i
 spelled_written ds known most bare given g i k = tt
 spelled_written ds known most (field l children rest) given g i k = (
-  λ valid. text_is ds known most l (across children) (given 0) i (SpellsTexts (written ds known children (child_values l (given 0)))) g.0
+  λ valid. text_is ds known most l (across children) (given 0) i (HasUtf8Texts (written ds known children (child_values l (given 0)))) g.0
       (k 0) valid
       (λ m inside. spelled_written ds known most children (child_values l (given 0)) g.1.0 m inside),
   spelled_written ds known most rest (λ j. given (suc j)) g.1.1 i (λ j. k (suc j)),
@@ -481,8 +481,8 @@ index_is : (ds : Dictionaries) (known : Numbering) (most : ℕ) (l : Layout) (n 
 index_is ds known most (l.Indices bits signed id) n vs i under g k valid more =
     let value = get_or vs i v.Null in
     let flag : is_set Valid value ≡ true = sym (valid_is vs i v.Null k) ∙ valid in
-    let here = found_at (FindsIndex ds known) bits signed id vs i k g.found flag in
-    let there = slice_get_within (values_for ds id) (known id value) value here.found in
+    let here = found_at (FindsIndex ds known) bits signed id vs i k g.finds flag in
+    let there = slice_get_within (values_for ds id) (known id value) value here.value_is in
     subst (λ (z : ℤ). IsIndex (values_for ds id) z)
     (sym (index_number (known id) bits signed vs i (out-Value value) k refl (not_null (is_null (out-Value value)) flag) here.within))
     (record { from = omega (arith, ints); to = omega (arith, ints, there) })
@@ -537,7 +537,7 @@ row_back ds known most bare given g i k = refl
 row_back ds known most (field l children rest) given g i k =
     let here = value_is ds known (row (written ds known children (child_values l (given 0)))) l (across children) (given 0) i (k 0) g.0.held
     g.0.short
-    (λ m inside. row_back ds known most children (child_values l (given 0)) g.1.0 m inside) g.0.found in
+    (λ m inside. row_back ds known most children (child_values l (given 0)) g.1.0 m inside) g.0.finds in
     let others = row_back ds known most rest (λ j. given (suc j)) g.1.1 i (λ j. k (suc j)) in
     λ q. here q ∷ others q
 
@@ -570,14 +570,14 @@ pub rows_back : {limits : Limits} → (ds : Dictionaries) (known : Numbering) (f
     → AllByRecursion (IsFieldWellFormed limits) (entries fields) → AllByRecursion (RowFits fields) rows → IsWithin limits fields rows
     → AllStored (shape_of fields) (row_columns rows) → FindsRows ds known fields rows
     → Rows limits ds fields (head_of known fields rows) (body_with known fields rows) rows
-rows_back {limits} ds known fields rows fine fits within stored found =
+rows_back {limits} ds known fields rows fine fits within stores found =
     let head = head_of known fields rows in
     let body = body_with known fields rows in
     let s = shape_of fields in
     let given = row_columns rows in
     let most = limits.slots in
     let few : length rows ≤ limits.slots = not_above (length rows) limits.slots (λ x. within.few (inl x)) in
-    let good = goods ds known most s given limits.slots_fit (rows_held limits fields rows fine fits) stored found
+    let good = goods ds known most s given limits.slots_fit (rows_held limits fields rows fine fits) stores found
     (λ x. within.short (inl x))
     (λ x. within.few (inr (inl x))) in
     let e : field_columns ds fields head body ≡ written ds known s given =
@@ -609,7 +609,7 @@ rows_back {limits} ds known fields rows fine fits within stored found =
       order = subst (λ (cs : Columns). Each (λ c children. HasOffsets c.layout c.slots c.offsets (length c.values) children) cs) (sym e)
           (each_written ds known most (λ c children. HasOffsets c.layout c.slots c.offsets (length c.values) children)
           (λ l children vs g. ordered ds known l children vs g.short) s given good);
-      texts = λ i k. subst (λ (cs : Columns). SpellsTexts cs i) (sym e) (spelled_written ds known most s given good i (inside i k));
+      texts = λ i k. subst (λ (cs : Columns). HasUtf8Texts cs i) (sym e) (spelled_written ds known most s given good i (inside i k));
       indices = λ i k. subst (λ (cs : Columns). HoldsIndices cs i) (sym e) (indices_written ds known most s given good i (inside i k));
       count = refl;
       values = λ i k. sym (ap (λ (cs : Columns). row cs i) e
@@ -626,7 +626,7 @@ pub rows_of_parts : {limits : Limits}
     ranges_from 0 (row_buffers_with known fields rows)
     → body ≡ body_with known fields rows
     → Rows limits ds fields (record { length = pos (length rows); nodes = nodes; buffers = buffers }) body rows
-rows_of_parts {limits} ds known fields rows nodes buffers body fine fits within stored found n r b =
+rows_of_parts {limits} ds known fields rows nodes buffers body fine fits within stores found n r b =
     subst (λ (bytes : List ℕ). Rows limits ds fields (record {
       length = pos (length rows);
       nodes = nodes;
@@ -635,4 +635,4 @@ rows_of_parts {limits} ds known fields rows nodes buffers body fine fits within 
     }) bytes rows) (sym b)
     (subst (λ (head : BatchHead). Rows limits ds fields head (body_with known fields rows) rows)
     (λ i. record { length = pos (length rows); nodes = (sym n) i; buffers = (sym r) i })
-    (rows_back ds known fields rows fine fits within stored found))
+    (rows_back ds known fields rows fine fits within stores found))

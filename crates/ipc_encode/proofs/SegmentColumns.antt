@@ -223,7 +223,7 @@ leaf_added limits known lay vs bs count none d e size nil same nodes adds few sh
   buffers = adds_as d e _ _ (sym (append-nil (column_buffers lay (written_values known lay vs)) ∙ same)) adds;
   few = few_leaf limits.slots lay vs (λ many. omega (arith, few, size, many));
   short = short_leaf lay vs short;
-  stored = (texts, (tt, tt));
+  stores = (texts, (tt, tt));
   body = within;
 }
 
@@ -306,7 +306,7 @@ with_children limits known lay c vs d mid e own inner =
           (adds_both d mid e (buffers ++ []) more own.buffers inner.buffers);
       few = λ h. long_either own.few inner.few h;
       short = λ h. past_either own.short inner.short h;
-      stored = (own.stored.0, (inner.stored, tt));
+      stores = (own.stores.0, (inner.stores, tt));
       body = inner.body;
     }
   where
@@ -368,7 +368,7 @@ node_added limits known other lay ch vs node d e h nodes adds within = record {
   buffers = adds;
   few = taken_few known purpose.Keep limits (field lay ch bare) (node ∷ []) (λ j. vs) (h, tt);
   short = taken_short known purpose.Keep limits (field lay ch bare) (node ∷ []) (λ j. vs) (h, tt);
-  stored = all_stored known limits (field lay ch bare) (node ∷ []) (λ j. vs) (h, tt);
+  stores = all_stored known limits (field lay ch bare) (node ∷ []) (λ j. vs) (h, tt);
   body = within;
 }
 
@@ -403,7 +403,7 @@ columns_none limits known given d within = record {
   buffers = adds_none d;
   few = λ h. h;
   short = λ h. h;
-  stored = tt;
+  stores = tt;
   body = within;
 }
 
@@ -420,7 +420,7 @@ columns_next limits known i shape given lay c d mid e at so one =
       buffers = adds_as d e _ _ (sym (buffers_with_next known i shape given lay c at)) (adds_both d mid e _ _ so.buffers one.buffers);
       few = few_next limits.slots i shape given lay c at so.few one.few;
       short = short_next i shape given lay c at so.short one.short;
-      stored = stored_next i shape given lay c at so.stored one.stored;
+      stores = stored_next i shape given lay c at so.stores one.stores;
       body = one.body;
     }
 

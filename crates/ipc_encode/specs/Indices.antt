@@ -49,7 +49,7 @@ pub record FindsIndex (m : Dictionaries) (indices : Numbering) (bits : IntBits) 
     (id : ℤ)
     (value : Value) : Type 0 where
   pub within : IsIndexWithin bits signed (indices id value)
-  pub found : slice_get (values_for m id) (indices id value) ≡ Some value
+  pub value_is : slice_get (values_for m id) (indices id value) ≡ Some value
 
 -- under these dictionaries, each dictionary value of the rows is at its index
 abbrev pub FindsRows : Dictionaries → Numbering → List Field → List (List Value) → Type 0

@@ -19,4 +19,4 @@ pub record AreMismatches (fields : List Field) (rows : List (List Value))
   pub misfit : ¬ RowFits fields (slice_index_or rows number [])
   pub cause : RowFault
   pub first : verdict (row_faults fields (slice_index_or rows number [])) ≡ Err cause
-  pub told : fault ≡ refusal_of cause number
+  pub report : fault ≡ refusal_of cause number

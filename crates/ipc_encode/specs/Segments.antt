@@ -44,7 +44,7 @@ pub record AddsColumns (limits : Limits) (indices : Numbering) (shape : Shape)
   pub buffers : AddsBuffers old new (buffers_with indices shape given)
   pub few : ¬ HasLongNode limits.slots shape given
   pub short : ¬ SomeExcessData shape given
-  pub stored : AllStored shape given
+  pub stores : AllStored shape given
   pub body : new.len ≤ limits.body
 
 -- why a body of this many bytes is refused: it is too long, or memory ran out

@@ -5,7 +5,7 @@ use Rattle.ipc_model.specs.declared.layout.Layout.{Layout}
 use Rattle.ipc_model.specs.declared.layout.Layout.TheVariants as l
 use Rattle.ipc_model.specs.declared.value.Value.{Value}
 use Rattle.ipc_column.specs.Nested.{Nested, only_column, slot_values}
-use Rattle.ipc_column.specs.checks.Rules.{SpellsTexts}
+use Rattle.ipc_column.specs.checks.Rules.{HasUtf8Texts}
 use Rattle.ipc_column.specs.Shapes.{Shape, bare, field}
 use Rattle.ipc_column.specs.Slots.{nested_in}
 use Rattle.ipc_encode.specs.Buffers.{child_values}
@@ -28,8 +28,8 @@ is_taken_whole (l.Indices bits signed id) = false
 pub record IsLaidOutAs (layout : Layout) (view : Nested) (values : List Value) : Type 0 where
   pub laid : view.column.layout ≡ layout
   pub whole : is_taken_whole layout ≡ true
-  pub texts : (i : ℕ) → i < length (slot_values view) → SpellsTexts (only_column view) i
-  pub shown : slot_values view ≡ values
+  pub texts : (i : ℕ) → i < length (slot_values view) → HasUtf8Texts (only_column view) i
+  pub shows : slot_values view ≡ values
 
 -- columns of this shape, each with exactly the values that are given for its number, at every
 -- level. The slots of each child are those of the parent's items in order, and no others

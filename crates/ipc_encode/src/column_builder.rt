@@ -395,7 +395,11 @@ impl ColumnBuilder {
 
     /// Creates a column of this layout without values, in the memory of this one if it has the
     /// layout.
-    pub(crate) fn emptied(self, layout: Layout, alloc: Global) -> Result<ColumnBuilder, AllocError>
+    pub(crate) fn into_empty(
+        self,
+        layout: Layout,
+        alloc: Global,
+    ) -> Result<ColumnBuilder, AllocError>
         ensures { (known : Numbering) (limits : Limits)
             → IfOk result (IsColumn known limits layout []) }
     {

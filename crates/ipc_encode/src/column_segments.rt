@@ -255,21 +255,21 @@ pub(crate) fn bit_values<'a>(
 fn value_ends<'a>(
     alloc: Global,
     pool: &mut Vec<Vec<u8>>,
-    lent: &BorrowedContents<'a>,
+    contents: &BorrowedContents<'a>,
     count: usize,
 ) -> Result<Segment<'a>, AllocError>
-    requires room { length lent.now.ends.now ≡ 4 * count }
+    requires room { length contents.now.ends.now ≡ 4 * count }
     ensures { (values : List Value) → length values ≡ count
-        → lent.now.ends.now ≡ ends Bytes lent.now.start values
-        → ((i : ℕ) → i < count → num lent.now.ends.now (4 * i) 4
-        ≡ lent.now.start + length (slots Content (take (i + 1) values)))
+        → contents.now.ends.now ≡ ends Bytes contents.now.start values
+        → ((i : ℕ) → i < count → num contents.now.ends.now (4 * i) 4
+        ≡ contents.now.start + length (slots Content (take (i + 1) values)))
         → IfOk result (λ segment. segment_bytes segment ≡ ends Bytes 0 values) }
 {
-    if lent.start == 0 {
-        return Ok(Segment::Borrowed(lent.ends));
+    if contents.start == 0 {
+        return Ok(Segment::Borrowed(contents.ends));
     }
     let mut offsets = pooled_list(alloc, pool);
-    push_ends(&mut offsets, lent, count)?;
+    push_ends(&mut offsets, contents, count)?;
     Ok(Segment::Owned(offsets))
 }
 
@@ -285,11 +285,11 @@ pub(crate) fn variable_binary_segments<'a>(
     ensures values { IfOk result
         (λ run. segment_bytes run.values ≡ slots Content (slot_values view.now)) }
 {
-    if let Some(lent) = borrowed_contents(view) {
-        let ends = value_ends(alloc, pool, &lent, view.len())?;
+    if let Some(contents) = borrowed_contents(view) {
+        let ends = value_ends(alloc, pool, &contents, view.len())?;
         return Ok(VariableBinarySegments {
             ends,
-            values: Segment::Borrowed(lent.bytes),
+            values: Segment::Borrowed(contents.bytes),
         });
     }
     let mut values = pooled_list(alloc, pool);

@@ -98,7 +98,7 @@ fn is_indexed(layout: Layout) -> bool
 // the type.
 fn shows_type(kind: &DataType, view: &SlotView<'_>) -> bool
     ensures plain { IsTrue result → layout_implies_type kind.now ≡ true }
-    ensures shown { IsTrue result
+    ensures shows { IsTrue result
         → AllByRecursion (IsShownBy (type_layout kind.now)) (slot_values view.now) }
 {
     if !layout_implies_type(kind) {
@@ -118,13 +118,13 @@ fn shows_type(kind: &DataType, view: &SlotView<'_>) -> bool
 }
 
 // Whether a slot is null or has a signed number of the field's type.
-fn is_own_number(field: &Field, held: &Slot<'_>) -> bool
+fn is_own_number(field: &Field, value: &Slot<'_>) -> bool
     ensures { IsTrue result → (under : ℕ → List Value) (slot : ℕ)
-        → is_set Valid (value_in_slot under slot held.now) ≡ true
+        → is_set Valid (value_in_slot under slot value.now) ≡ true
         → FitsOwnType (out-Field field.now).kind (out-Field field.now).nullable
-        (length (out-Field field.now).children) (out-Value (value_in_slot under slot held.now)) }
+        (length (out-Field field.now).children) (out-Value (value_in_slot under slot value.now)) }
 {
-    match held {
+    match value {
         Slot::Null => true,
         Slot::Int(number) => field.fits_own_type(&Value::Int(*number)),
         _ => false,

@@ -26,35 +26,35 @@ use std::alloc::{AllocError, Global};
 // A place for the index of each value of a column's dictionary, none of which was asked for.
 fn empty_cache(alloc: Global, slots: &SlotView<'_>) -> Result<Vec<Option<Option<u64>>>, AllocError>
     ensures { (index_for : Value → Option ℕ)
-        → IfOk result (λ kept. AreKept index_for slots.now.column.dictionary kept.items) }
+        → IfOk result (λ cache. AreKept index_for slots.now.column.dictionary cache.items) }
 {
-    let mut kept = Vec::new(alloc);
+    let mut cache = Vec::new(alloc);
     if let Some(entries) = slots.entries() {
-        kept.resize(entries.len(), None)?;
+        cache.resize(entries.len(), None)?;
     }
-    Ok(kept)
+    Ok(cache)
 }
 
 // The index of a value of the dictionary, where it was asked for.
 #[inline(always)]
-fn cached_index(kept: &[Option<Option<u64>>], entry: usize) -> Option<Option<u64>>
-    ensures { IfSome result (λ index. slice_get kept.now entry ≡ Some (Some index)) }
+fn cached_index(cache: &[Option<Option<u64>>], entry: usize) -> Option<Option<u64>>
+    ensures { IfSome result (λ index. slice_get cache.now entry ≡ Some (Some index)) }
 {
-    match kept.get(entry) {
+    match cache.get(entry) {
         Some(index) => *index,
         None => None,
     }
 }
 
 // Keeps the index of a value of the dictionary.
-fn cache_index(kept: &mut Vec<Option<Option<u64>>>, entry: usize, index: Option<u64>)
+fn cache_index(cache: &mut Vec<Option<Option<u64>>>, entry: usize, index: Option<u64>)
     ensures { (index_for : Value → Option ℕ) (dictionary : List Value)
-        → AreKept index_for dictionary kept.old.items
+        → AreKept index_for dictionary cache.old.items
         → ((value : Value) → slice_get dictionary entry ≡ Some value → index ≡ index_for value)
-        → AreKept index_for dictionary kept.new.items }
+        → AreKept index_for dictionary cache.new.items }
 {
-    if entry < kept.len() {
-        kept[entry] = Some(index);
+    if entry < cache.len() {
+        cache[entry] = Some(index);
     }
 }
 
@@ -88,7 +88,7 @@ fn entry_index<I: IndexOf>(
     column: usize,
     row: usize,
     entry: usize,
-    kept: &mut Vec<Option<Option<u64>>>,
+    cache: &mut Vec<Option<Option<u64>>>,
     layout: Layout,
     indices: &I,
 ) -> Result<Option<u64>, AllocError>
@@ -96,24 +96,24 @@ fn entry_index<I: IndexOf>(
     requires column { column < batch.now.columns }
     ensures index { (dictionary : List Value) (value : Value)
         → AreKept (column_index (index_or_zero (I.IndexOf.index indices.now)) layout) dictionary
-        kept.old.items
+        cache.old.items
         → slice_get dictionary entry ≡ Some value
         → slice_get (slice_index_or batch.now.rows row []) column ≡ Some value
         → IfOk result (λ index. index
         ≡ column_index (index_or_zero (I.IndexOf.index indices.now)) layout value) }
-    ensures kept { (dictionary : List Value)
+    ensures cache { (dictionary : List Value)
         → AreKept (column_index (index_or_zero (I.IndexOf.index indices.now)) layout) dictionary
-        kept.old.items
+        cache.old.items
         → slice_get dictionary entry
         ≡ slice_get (slice_index_or batch.now.rows row []) column
         → AreKept (column_index (index_or_zero (I.IndexOf.index indices.now)) layout) dictionary
-        kept.new.items }
+        cache.new.items }
 {
-    if let Some(index) = cached_index(kept, entry) {
+    if let Some(index) = cached_index(cache, entry) {
         return Ok(index);
     }
     let index = cell_index(alloc, batch, column, row, layout, indices)?;
-    cache_index(kept, entry, index);
+    cache_index(cache, entry, index);
     Ok(index)
 }
 
@@ -126,7 +126,7 @@ fn slot_index<I: IndexOf>(
     column: usize,
     slots: &SlotView<'_>,
     slot: usize,
-    kept: &mut Vec<Option<Option<u64>>>,
+    cache: &mut Vec<Option<Option<u64>>>,
     layout: Layout,
     indices: &I,
 ) -> Result<Option<u64>, AllocError>
@@ -135,17 +135,17 @@ fn slot_index<I: IndexOf>(
     requires slot { slot < length (slot_values slots.now) }
     ensures index { (value : Value)
         → AreKept (column_index (index_or_zero (I.IndexOf.index indices.now)) layout)
-        slots.now.column.dictionary kept.old.items
+        slots.now.column.dictionary cache.old.items
         → slice_get (slot_values slots.now) slot ≡ Some value
         → IfOk result (λ index. index
         ≡ column_index (index_or_zero (I.IndexOf.index indices.now)) layout value) }
-    ensures kept { AreKept (column_index (index_or_zero (I.IndexOf.index indices.now)) layout)
-        slots.now.column.dictionary kept.old.items
+    ensures cache { AreKept (column_index (index_or_zero (I.IndexOf.index indices.now)) layout)
+        slots.now.column.dictionary cache.old.items
         → AreKept (column_index (index_or_zero (I.IndexOf.index indices.now)) layout)
-        slots.now.column.dictionary kept.new.items }
+        slots.now.column.dictionary cache.new.items }
 {
     match slots.entry_at(slot) {
-        Some(entry) => entry_index(alloc, batch, column, slot, entry, kept, layout, indices),
+        Some(entry) => entry_index(alloc, batch, column, slot, entry, cache, layout, indices),
         None => cell_index(alloc, batch, column, slot, layout, indices),
     }
 }
@@ -159,20 +159,20 @@ fn slot_indices<I: IndexOf>(
     indices: &I,
 ) -> Result<Vec<Option<u64>>, AllocError>
     requires { column < batch.now.columns }
-    ensures { IfOk result (λ taken. taken.items
+    ensures { IfOk result (λ column_indices. column_indices.items
         ≡ map (column_index (index_or_zero (I.IndexOf.index indices.now)) layout)
         (cells column batch.now.rows)) }
 {
     let slots = batch.slots(column);
-    let mut kept = empty_cache(alloc, &slots)?;
-    let mut taken = Vec::new(alloc);
+    let mut cache = empty_cache(alloc, &slots)?;
+    let mut column_indices = Vec::new(alloc);
     for slot in 0..slots.len() {
         let index = slot_index(
-            alloc, batch, column, &slots, slot, &mut kept, layout, indices,
+            alloc, batch, column, &slots, slot, &mut cache, layout, indices,
         )?;
-        taken.push(index)?;
+        column_indices.push(index)?;
     }
-    Ok(taken)
+    Ok(column_indices)
 }
 
 // How many values have no index.
@@ -236,9 +236,9 @@ impl ColumnBuilder {
         }
         let layout = Layout::Indices { bits, signed, id };
         let alloc = *self.validity.allocator();
-        let taken = slot_indices(alloc, batch, column, layout, indices)?;
-        let null_count = count_nulls(&taken);
-        push_validities(&mut self.validity, &taken, null_count)?;
+        let column_indices = slot_indices(alloc, batch, column, layout, indices)?;
+        let null_count = count_nulls(&column_indices);
+        push_validities(&mut self.validity, &column_indices, null_count)?;
         self.nulls = 0;
         self.slots = count;
         self.nulls = null_count;
@@ -246,7 +246,7 @@ impl ColumnBuilder {
             bits,
             signed,
             id,
-            indices: taken,
+            indices: column_indices,
         });
         Ok(())
     }

@@ -39,7 +39,7 @@ fn range_at(ranges: &[(i64, i64)], i: usize) -> (i64, i64)
 
 // A range that begins `base` bytes later. `TooLong` if its offset does not fit 64 bits.
 #[tactic(auto, using(std::proofs::lemmas::Int::to_z_pos))]
-fn shifted(range: (i64, i64), base: usize) -> Result<(i64, i64), PushFault>
+fn shift_range(range: (i64, i64), base: usize) -> Result<(i64, i64), PushFault>
     requires { base < 2 ^ 63 }
     ensures shifted { IfOk result (λ moved. moved ≡ (range.0 +ℤ pos base, range.1)) }
     ensures refused { IfErr result (λ fault. (offset : ℕ) → range.0 ≡ pos offset
@@ -74,7 +74,7 @@ fn push_shifted(
 {
     for i in 0..more.len() {
         let range = range_at(more, i);
-        let moved = shifted(range, base)?;
+        let moved = shift_range(range, base)?;
         push_range(ranges, moved)?;
     }
     Ok(())

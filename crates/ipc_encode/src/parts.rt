@@ -148,17 +148,17 @@ fn add_indices<N: Renumber>(
 // Adds the buffers of a column that follow its validity bitmap.
 fn add_data<N: Renumber>(
     draft: &mut Draft,
-    held: &ColumnData,
+    contents: &ColumnData,
     numbers: &N,
 ) -> Result<(), AllocError>
     ensures nodes { OnOk result (draft.new.nodes.items ≡ draft.old.nodes.items) }
-    ensures adds { (known : Numbering) (values : List Value) → HoldsValues known values held.now
+    ensures adds { (known : Numbering) (values : List Value) → HoldsValues known values contents.now
         → OnOk result (Adds draft.old draft.new
-        (data_buffers (data_layout held.now)
-        (written_values (new_indices (N.Renumber.number numbers.now) known) (data_layout held.now)
-        values))) }
+        (data_buffers (data_layout contents.now)
+        (written_values (new_indices (N.Renumber.number numbers.now) known)
+        (data_layout contents.now) values))) }
 {
-    match held {
+    match contents {
         ColumnData::Null | ColumnData::FixedLists(_) | ColumnData::Structs => Ok(()),
         ColumnData::Bits(values)
         | ColumnData::Numbers { values, .. }

@@ -29,11 +29,11 @@ use std::alloc::AllocError;
 
 /// Returns whether a slot is true.
 #[inline(always)]
-pub(crate) fn is_true(held: &Slot<'_>) -> bool
+pub(crate) fn is_true_slot(value: &Slot<'_>) -> bool
     ensures { (under : ℕ → List Value) (slot : ℕ)
-        → result ≡ is_set True (value_in_slot under slot held.now) }
+        → result ≡ is_set True (value_in_slot under slot value.now) }
 {
-    match held {
+    match value {
         Slot::Bool(truth) => *truth,
         _ => false,
     }
@@ -41,11 +41,11 @@ pub(crate) fn is_true(held: &Slot<'_>) -> bool
 
 /// Returns the bytes of a binary value or a text in a slot.
 #[inline(always)]
-pub(crate) fn content<'a>(held: &Slot<'a>) -> &'a [u8]
+pub(crate) fn slot_content<'a>(value: &Slot<'a>) -> &'a [u8]
     ensures { (under : ℕ → List Value) (slot : ℕ)
-        → result.now ≡ content (value_in_slot under slot held.now) }
+        → result.now ≡ content (value_in_slot under slot value.now) }
 {
-    match held {
+    match value {
         Slot::Bytes(bytes) => bytes,
         Slot::Text(bytes) => bytes,
         _ => &[],
@@ -61,15 +61,15 @@ fn push_zeros(values: &mut Vec<u8>, width: u32) -> Result<(), AllocError>
 
 /// Appends the bytes of a binary value, or `width` zeros.
 #[inline(always)]
-pub(crate) fn push_fixed(
+pub(crate) fn push_fixed_slot(
     values: &mut Vec<u8>,
-    held: &Slot<'_>,
+    value: &Slot<'_>,
     width: u32,
 ) -> Result<(), AllocError>
     ensures { (under : ℕ → List Value) (slot : ℕ) → OnOk result (values.new.items
-        ≡ values.old.items ++ slot_bytes (Fixed width) (value_in_slot under slot held.now)) }
+        ≡ values.old.items ++ slot_bytes (Fixed width) (value_in_slot under slot value.now)) }
 {
-    match held {
+    match value {
         Slot::Bytes(bytes) => values.extend_from_slice(bytes),
         _ => push_zeros(values, width),
     }
@@ -77,11 +77,11 @@ pub(crate) fn push_fixed(
 
 /// Returns the number of items of the list in a slot. Any other slot has none.
 #[inline(always)]
-pub(crate) fn item_count(held: &Slot<'_>) -> usize
+pub(crate) fn item_count(value: &Slot<'_>) -> usize
     ensures { (under : ℕ → List Value) (slot : ℕ)
-        → result ≡ length (items (value_in_slot under slot held.now)) }
+        → result ≡ length (items (value_in_slot under slot value.now)) }
 {
-    match held {
+    match value {
         Slot::List { from, to } => to.saturating_sub(*from),
         _ => 0,
     }
@@ -215,8 +215,8 @@ pub(crate) fn push_bools(bits: &mut Vec<u8>, view: &SlotView<'_>) -> Result<(), 
     let full = view.len() / 8;
     push_set_bits(bits, buffers.values, buffers.validity, full)?;
     for slot in 8 * full..view.len() {
-        let shown = view.at(slot);
-        push_bit(bits, slot, is_true(&shown))?;
+        let value = view.at(slot);
+        push_bit(bits, slot, is_true_slot(&value))?;
     }
     Ok(())
 }
@@ -231,8 +231,8 @@ pub(crate) fn push_fixed_slots(
         (values.new.items ≡ values.old.items ++ slots (Fixed width) (slot_values view.now)) }
 {
     for slot in 0..view.len() {
-        let shown = view.at(slot);
-        push_fixed(values, &shown, width)?;
+        let value = view.at(slot);
+        push_fixed_slot(values, &value, width)?;
     }
     Ok(())
 }
@@ -249,8 +249,8 @@ pub(crate) fn push_each_content(
         ≡ offsets.old.items ++ ends Bytes (length values.old.items) (slot_values view.now)) }
 {
     for slot in 0..view.len() {
-        let shown = view.at(slot);
-        values.extend_from_slice(content(&shown))?;
+        let value = view.at(slot);
+        values.extend_from_slice(slot_content(&value))?;
         push_offset(offsets, values.len())?;
     }
     Ok(())
@@ -259,18 +259,18 @@ pub(crate) fn push_each_content(
 /// Appends the offset at which each of `count` values ends, if the first begins at 0.
 pub(crate) fn push_ends(
     offsets: &mut Vec<u8>,
-    lent: &BorrowedContents<'_>,
+    contents: &BorrowedContents<'_>,
     count: usize,
 ) -> Result<(), AllocError>
-    requires { length lent.now.ends.now ≡ 4 * count }
+    requires { length contents.now.ends.now ≡ 4 * count }
     ensures { (values : List Value) → length values ≡ count
-        → ((i : ℕ) → i < count → num lent.now.ends.now (4 * i) 4
-        ≡ lent.now.start + length (slots Content (take (i + 1) values)))
+        → ((i : ℕ) → i < count → num contents.now.ends.now (4 * i) 4
+        ≡ contents.now.start + length (slots Content (take (i + 1) values)))
         → OnOk result (offsets.new.items ≡ offsets.old.items ++ ends Bytes 0 values) }
 {
     for slot in 0..count {
-        let end = offset_at(lent.ends, slot) as usize;
-        push_offset(offsets, end.saturating_sub(lent.start))?;
+        let end = offset_at(contents.ends, slot) as usize;
+        push_offset(offsets, end.saturating_sub(contents.start))?;
     }
     Ok(())
 }

@@ -49,7 +49,7 @@ pub(crate) fn new_node(field: &Field, kept: Option<Node>, alloc: Global) -> Resu
 {
     let layout = layout_of(&field.kind, field.dictionary);
     let (column, children) = match kept {
-        Some(Node { column, children }) => (column.emptied(layout, alloc)?, children),
+        Some(Node { column, children }) => (column.into_empty(layout, alloc)?, children),
         None => (ColumnBuilder::new(alloc, layout)?, Vec::new(alloc)),
     };
     let children = new_nodes(field.children.as_slice(), children, alloc)?;

@@ -1,4 +1,5 @@
-//! The weight of a row, by which a builder budgets its memory: 6 for each slot, and the data.
+//! The weight of a row, by which a builder knows that its rows are within the limits: 6 for each
+//! slot, and the bytes of the data.
 ghost use Rattle.std.specs.Prelude.{◌≡◌, ◌↔◌, ℕ, map, [], ◌∷◌, length, IfNone, IfSome, IsSome};
 ghost use Rattle.std.specs.List.{AllByRecursion};
 ghost use Rattle.ipc_model.specs.Entries.{all_at, entries, preorder};

@@ -9,7 +9,7 @@ ghost use Rattle.ipc_model.specs.declared.limits.Limits.{Limits};
 ghost use Rattle.ipc_model.specs.declared.value.Value.{Value};
 ghost use Rattle.ipc_model.specs.declared.value.Value.TheVariants.{Null};
 ghost use Rattle.ipc_column.specs.Nested.{Nested, only_column, slot_values};
-ghost use Rattle.ipc_column.specs.checks.Rules.{SpellsTexts};
+ghost use Rattle.ipc_column.specs.checks.Rules.{HasUtf8Texts};
 ghost use Rattle.ipc_column.specs.Shapes as shapes;
 ghost use Rattle.ipc_column.specs.Shapes.{Shape, bare, field, field_children, field_layout};
 ghost use Rattle.ipc_column.specs.Shapes.{shape_of};
@@ -46,8 +46,8 @@ pub(crate) fn lists_use_all_items(view: &SlotView<'_>) -> bool
         → all_items (slot_values view.now) ≡ slot_values child }
     ensures texts { IsTrue result → (child : Nested)
         → slice_get (nested_in view.now) 0 ≡ Some child
-        → ((i : ℕ) → i < length (slot_values view.now) → SpellsTexts (only_column view.now) i)
-        → (i : ℕ) → i < length (slot_values child) → SpellsTexts (only_column child) i }
+        → ((i : ℕ) → i < length (slot_values view.now) → HasUtf8Texts (only_column view.now) i)
+        → (i : ℕ) → i < length (slot_values child) → HasUtf8Texts (only_column child) i }
 {
     let buffers = view.buffers();
     let count = view.len();
@@ -90,8 +90,8 @@ pub(crate) fn structs_use_all_slots(view: &SlotView<'_>, i: usize) -> bool
         → all_parts i (slot_values view.now) ≡ slot_values child }
     ensures texts { IsTrue result → (child : Nested)
         → slice_get (nested_in view.now) i ≡ Some child
-        → ((j : ℕ) → j < length (slot_values view.now) → SpellsTexts (only_column view.now) j)
-        → (j : ℕ) → j < length (slot_values child) → SpellsTexts (only_column child) j }
+        → ((j : ℕ) → j < length (slot_values view.now) → HasUtf8Texts (only_column view.now) j)
+        → (j : ℕ) → j < length (slot_values child) → HasUtf8Texts (only_column child) j }
 {
     let buffers = view.buffers();
     let Layout::Structs = buffers.layout else {
@@ -112,8 +112,8 @@ fn uses_all_slots(view: &SlotView<'_>, i: usize) -> bool
         → child_values view.now.column.layout (slot_values view.now) i ≡ slot_values child }
     ensures texts { IsTrue result → (child : Nested)
         → slice_get (nested_in view.now) i ≡ Some child
-        → ((j : ℕ) → j < length (slot_values view.now) → SpellsTexts (only_column view.now) j)
-        → (j : ℕ) → j < length (slot_values child) → SpellsTexts (only_column child) j }
+        → ((j : ℕ) → j < length (slot_values view.now) → HasUtf8Texts (only_column view.now) j)
+        → (j : ℕ) → j < length (slot_values child) → HasUtf8Texts (only_column child) j }
 {
     match view.layout() {
         Layout::Lists => i == 0 && lists_use_all_items(view),
@@ -136,7 +136,7 @@ pub(crate) fn has_node_layout(node: &Node, view: &SlotView<'_>) -> bool
     ensures { IsTrue result → (known : Numbering) (limits : Limits) (layout : Layout)
         (children : Shape) (before : List Value)
         → IsNode (IsColumn known limits) layout children node.now before
-        → ((i : ℕ) → i < length (slot_values view.now) → SpellsTexts (only_column view.now) i)
+        → ((i : ℕ) → i < length (slot_values view.now) → HasUtf8Texts (only_column view.now) i)
         → IsFullColumn layout children view.now (slot_values view.now) }
 {
     let layout = node.column.data.layout();
@@ -153,7 +153,7 @@ fn have_node_layouts(nodes: &[Node], view: &SlotView<'_>) -> bool
     requires { length nodes.now ≡ length view.now.children }
     ensures { IsTrue result → (known : Numbering) (limits : Limits) (shape : Shape)
         (before : ℕ → List Value) → AreNodes (IsColumn known limits) shape nodes.now before
-        → ((i : ℕ) → i < length (slot_values view.now) → SpellsTexts (only_column view.now) i)
+        → ((i : ℕ) → i < length (slot_values view.now) → HasUtf8Texts (only_column view.now) i)
         → AreFullColumns shape (nested_in view.now)
         (child_values view.now.column.layout (slot_values view.now)) }
 {

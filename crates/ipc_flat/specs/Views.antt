@@ -68,7 +68,7 @@ IsAnswer view (Err e) answer = answer ≡ Err e
 -- there is a table at t with its vtable of `size` bytes at v; the table's first 4 bytes and the
 -- whole vtable are inside the bytes
 pub record IsTableAt (b : List ℕ) (t v size : ℕ) : Type 0 where
-  pub found : vtable_of b t ≡ Ok v
+  pub vtable_is : vtable_of b t ≡ Ok v
   pub stated : size ≡ num b v 2
   pub table_inside : t + 4 ≤ length b
   pub vtable_inside : v + size ≤ length b

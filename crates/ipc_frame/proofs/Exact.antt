@@ -24,9 +24,9 @@ mark_longer z c long is = take-append-le 4 z c long ∙ is
 -- a mark and a size stay with more bytes behind them
 pub begins_longer : {limits : Limits} → (z c : List ℕ) (n : ℕ) → Begins limits z n → Begins limits (z ++ c) n
 begins_longer z c n b = record {
-  begun = omega (arith, b.begun, length-append z c);
-  marked = mark_longer z c (omega (arith, b.begun)) b.marked;
-  sized = front_number z c b.begun ∙ b.sized;
+  prefix = omega (arith, b.prefix, length-append z c);
+  marked = mark_longer z c (omega (arith, b.prefix)) b.marked;
+  sized = front_number z c b.prefix ∙ b.sized;
   fits = b.fits;
 }
 

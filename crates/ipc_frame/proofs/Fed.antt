@@ -11,7 +11,7 @@ use Rattle.ipc_frame.specs.declared.frame.Frame.TheVariants as f
 use Rattle.ipc_frame.specs.declared.frames.FrameState.{FrameState}
 use Rattle.ipc_frame.specs.declared.frames.FrameState.TheVariants as phase
 use Rattle.ipc_frame.specs.declared.partial_message.Expectation.{Expectation}
-use Rattle.ipc_frame.specs.declared.partial_message.Expectation.TheVariants as awaited
+use Rattle.ipc_frame.specs.declared.partial_message.Expectation.TheVariants as expectation
 use Rattle.ipc_frame.specs.declared.partial_message.PartialMessage.{PartialMessage}
 use Rattle.ipc_frame.specs.declared.step.MessageStep.TheVariants.{More, Whole}
 
@@ -50,11 +50,11 @@ lengths p = omega (arith, length-append p.start (p.meta.items ++ body_bytes p.bo
 -- the parts in front of a body have few bytes
 pub front_fits : (limits : Limits) (p : PartialMessage) (s : FrameState) → IsSound limits p s
     → length p.start + length p.meta.items ≤ 268435464
-front_fits limits p (phase.Reading awaited.Continuation) h = omega (arith, h.fits.few, ap length h.fits.no_metadata)
-front_fits limits p (phase.Reading awaited.Size) h = omega (arith, h.fits.few, ap length h.fits.no_metadata)
-front_fits limits p (phase.Reading (awaited.Metadata n)) h =
+front_fits limits p (phase.Reading expectation.Continuation) h = omega (arith, h.fits.few, ap length h.fits.no_metadata)
+front_fits limits p (phase.Reading expectation.Size) h = omega (arith, h.fits.few, ap length h.fits.no_metadata)
+front_fits limits p (phase.Reading (expectation.Metadata n)) h =
     omega (arith, h.fits.eight, h.fits.few, h.fits.begins.fits, limits.metadata_fits)
-front_fits limits p (phase.Reading (awaited.Body n)) h = omega (arith, h.fits.eight, h.fits.begins.fits, limits.metadata_fits)
+front_fits limits p (phase.Reading (expectation.Body n)) h = omega (arith, h.fits.eight, h.fits.begins.fits, limits.metadata_fits)
 front_fits limits p phase.Ended h = omega (arith, ap length h.0, lengths p)
 front_fits limits p phase.Refused h = omega (arith, ap length h.0, lengths p)
 
@@ -68,13 +68,13 @@ held_is limits p phase.Refused h = omega (arith, ap length h.0, lengths p)
 -- no more is kept than one message may have
 pub held_bounded : (limits : Limits) (p : PartialMessage) (s : FrameState) → IsSound limits p s
     → length p.start + length p.meta.items + length (body_bytes p.body) ≤ 8 + limits.metadata + limits.body
-held_bounded limits p (phase.Reading awaited.Continuation) h =
+held_bounded limits p (phase.Reading expectation.Continuation) h =
     omega (arith, h.fits.few, ap length h.fits.no_metadata, ap length h.fits.no_body)
-held_bounded limits p (phase.Reading awaited.Size) h =
+held_bounded limits p (phase.Reading expectation.Size) h =
     omega (arith, h.fits.few, ap length h.fits.no_metadata, ap length h.fits.no_body)
-held_bounded limits p (phase.Reading (awaited.Metadata n)) h =
+held_bounded limits p (phase.Reading (expectation.Metadata n)) h =
     omega (arith, h.fits.eight, h.fits.few, h.fits.begins.fits, ap length h.fits.no_body)
-held_bounded limits p (phase.Reading (awaited.Body n)) h =
+held_bounded limits p (phase.Reading (expectation.Body n)) h =
     omega (arith, h.fits.eight, h.fits.begins.fits, h.fits.few, h.fits.states.fits)
 held_bounded limits p phase.Ended h = omega (arith, ap length h.0, lengths p)
 held_bounded limits p phase.Refused h = omega (arith, ap length h.0, lengths p)

@@ -16,7 +16,7 @@ use Rattle.ipc_frame.specs.declared.body.Body.{Body}
 use Rattle.ipc_frame.specs.declared.frames.FrameState.{FrameState}
 use Rattle.ipc_frame.specs.declared.frames.FrameState.TheVariants as phase
 use Rattle.ipc_frame.specs.declared.partial_message.Expectation.{Expectation}
-use Rattle.ipc_frame.specs.declared.partial_message.Expectation.TheVariants as awaited
+use Rattle.ipc_frame.specs.declared.partial_message.Expectation.TheVariants as expectation
 use Rattle.ipc_frame.specs.declared.partial_message.PartialMessage.{PartialMessage}
 
 -- what came behind the first bytes of a list, where it is written back whole
@@ -58,19 +58,19 @@ module _ (limits : Limits) (p : PartialMessage) (b : Body) (same : body_bytes b 
   pending_there k h = subst (λ z. Pending limits z k) (sym same_bytes) h
 
   pub sound_there : (a : Expectation) → Undecided limits p a → Undecided limits with_body a
-  sound_there awaited.Continuation h = record {
+  sound_there expectation.Continuation h = record {
     fits = subst (λ z. InMark p.start p.meta.items z) (sym same) h.fits;
     pending = pending_there _ h.pending;
   }
-  sound_there awaited.Size h = record {
+  sound_there expectation.Size h = record {
     fits = subst (λ z. InSize p.start p.meta.items z) (sym same) h.fits;
     pending = pending_there _ h.pending;
   }
-  sound_there (awaited.Metadata n) h = record {
+  sound_there (expectation.Metadata n) h = record {
     fits = subst (λ z. InMetadata limits p.start p.meta.items z n) (sym same) h.fits;
     pending = pending_there _ h.pending;
   }
-  sound_there (awaited.Body n) h = record {
+  sound_there (expectation.Body n) h = record {
     fits = subst (λ z. InBody limits p.start p.meta.items z n) (sym same) h.fits;
     pending = subst (λ j. Pending limits (received_bytes with_body) j) (ap (λ z. n - length z) (sym same)) (pending_there _ h.pending);
   }

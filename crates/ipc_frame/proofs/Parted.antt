@@ -12,11 +12,11 @@ use Rattle.ipc_meta.specs.Heads.{HeadOf}
 use Rattle.ipc_frame.specs.Bodies.{body_bytes}
 use Rattle.ipc_frame.specs.Frames.{end_of_stream, Frame, Begins, Pending, in_metadata, in_body}
 use Rattle.ipc_frame.specs.Sees.{RefusesMessage}
-use Rattle.ipc_frame.specs.Parts.{received_bytes, bytes_needed, InSize, InMetadata, InBody, Undecided}
+use Rattle.ipc_frame.specs.Parts.{received_bytes, InSize, InMetadata, InBody, Undecided}
 use Rattle.ipc_frame.specs.declared.partial_message.PartialMessage.{PartialMessage}
-use Rattle.ipc_frame.specs.declared.partial_message.Expectation.TheVariants as awaited
+use Rattle.ipc_frame.specs.declared.partial_message.Expectation.TheVariants as expectation
 use Rattle.ipc_frame.proofs.Decided.{eos_of}
-use Rattle.ipc_frame.proofs.Exact.{begins_longer, pending_none}
+use Rattle.ipc_frame.proofs.Exact.{begins_longer}
 
 -- ---- three lists, of which the first has eight bytes
 
@@ -35,7 +35,7 @@ module _ (limits : Limits) (s m b : List ℕ) (eight : length s ≡ 8) where
   whole_frame : (head : Head) → Begins limits s (length m) → HeadOf limits m head (length b) → Frame limits (s ++ (m ++ b)) m head b
   whole_frame head begins states =
       let all = begins_longer s (m ++ b) (length m) begins in
-      record { begun = all.begun; marked = all.marked; sized = all.sized; carried = behind_start; fits = all.fits; states = states }
+      record { prefix = all.prefix; marked = all.marked; sized = all.sized; carried = behind_start; fits = all.fits; states = states }
 
   no_head : (n : ℕ) (fault : Fault) → n ≡ length m → 0 < n → Begins limits s n
       → ((head : Head) (k : ℕ) → HeadOf limits m head k → ⊥)
@@ -69,7 +69,7 @@ alone p a b = ap (λ z. p.start ++ (z ++ body_bytes p.body)) a ∙ (ap (λ z. p.
 module _ (limits : Limits) (p : PartialMessage) (h : InSize p.start p.meta.items (body_bytes p.body)) where
   module _ (whole : 8 ≤ length p.start) where
     begins : (n : ℕ) → int32 p.start 4 ≡ pos n → n ≤ limits.metadata → Begins limits p.start n
-    begins n is fits = record { begun = whole; marked = h.marked; sized = is; fits = fits }
+    begins n is fits = record { prefix = whole; marked = h.marked; sized = is; fits = fits }
 
     -- a size of 0 is the end mark's
     pub ends : int32 p.start 4 ≡ pos 0 → received_bytes p ≡ end_of_stream
@@ -77,7 +77,7 @@ module _ (limits : Limits) (p : PartialMessage) (h : InSize p.start p.meta.items
         alone p h.no_metadata h.no_body ∙ (sym (take_all 8 p.start h.few)
         ∙ eos_of {limits = limits} p.start (begins 0 none (omega arith)))
 
-    pub sized : (n : ℕ) → int32 p.start 4 ≡ pos n → n ≤ limits.metadata → 0 < n → Undecided limits p (awaited.Metadata n)
+    pub sized : (n : ℕ) → int32 p.start 4 ≡ pos n → n ≤ limits.metadata → 0 < n → Undecided limits p (expectation.Metadata n)
     sized n is fits some =
         let none : length p.meta.items ≡ 0 = ap length h.no_metadata in
         let eight : length p.start ≡ 8 = omega (arith, whole, h.few) in
@@ -90,7 +90,7 @@ module _ (limits : Limits) (p : PartialMessage) (h : InSize p.start p.meta.items
 -- ---- the metadata
 
 module _ (limits : Limits) (p : PartialMessage) (n : ℕ) (h : InMetadata limits p.start p.meta.items (body_bytes p.body) n) where
-  pub metadata_short : length p.meta.items < n → Undecided limits p (awaited.Metadata n)
+  pub metadata_short : length p.meta.items < n → Undecided limits p (expectation.Metadata n)
   metadata_short short = record {
     fits = h;
     pending = awaits_metadata limits _ _ _ h.eight n _ h.begins h.no_body (omega arith) (omega arith);
@@ -107,7 +107,7 @@ module _ (limits : Limits) (p : PartialMessage) (n : ℕ) (h : InMetadata limits
     none = ap length h.no_body
 
     pub stated : (k : ℕ) (head : Head) → HeadOf limits p.meta.items head k → 0 < k
-        → Undecided limits p (awaited.Body k)
+        → Undecided limits p (expectation.Body k)
     stated k head states some = record {
       fits = record { eight = h.eight; begins = here; head = head; states = states; few = omega (arith, none) };
       pending = awaits_body limits _ _ _ h.eight k _ head here states (omega (arith, none)) (omega (arith, none));
@@ -125,7 +125,7 @@ module _ (limits : Limits) (p : PartialMessage) (n : ℕ) (h : InMetadata limits
 -- ---- the body
 
 module _ (limits : Limits) (p : PartialMessage) (n : ℕ) (h : InBody limits p.start p.meta.items (body_bytes p.body) n) where
-  pub body_short : length (body_bytes p.body) < n → Undecided limits p (awaited.Body n)
+  pub body_short : length (body_bytes p.body) < n → Undecided limits p (expectation.Body n)
   body_short short = record {
     fits = h;
     pending = awaits_body limits _ _ _ h.eight n _ h.head h.begins h.states (omega arith) (omega arith);
@@ -138,17 +138,3 @@ module _ (limits : Limits) (p : PartialMessage) (n : ℕ) (h : InBody limits p.s
       whole_frame limits _ _ _ h.eight head h.begins (subst (λ j. HeadOf limits p.meta.items head j) all states)
 
 -- ---- no byte
-
--- of a message of which nothing came four bytes are wanted
-pub nothing_came : (limits : Limits) (p : PartialMessage) → p.start ≡ [] → p.meta.items ≡ [] → body_bytes p.body ≡ []
-    → (received_bytes p ≡ []) × Undecided limits p awaited.Continuation
-nothing_came limits p a b d =
-    let empty : received_bytes p ≡ [] = rw (a, b, d) refl in
-    let four : bytes_needed p awaited.Continuation ≡ 4 = rw a refl in (
-      empty,
-      record {
-        fits = record { few = omega (arith, ap length a); no_metadata = b; no_body = d };
-        pending = subst (λ z. Pending limits z (bytes_needed p awaited.Continuation)) (sym empty)
-            (subst (λ n. Pending limits [] n) (sym four) pending_none);
-      },
-    )

@@ -12,7 +12,7 @@ use Rattle.ipc_frame.specs.Bodies.{body_bytes}
 use Rattle.ipc_frame.specs.Frames.{Frame, IsSized}
 use Rattle.ipc_frame.specs.Parts.{received_bytes, FitsExpectation, HasSize}
 use Rattle.ipc_frame.specs.declared.partial_message.Expectation.{Expectation}
-use Rattle.ipc_frame.specs.declared.partial_message.Expectation.TheVariants as awaited
+use Rattle.ipc_frame.specs.declared.partial_message.Expectation.TheVariants as expectation
 use Rattle.ipc_frame.specs.declared.partial_message.PartialMessage.{PartialMessage}
 use Rattle.ipc_frame.proofs.Exact.{begins_longer}
 use Rattle.ipc_frame.proofs.Stepped.{Feeding}
@@ -29,11 +29,11 @@ some_metadata (b ∷ bs) head n h = omega arith
 -- once the size is known, the bytes that came have it
 pub sized_at : (limits : Limits) (p : PartialMessage) (a : Expectation) → HasSize a → FitsExpectation limits p a
     → IsSized limits (received_bytes p)
-sized_at limits p awaited.Continuation has fits = absurd has
-sized_at limits p awaited.Size has fits = absurd has
-sized_at limits p (awaited.Metadata n) has fits =
+sized_at limits p expectation.Continuation has fits = absurd has
+sized_at limits p expectation.Size has fits = absurd has
+sized_at limits p (expectation.Metadata n) has fits =
     sized_longer p.start (p.meta.items ++ body_bytes p.body) (n, fits.some, fits.begins)
-sized_at limits p (awaited.Body n) has fits =
+sized_at limits p (expectation.Body n) has fits =
     sized_longer p.start (p.meta.items ++ body_bytes p.body)
     (length p.meta.items, some_metadata p.meta.items fits.head n fits.states, fits.begins)
 
@@ -61,5 +61,5 @@ pub frame_sized : {limits : Limits} → (x m body : List ℕ) (g : Head) → Fra
 frame_sized x m body g f = (
   length m,
   some_metadata m g (length body) f.states,
-  record { begun = f.begun; marked = f.marked; sized = f.sized; fits = f.fits },
+  record { prefix = f.prefix; marked = f.marked; sized = f.sized; fits = f.fits },
 )

@@ -10,7 +10,7 @@ use Rattle.ipc_frame.specs.Frames.{Frame}
 pub frame_wider : (limits others : Limits) (x metadata body : List ℕ) (head : Head) → Covers others limits
     → Frame limits x metadata head body → Frame others x metadata head body
 frame_wider limits others x metadata body head c f = record {
-  begun = f.begun;
+  prefix = f.prefix;
   marked = f.marked;
   sized = f.sized;
   carried = f.carried;

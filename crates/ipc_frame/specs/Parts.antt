@@ -12,7 +12,7 @@ use Rattle.ipc_frame.specs.Frames.{continuation_marker, end_of_stream, Frame, Be
 use Rattle.ipc_frame.specs.Sees.{RefusesMessage}
 use Rattle.ipc_frame.specs.declared.partial_message.PartialMessage.{PartialMessage}
 use Rattle.ipc_frame.specs.declared.partial_message.Expectation.{Expectation}
-use Rattle.ipc_frame.specs.declared.partial_message.Expectation.TheVariants as awaited
+use Rattle.ipc_frame.specs.declared.partial_message.Expectation.TheVariants as expectation
 use Rattle.ipc_frame.specs.declared.decision.Decision.{Decision}
 use Rattle.ipc_frame.specs.declared.decision.Decision.TheVariants as decision
 
@@ -35,10 +35,10 @@ capacity_of p = record { metadata = vec_capacity p.meta; body = vec_capacity p.b
 
 -- how many bytes are needed before the next decision
 abbrev pub bytes_needed : PartialMessage → Expectation → ℕ
-bytes_needed p awaited.Continuation = 4 - length p.start
-bytes_needed p awaited.Size = 8 - length p.start
-bytes_needed p (awaited.Metadata size) = size - length p.meta.items
-bytes_needed p (awaited.Body size) = size - length (body_bytes p.body)
+bytes_needed p expectation.Continuation = 4 - length p.start
+bytes_needed p expectation.Size = 8 - length p.start
+bytes_needed p (expectation.Metadata size) = size - length p.meta.items
+bytes_needed p (expectation.Body size) = size - length (body_bytes p.body)
 
 -- the mark is being read: at most four bytes have come, none of them of the metadata or the body
 pub record InMark (start meta body : List ℕ) : Type 0 where
@@ -72,11 +72,11 @@ pub record InBody (limits : Limits) (start meta body : List ℕ) (size : ℕ) : 
 
 -- the parts before the awaited one are complete, and the awaited one has at most its size
 abbrev pub FitsExpectation : Limits → PartialMessage → Expectation → Type 0
-FitsExpectation limits p awaited.Continuation = InMark p.start p.meta.items (body_bytes p.body)
-FitsExpectation limits p awaited.Size = InSize p.start p.meta.items (body_bytes p.body)
-FitsExpectation limits p (awaited.Metadata size) =
+FitsExpectation limits p expectation.Continuation = InMark p.start p.meta.items (body_bytes p.body)
+FitsExpectation limits p expectation.Size = InSize p.start p.meta.items (body_bytes p.body)
+FitsExpectation limits p (expectation.Metadata size) =
     InMetadata limits p.start p.meta.items (body_bytes p.body) size
-FitsExpectation limits p (awaited.Body size) = InBody limits p.start p.meta.items
+FitsExpectation limits p (expectation.Body size) = InBody limits p.start p.meta.items
     (body_bytes p.body) size
 
 -- nothing is decided: more of the awaited part has to come
@@ -95,7 +95,7 @@ Decides limits p (Err fault) =
 
 -- the awaited part comes after the size of the metadata
 abbrev pub HasSize : Expectation → Type 0
-HasSize awaited.Continuation = ⊥
-HasSize awaited.Size = ⊥
-HasSize (awaited.Metadata size) = ⊤
-HasSize (awaited.Body size) = ⊤
+HasSize expectation.Continuation = ⊥
+HasSize expectation.Size = ⊥
+HasSize (expectation.Metadata size) = ⊤
+HasSize (expectation.Body size) = ⊤

@@ -103,14 +103,14 @@ pub fn decide(
     alloc: Global,
     limits: &Limits,
     parts: &PartialMessage,
-    awaited: Expectation,
+    expectation: Expectation,
 ) -> Result<Decision, Fault>
-    requires { FitsExpectation limits.now parts.now awaited }
+    requires { FitsExpectation limits.now parts.now expectation }
     ensures decides { Decides limits.now parts.now result }
     // Memory runs out only once the size of the metadata is known.
-    ensures memory { IfErr result (λ fault. fault ≡ Fault.OutOfMemory → HasSize awaited) }
+    ensures memory { IfErr result (λ fault. fault ≡ Fault.OutOfMemory → HasSize expectation) }
 {
-    match awaited {
+    match expectation {
         Expectation::Continuation => decide_continuation(limits, parts),
         Expectation::Size => decide_size(limits, parts),
         Expectation::Metadata(size) => decide_metadata(alloc, limits, parts, size),

@@ -120,10 +120,10 @@ impl Frames {
         match self.phase {
             FrameState::Ended => Ok((0, None)),
             FrameState::Refused => Err(Fault::Failed),
-            FrameState::Reading(awaited) => {
-                match feed_on(self.alloc, &self.limits, &mut self.parts, awaited, piece) {
-                    Ok((taken, MessageStep::More(awaited))) => {
-                        self.phase = FrameState::Reading(awaited);
+            FrameState::Reading(expectation) => {
+                match feed_on(self.alloc, &self.limits, &mut self.parts, expectation, piece) {
+                    Ok((taken, MessageStep::More(expectation))) => {
+                        self.phase = FrameState::Reading(expectation);
                         Ok((taken, None))
                     }
                     Ok((taken, MessageStep::Whole(frame))) => {
@@ -169,17 +169,17 @@ impl Frames {
         match self.phase {
             FrameState::Ended => (0, Ok(None)),
             FrameState::Refused => (0, Err(Fault::Failed)),
-            FrameState::Reading(awaited) => {
+            FrameState::Reading(expectation) => {
                 let (count, step) = read_on(
                     self.alloc,
                     &self.limits,
                     source,
                     &mut self.parts,
-                    awaited,
+                    expectation,
                 );
                 match step {
-                    Ok(MessageStep::More(awaited)) => {
-                        self.phase = FrameState::Reading(awaited);
+                    Ok(MessageStep::More(expectation)) => {
+                        self.phase = FrameState::Reading(expectation);
                         (count, Ok(None))
                     }
                     Ok(MessageStep::Whole(frame)) => {
@@ -221,7 +221,7 @@ impl Frames {
         ensures { Wants self.now.limits self.now.progress result }
     {
         match self.phase {
-            FrameState::Reading(awaited) => bytes_needed(&self.limits, &self.parts, awaited),
+            FrameState::Reading(expectation) => bytes_needed(&self.limits, &self.parts, expectation),
             FrameState::Ended | FrameState::Refused => 0,
         }
     }

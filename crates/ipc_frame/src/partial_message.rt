@@ -44,11 +44,11 @@ impl PartialMessage {
 }
 
 // How many bytes are needed before the next decision.
-pub fn bytes_needed(limits: &Limits, parts: &PartialMessage, awaited: Expectation) -> usize
-    requires { FitsExpectation limits.now parts.now awaited }
-    ensures { result ≡ bytes_needed parts.now awaited }
+pub fn bytes_needed(limits: &Limits, parts: &PartialMessage, expectation: Expectation) -> usize
+    requires { FitsExpectation limits.now parts.now expectation }
+    ensures { result ≡ bytes_needed parts.now expectation }
 {
-    match awaited {
+    match expectation {
         Expectation::Continuation => 4 - parts.start.len(),
         Expectation::Size => 8 - parts.start.len(),
         Expectation::Metadata(size) => size - parts.meta.len(),
@@ -60,16 +60,16 @@ pub fn bytes_needed(limits: &Limits, parts: &PartialMessage, awaited: Expectatio
 pub fn extend(
     limits: &Limits,
     parts: &mut PartialMessage,
-    awaited: Expectation,
+    expectation: Expectation,
     bytes: &[u8],
 ) -> Result<(), AllocError>
-    requires fits { FitsExpectation limits.now parts.old awaited }
-    requires few { length bytes.now ≤ bytes_needed parts.old awaited }
-    ensures fits { OnOk result (FitsExpectation limits.now parts.new awaited) }
+    requires fits { FitsExpectation limits.now parts.old expectation }
+    requires few { length bytes.now ≤ bytes_needed parts.old expectation }
+    ensures fits { OnOk result (FitsExpectation limits.now parts.new expectation) }
     ensures bytes { OnOk result (received_bytes parts.new ≡ received_bytes parts.old ++ bytes.now) }
-    ensures memory { OnErr result (HasSize awaited) }
+    ensures memory { OnErr result (HasSize expectation) }
 {
-    match awaited {
+    match expectation {
         Expectation::Continuation | Expectation::Size => {
             parts.start.extend(bytes);
             Ok(())

@@ -105,21 +105,21 @@ fn read_part<R: Source>(
     limits: &Limits,
     source: &mut R,
     parts: &mut PartialMessage,
-    awaited: Expectation,
+    expectation: Expectation,
 ) -> Result<usize, Fault>
-    requires { Undecided limits.now parts.old awaited }
-    ensures fits { OnOk result (FitsExpectation limits.now parts.new awaited) }
+    requires { Undecided limits.now parts.old expectation }
+    ensures fits { OnOk result (FitsExpectation limits.now parts.new expectation) }
     ensures comes { IfOk result (λ k. Comes (R.remaining source.old)
         (R.remaining source.new) (received_bytes parts.old) (received_bytes parts.new)
-        (bytes_needed parts.old awaited) k) }
+        (bytes_needed parts.old expectation) k) }
     ensures fewer { IfOk result (λ k. (R.bound source.new + k) ≤ R.bound source.old) }
     ensures lost { OnErr result (Keeps (R.remaining source.old) (R.remaining source.new)) }
     ensures only { IfErr result IsOutside }
     ensures failures { FailsAs (R.failures source.old) (R.failures source.new) result }
-    ensures memory { IfErr result (λ fault. fault ≡ Fault.OutOfMemory → HasSize awaited) }
+    ensures memory { IfErr result (λ fault. fault ≡ Fault.OutOfMemory → HasSize expectation) }
 {
-    let wants = bytes_needed(limits, parts, awaited);
-    match awaited {
+    let wants = bytes_needed(limits, parts, expectation);
+    match expectation {
         Expectation::Continuation => parts.start.read(source, wants),
         Expectation::Size => parts.start.read(source, wants),
         Expectation::Metadata(_) => read_appending(source, &mut parts.meta, wants),
@@ -134,17 +134,17 @@ pub fn read_on<R: Source>(
     limits: &Limits,
     source: &mut R,
     parts: &mut PartialMessage,
-    awaited: Expectation,
+    expectation: Expectation,
 ) -> (usize, Result<MessageStep, Fault>)
-    requires { Undecided limits.now parts.old awaited }
+    requires { Undecided limits.now parts.old expectation }
     ensures reads { ReadsOn limits.now (R.remaining source.old)
         (R.remaining source.new) (received_bytes parts.old) parts.new result.0 result.1 }
     ensures fewer { OnOk result.1 ((R.bound source.new + result.0) ≤ R.bound source.old) }
     ensures failures { FailsAs (R.failures source.old) (R.failures source.new) result.1 }
-    ensures memory { IfErr result.1 (λ fault. fault ≡ Fault.OutOfMemory → HasSize awaited) }
+    ensures memory { IfErr result.1 (λ fault. fault ≡ Fault.OutOfMemory → HasSize expectation) }
 {
-    match read_part(limits, source, parts, awaited) {
-        Ok(count) => (count, conclude(alloc, limits, parts, awaited)),
+    match read_part(limits, source, parts, expectation) {
+        Ok(count) => (count, conclude(alloc, limits, parts, expectation)),
         Err(fault) => (0, Err(fault)),
     }
 }

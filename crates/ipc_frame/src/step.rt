@@ -25,14 +25,14 @@ pub fn conclude(
     alloc: Global,
     limits: &Limits,
     parts: &mut PartialMessage,
-    awaited: Expectation,
+    expectation: Expectation,
 ) -> Result<MessageStep, Fault>
-    requires { FitsExpectation limits.now parts.old awaited }
+    requires { FitsExpectation limits.now parts.old expectation }
     ensures concludes { Concludes limits.now (received_bytes parts.old) parts.new result }
-    ensures memory { IfErr result (λ fault. fault ≡ Fault.OutOfMemory → HasSize awaited) }
+    ensures memory { IfErr result (λ fault. fault ≡ Fault.OutOfMemory → HasSize expectation) }
 {
-    match decide(alloc, limits, parts, awaited)? {
-        Decision::More(awaited) => Ok(MessageStep::More(awaited)),
+    match decide(alloc, limits, parts, expectation)? {
+        Decision::More(expectation) => Ok(MessageStep::More(expectation)),
         Decision::End => {
             *parts = PartialMessage::new(alloc);
             Ok(MessageStep::Whole(Frame::End))
@@ -51,24 +51,24 @@ pub fn feed_on(
     alloc: Global,
     limits: &Limits,
     parts: &mut PartialMessage,
-    awaited: Expectation,
+    expectation: Expectation,
     piece: &[u8],
 ) -> Result<(usize, MessageStep), Fault>
-    requires { Undecided limits.now parts.old awaited }
+    requires { Undecided limits.now parts.old expectation }
     ensures feeds { FeedsOn limits.now (received_bytes parts.old) piece.now parts.new result }
     ensures memory { IfErr result (λ fault. fault ≡ Fault.OutOfMemory
         → IsSized limits.now (received_bytes parts.old ++ piece.now)) }
 {
-    let mut awaited = awaited;
+    let mut expectation = expectation;
     let mut taken = 0;
     while taken < piece.len() {
-        let count = bytes_needed(limits, parts, awaited).min(piece.len() - taken);
-        extend(limits, parts, awaited, &piece[taken..taken + count])?;
+        let count = bytes_needed(limits, parts, expectation).min(piece.len() - taken);
+        extend(limits, parts, expectation, &piece[taken..taken + count])?;
         taken += count;
-        match conclude(alloc, limits, parts, awaited)? {
-            MessageStep::More(next) => awaited = next,
+        match conclude(alloc, limits, parts, expectation)? {
+            MessageStep::More(next) => expectation = next,
             MessageStep::Whole(frame) => return Ok((taken, MessageStep::Whole(frame))),
         }
     }
-    Ok((taken, MessageStep::More(awaited)))
+    Ok((taken, MessageStep::More(expectation)))
 }

@@ -11,7 +11,7 @@ use Rattle.ipc_meta.specs.Budgets.{Reading, less_fields, less_text, less_pairs}
 use Rattle.ipc_meta.specs.FlatFaults.{map_fault}
 use Rattle.ipc_meta.specs.Tables.{text_at, flag_at, vector_at, type_at, dictionary_at}
 use Rattle.ipc_meta.specs.Reading.{each, text_read, pair_read, pairs_read, type_read, fields_read, field_read}
-use Rattle.ipc_meta.specs.Totals.{or_zero, sum_tables, count_in, sum_in, text_len_at, pair_text_in, own_text, tree}
+use Rattle.ipc_meta.specs.Totals.{or_zero, sum_tables, count_in, sum_in, text_len_at, pair_text_in, own_text, tree_sum}
 use Rattle.ipc_meta.proofs.Sound.{left_parts}
 use Rattle.ipc_meta.proofs.Binds.{bind_ok, choose, lift_ok}
 
@@ -170,8 +170,8 @@ pairs_in u = count_in u 6
 
 -- a field that was read takes from the budget what its table states and those below it state
 pub field_spent : (d : ℕ) (t : TableView) (left : Budget) (x : Field × Budget) → field_read d t left ≡ Ok x
-    → Spent left x.1 (tree children_in d t) (tree own_text d t) (tree pairs_in d t)
-unfolding field_read tree
+    → Spent left x.1 (tree_sum children_in d t) (tree_sum own_text d t) (tree_sum pairs_in d t)
+unfolding field_read tree_sum
 field_spent zero t left x h = absurd (cc)
 field_spent (suc d) t left x h =
     let name = bind_ok (text_read t 0 left) _ x h in
@@ -184,9 +184,10 @@ field_spent (suc d) t left x h =
     let a = text_spent t 0 left name.0 name.1 in
     let b = type_spent t name.0.1 κ.0 κ.1 in
     let c = pairs_spent t 6 κ.0.1 ps.0 ps.1 in
-    let f = fields_spent (field_read d) (tree children_in d) (tree own_text d) (tree pairs_in d) (field_spent d) t 5 ps.0.1 cs.0 cs.1 in
-    subst (λ m. Spent left m (children_in t + sum_in (tree children_in d) t 5) (own_text t + sum_in (tree own_text d) t 5)
-    (pairs_in t + sum_in (tree pairs_in d) t 5)) e.1
+    let f = fields_spent (field_read d) (tree_sum children_in d) (tree_sum own_text d) (tree_sum pairs_in d) (field_spent d) t 5 ps.0.1 cs.0
+    cs.1 in
+    subst (λ m. Spent left m (children_in t + sum_in (tree_sum children_in d) t 5) (own_text t + sum_in (tree_sum own_text d) t 5)
+    (pairs_in t + sum_in (tree_sum pairs_in d) t 5)) e.1
     (record {
       fields = omega (arith, a.fields, b.fields, c.fields, f.fields);
       text = omega (arith, a.text, b.text, c.text, f.text);

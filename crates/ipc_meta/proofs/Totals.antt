@@ -11,7 +11,8 @@ use Rattle.ipc_meta.specs.Budgets.{less_fields}
 use Rattle.ipc_meta.specs.Tables.{flag_at, vector_at, type_at, dictionary_at}
 use Rattle.ipc_meta.specs.Fields.{TablesAt, VectorAt, PairAt}
 use Rattle.ipc_meta.specs.Reading.{text_read, pairs_read, type_read, fields_read, field_read}
-use Rattle.ipc_meta.specs.Totals.{or_zero, sum_tables, count_in, sum_in, text_len_at, pair_text_in, own_text, tree, total_fields}
+use Rattle.ipc_meta.specs.Totals.{or_zero, sum_tables, count_in, sum_in, text_len_at, pair_text_in, own_text, tree_sum}
+use Rattle.ipc_meta.specs.Totals.{total_fields}
 use Rattle.ipc_meta.specs.Totals.{total_text}
 use Rattle.ipc_meta.specs.Totals.{total_pairs}
 use Rattle.ipc_meta.proofs.Sound.{Sound, left_parts, each_sound, text_sound, type_sound, pairs_sound}
@@ -42,13 +43,13 @@ pair_count t k ps h = ap (or_zero (λ es. es.len)) h.1 ∙ tables_are PairAt h.0
 
 -- a field with its descendants has what the table states, within so many levels
 abbrev SumsAre : ℕ → Field → TableView → Type 0
-SumsAre n f u = (d : ℕ) → (length (preorder f d) ≡ 1 + tree children_in n u) × (text_of (preorder f d) ≡ tree own_text n u)
-    × (pairs_of (preorder f d) ≡ tree pairs_in n u)
+SumsAre n f u = (d : ℕ) → (length (preorder f d) ≡ 1 + tree_sum children_in n u) × (text_of (preorder f d) ≡ tree_sum own_text n u)
+    × (pairs_of (preorder f d) ≡ tree_sum pairs_in n u)
 
 each_sums : (n : ℕ) (z : List ℕ) (fs : List Field) (p k : ℕ) → TablesAt (SumsAre n) z p k fs → (d : ℕ)
-    → (length (all_at d (map preorder fs)) ≡ length fs + sum_tables (tree children_in n) z p k)
-    × (text_of (all_at d (map preorder fs)) ≡ sum_tables (tree own_text n) z p k)
-    × (pairs_of (all_at d (map preorder fs)) ≡ sum_tables (tree pairs_in n) z p k)
+    → (length (all_at d (map preorder fs)) ≡ length fs + sum_tables (tree_sum children_in n) z p k)
+    × (text_of (all_at d (map preorder fs)) ≡ sum_tables (tree_sum own_text n) z p k)
+    × (pairs_of (all_at d (map preorder fs)) ≡ sum_tables (tree_sum pairs_in n) z p k)
 unfolding sum_tables
 each_sums n z [] p k h d = rw h (refl, refl, refl)
 each_sums n z (f ∷ fs) p k h d =
@@ -62,19 +63,19 @@ each_sums n z (f ∷ fs) p k h d =
 
 -- the same of the fields of a vector
 vector_sums : (n : ℕ) (t : TableView) (k : ℕ) (fs : List Field) → VectorAt (SumsAre n) fs t k → (d : ℕ)
-    → (length (all_at d (map preorder fs)) ≡ count_in t k + sum_in (tree children_in n) t k)
-    × (text_of (all_at d (map preorder fs)) ≡ sum_in (tree own_text n) t k)
-    × (pairs_of (all_at d (map preorder fs)) ≡ sum_in (tree pairs_in n) t k)
+    → (length (all_at d (map preorder fs)) ≡ count_in t k + sum_in (tree_sum children_in n) t k)
+    × (text_of (all_at d (map preorder fs)) ≡ sum_in (tree_sum own_text n) t k)
+    × (pairs_of (all_at d (map preorder fs)) ≡ sum_in (tree_sum pairs_in n) t k)
 vector_sums n t k fs h d =
     let many = tables_are (SumsAre n) h.0.bytes fs h.0.at h.0.len h.2 in
     let sums = each_sums n h.0.bytes fs h.0.at h.0.len h.2 d in
     let number : count_in t k ≡ h.0.len = ap (or_zero (λ es. es.len)) h.1 in
-    let sum_a : sum_in (tree children_in n) t k ≡ sum_tables (tree children_in n) h.0.bytes h.0.at h.0.len =
-    ap (or_zero (λ es. sum_tables (tree children_in n) es.bytes es.at es.len)) h.1 in
-    let sum_b : sum_in (tree own_text n) t k ≡ sum_tables (tree own_text n) h.0.bytes h.0.at h.0.len =
-    ap (or_zero (λ es. sum_tables (tree own_text n) es.bytes es.at es.len)) h.1 in
-    let sum_c : sum_in (tree pairs_in n) t k ≡ sum_tables (tree pairs_in n) h.0.bytes h.0.at h.0.len =
-    ap (or_zero (λ es. sum_tables (tree pairs_in n) es.bytes es.at es.len)) h.1 in
+    let sum_a : sum_in (tree_sum children_in n) t k ≡ sum_tables (tree_sum children_in n) h.0.bytes h.0.at h.0.len =
+    ap (or_zero (λ es. sum_tables (tree_sum children_in n) es.bytes es.at es.len)) h.1 in
+    let sum_b : sum_in (tree_sum own_text n) t k ≡ sum_tables (tree_sum own_text n) h.0.bytes h.0.at h.0.len =
+    ap (or_zero (λ es. sum_tables (tree_sum own_text n) es.bytes es.at es.len)) h.1 in
+    let sum_c : sum_in (tree_sum pairs_in n) t k ≡ sum_tables (tree_sum pairs_in n) h.0.bytes h.0.at h.0.len =
+    ap (or_zero (λ es. sum_tables (tree_sum pairs_in n) es.bytes es.at es.len)) h.1 in
     (omega (arith, sums.0, many, number, sum_a), sums.1 ∙ sym sum_b, sums.2 ∙ sym sum_c)
 
 fields_sums : (n : ℕ) → Sound (field_read n) (SumsAre n) → (t : TableView) (k : ℕ) (left after : Budget) (fs : List Field)
@@ -95,29 +96,29 @@ text_sum a b c x y z u v h k l m = omega arith
 rolled_sums : (n : ℕ) (y : Field-F Field) (t : TableView) → text_len_at t 0 ≡ length y.name → or_zero kind_text (type_at t)
     ≡ kind_text y.kind
     → sum_in pair_text_in t 6 ≡ pair_text y.metadata → count_in t 6 ≡ length y.metadata
-    → ((d : ℕ) → (length (all_at d (map preorder y.children)) ≡ count_in t 5 + sum_in (tree children_in n) t 5)
-    × (text_of (all_at d (map preorder y.children)) ≡ sum_in (tree own_text n) t 5)
-    × (pairs_of (all_at d (map preorder y.children)) ≡ sum_in (tree pairs_in n) t 5))
+    → ((d : ℕ) → (length (all_at d (map preorder y.children)) ≡ count_in t 5 + sum_in (tree_sum children_in n) t 5)
+    × (text_of (all_at d (map preorder y.children)) ≡ sum_in (tree_sum own_text n) t 5)
+    × (pairs_of (all_at d (map preorder y.children)) ≡ sum_in (tree_sum pairs_in n) t 5))
     → SumsAre (suc n) (roll-Field y) t
-unfolding tree
+unfolding tree_sum
 rolled_sums n y t title zone words number children d =
     let rolled = fold-roll-Field Listing preorder_step y in
     let sums = children (d + 1) in
     let head = entry_of (map-Field Field Listing preorder y) d in
     let below = all_at (d + 1) (map preorder y.children) in
-    let text : text_of (head ∷ below) ≡ own_text t + sum_in (tree own_text n) t 5
+    let text : text_of (head ∷ below) ≡ own_text t + sum_in (tree_sum own_text n) t 5
     = sum_by-cons (λ (e : Entry). e.text) head below
     ∙ text_sum (text_len_at t 0) (or_zero kind_text (type_at t)) (sum_in pair_text_in t 6) _ _ _ _ _ title zone words sums.1 in
-    let pairs : pairs_of (head ∷ below) ≡ pairs_in t + sum_in (tree pairs_in n) t 5
+    let pairs : pairs_of (head ∷ below) ≡ pairs_in t + sum_in (tree_sum pairs_in n) t 5
     = sum_by-cons (λ (e : Entry). e.pairs) head below ∙ (ap (λ k. k + pairs_of below) (sym number) ∙ ap (λ k. pairs_in t + k) sums.2) in
-    let count : length (head ∷ below) ≡ 1 + (children_in t + sum_in (tree children_in n) t 5) = one_more (length below) _ sums.0 in
-    subst (λ (l : Listing). (length (l d) ≡ 1 + (children_in t + sum_in (tree children_in n) t 5))
-    × (text_of (l d) ≡ own_text t + sum_in (tree own_text n) t 5) × (pairs_of (l d) ≡ pairs_in t + sum_in (tree pairs_in n) t 5))
+    let count : length (head ∷ below) ≡ 1 + (children_in t + sum_in (tree_sum children_in n) t 5) = one_more (length below) _ sums.0 in
+    subst (λ (l : Listing). (length (l d) ≡ 1 + (children_in t + sum_in (tree_sum children_in n) t 5))
+    × (text_of (l d) ≡ own_text t + sum_in (tree_sum own_text n) t 5) × (pairs_of (l d) ≡ pairs_in t + sum_in (tree_sum pairs_in n) t 5))
     (sym rolled)
     (count, text, pairs)
 
 field_sums : (n : ℕ) → Sound (field_read n) (SumsAre n)
-unfolding field_read tree
+unfolding field_read tree_sum
 field_sums zero t left after x h = absurd (cc)
 field_sums (suc n) t left after x h =
     let name = bind_ok (text_read t 0 left) _ _ h in

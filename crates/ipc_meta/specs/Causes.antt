@@ -18,7 +18,8 @@ use Rattle.ipc_meta.specs.Tables.{dictionary_at}
 use Rattle.ipc_meta.specs.Types.{TypeAt}
 use Rattle.ipc_meta.specs.Totals.{total_fields, total_text, total_pairs, sum_in, count_in}
 use Rattle.ipc_meta.specs.Totals.{pair_text_in, message_pairs}
-use Rattle.ipc_meta.specs.Reached.{TableKind, HasTable, IsDeep, HasIllFormed, HasOtherText, message}
+use Rattle.ipc_meta.specs.Reached.{TableKind, HasTable, IsDeep, HasIllFormed, HasInvalidUtf8}
+use Rattle.ipc_meta.specs.Reached.{message}
 use Rattle.ipc_meta.specs.Reached.{batch_message}
 use Rattle.ipc_meta.specs.Reached.{schema, column, type_value, index_type, dictionary_batch}
 use Rattle.ipc_meta.specs.Reached.{record_batch}
@@ -45,37 +46,39 @@ pub data HasNoHeader (b : List ℕ) : Type 0 where
 -- a time has another width than its unit needs (Schema.fbs, tables Int, Date, Time, Timestamp,
 -- FixedSizeBinary, FixedSizeList and Duration; Null, Binary, Utf8, Bool, List and Struct_ have no
 -- fields)
-pub data IsNoType : ℕ → TableView → Type 0 where
+pub data IsInvalidTypeTable : ℕ → TableView → Type 0 where
   other_width : {v : TableView} → IsValueWith (scalar v 0 4 int32 (pos 0))
       (λ width. bits_of width ≡ None)
-      → IsNoType 2 v
+      → IsInvalidTypeTable 2 v
   other_date_unit : {v : TableView}
       → IsValueWith (scalar v 0 2 int16 (pos 1)) (λ unit. (unit ≢ pos 0) × (unit ≢ pos 1))
-      → IsNoType 8 v
+      → IsInvalidTypeTable 8 v
   other_time_of_day_unit : {v : TableView}
-      → IsValueWith (scalar v 0 2 int16 (pos 1)) (λ unit. unit_of unit ≡ None) → IsNoType 9 v
+      → IsValueWith (scalar v 0 2 int16 (pos 1)) (λ unit. unit_of unit ≡ None)
+      → IsInvalidTypeTable 9 v
   other_time_of_day_width : {v : TableView} {unit : TimeUnit}
       → IsValueWith (scalar v 0 2 int16 (pos 1)) (λ code. unit_of code ≡ Some unit)
       → IsValueWith (scalar v 1 4 int32 (pos 32)) (λ bits. bits ≢ pos (width (time_bits unit)))
-      → IsNoType 9 v
+      → IsInvalidTypeTable 9 v
   other_time_unit : {v : TableView} → IsValueWith (scalar v 0 2 int16 (pos 0))
       (λ unit. unit_of unit ≡ None)
-      → IsNoType 10 v
+      → IsInvalidTypeTable 10 v
   negative_width : {v : TableView}
       → IsValueWith (scalar v 0 4 int32 (pos 0)) (λ width. int_lt width (pos 0) ≡ true)
-      → IsNoType 15 v
+      → IsInvalidTypeTable 15 v
   negative_size : {v : TableView}
       → IsValueWith (scalar v 0 4 int32 (pos 0)) (λ size. int_lt size (pos 0) ≡ true)
-      → IsNoType 16 v
+      → IsInvalidTypeTable 16 v
   other_duration_unit : {v : TableView}
-      → IsValueWith (scalar v 0 2 int16 (pos 1)) (λ unit. unit_of unit ≡ None) → IsNoType 18 v
+      → IsValueWith (scalar v 0 2 int16 (pos 1)) (λ unit. unit_of unit ≡ None)
+      → IsInvalidTypeTable 18 v
 
 -- a field has the code of a type that is read, but no type table, or a type table that no type has
 pub data HasBadType (b : List ℕ) : Type 0 where
   no_table : {code : ℕ} → HasTableWith b column
       (λ t. (code_at t ≡ Ok code) × (is_type_code code ≡ true) × (field t 3 table_from ≡ Ok None))
       → HasBadType b
-  no_type : {code : ℕ} → HasTableWith b (type_value code) (IsNoType code) → HasBadType b
+  no_type : {code : ℕ} → HasTableWith b (type_value code) (IsInvalidTypeTable code) → HasBadType b
 
 -- a field has a number of children that its type does not allow (Schema.fbs, table Field, 5
 -- children)
@@ -91,12 +94,12 @@ HasDictionaryColumn b id κ = HasTableWith b column (λ t. TypeAt κ t
 
 -- the texts or the pairs of a schema, or of the message of a record batch, are above their limits
 -- (Schema.fbs, table KeyValue)
-pub data HasMuchText (limits : Limits) (b : List ℕ) : Type 0 where
+pub data HasExcessText (limits : Limits) (b : List ℕ) : Type 0 where
   in_schema : HasTableWith b schema
       (λ t. (limits.text < total_text limits t) ⊎ (limits.pairs < total_pairs limits t))
-      → HasMuchText limits b
+      → HasExcessText limits b
   in_batch : HasTableWith b batch_message (λ t. (limits.text < sum_in pair_text_in t message_pairs)
-      ⊎ (limits.pairs < count_in t message_pairs)) → HasMuchText limits b
+      ⊎ (limits.pairs < count_in t message_pairs)) → HasExcessText limits b
 
 -- what is true of the metadata if this fault is returned; any other fault has no cause in it
 abbrev pub Cause : Limits → List ℕ → Fault → Type 0
@@ -114,11 +117,11 @@ Cause limits b (f.UnsupportedType code) =
     HasTableWith b column (λ t. (code_at t ≡ Ok code) × (is_type_code code ≡ false))
 Cause limits b f.BadType = HasBadType b
 Cause limits b f.BadChildren = HasBadChildren b
-Cause limits b f.NameNotUtf8 = HasOtherText b
+Cause limits b f.NameNotUtf8 = HasInvalidUtf8 b
 Cause limits b f.TooManyFields = HasTableWith b schema (λ t. limits.fields < total_fields limits t)
 Cause limits b f.TooDeep = HasTableWith b schema
     (λ t. (u : TableView) × (depth : ℕ) × (limits.depth < depth) × IsDeep t depth u)
-Cause limits b f.TooMuchText = HasMuchText limits b
+Cause limits b f.TooMuchText = HasExcessText limits b
 Cause limits b f.DictionaryConflict =
     (id : ℤ) × (κ : DataType) × (μ : DataType) × HasDictionaryColumn b id κ
     × HasDictionaryColumn b id μ × (κ ≢ μ)

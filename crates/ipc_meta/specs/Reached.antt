@@ -153,6 +153,6 @@ pub data HasIllFormed (b : List ℕ) : Type 0 where
       → is_type_code code ≡ true → IsIllFormed (field t 3 table_from) → HasIllFormed b
 
 -- a text that is read is not UTF-8 (FlatBuffers binary format, "Strings and Vectors")
-pub data HasOtherText (b : List ℕ) : Type 0 where
+pub data HasInvalidUtf8 (b : List ℕ) : Type 0 where
   at_text : {kind : TableKind} {t : TableView} {k : ℕ} → HasTable b kind t → ReadsField kind k text
-      → field t k text_of ≡ Err NotUtf8 → HasOtherText b
+      → field t k text_of ≡ Err NotUtf8 → HasInvalidUtf8 b

@@ -58,25 +58,26 @@ abbrev pub own_text : TableView → ℕ
 own_text t = text_len_at t 0 + or_zero kind_text (type_at t) + sum_in pair_text_in t field_pairs
 
 -- the sum of w over a Field table and those below it, at most `depth` levels
-unfoldable pub tree : (TableView → ℕ) → ℕ → TableView → ℕ
-tree w zero t = 0
-tree w (suc depth) t = w t + sum_in (tree w depth) t field_children
+unfoldable pub tree_sum : (TableView → ℕ) → ℕ → TableView → ℕ
+tree_sum w zero t = 0
+tree_sum w (suc depth) t = w t + sum_in (tree_sum w depth) t field_children
 
 -- the sum of w over the Field tables of a Schema table, down to the greatest depth that the limits
 -- allow
-abbrev pub over_fields : Limits → (TableView → ℕ) → TableView → ℕ
-over_fields limits w t = sum_in (tree w limits.depth) t schema_fields
+abbrev pub sum_over_fields : Limits → (TableView → ℕ) → TableView → ℕ
+sum_over_fields limits w t = sum_in (tree_sum w limits.depth) t schema_fields
 
 -- how many fields a Schema table has, descendants included, down to one level below the greatest
 -- depth
 abbrev pub total_fields : Limits → TableView → ℕ
-total_fields limits t = count_in t schema_fields + over_fields limits (λ u. count_in u
+total_fields limits t = count_in t schema_fields + sum_over_fields limits (λ u. count_in u
     field_children) t
 
 -- how many bytes the names, timezones, keys and values of a Schema table and of its fields have
 abbrev pub total_text : Limits → TableView → ℕ
-total_text limits t = sum_in pair_text_in t schema_pairs + over_fields limits own_text t
+total_text limits t = sum_in pair_text_in t schema_pairs + sum_over_fields limits own_text t
 
 -- how many pairs of key and value a Schema table and its fields have
 abbrev pub total_pairs : Limits → TableView → ℕ
-total_pairs limits t = count_in t schema_pairs + over_fields limits (λ u. count_in u field_pairs) t
+total_pairs limits t = count_in t schema_pairs + sum_over_fields limits
+    (λ u. count_in u field_pairs) t

@@ -65,7 +65,7 @@ pub(crate) fn read_dictionary_batch(
     alloc: Global,
     table: &TableRef<'_>,
 ) -> Result<(i64, BatchHead), Fault>
-    ensures found { IfOk result (λ d. DictionaryAt table.now d.0 d.1) }
+    ensures finds { IfOk result (λ d. DictionaryAt table.now d.0 d.1) }
     ensures only { (id : ℤ) (batch : BatchHead) → DictionaryAt table.now id batch
         → AnswersUnlessOutOfMemory (λ y. y) result (Ok (id, batch)) }
     ensures refused { IfErr result

@@ -16,23 +16,28 @@ fn read_text(
     alloc: Global,
     table: &TableRef<'_>,
     slot: u16,
-    left: &mut Budget,
+    budget: &mut Budget,
 ) -> Result<Text, Fault>
-    ensures { AnswersUnlessOutOfMemory (λ s. (s, left.new)) result
-        (text_read table.now slot left.old) }
+    ensures { AnswersUnlessOutOfMemory (λ s. (s, budget.new)) result
+        (text_read table.now slot budget.old) }
 {
     let text = map_fault(table.text(slot))?.unwrap_or("");
-    left.take_text(text.len())?;
+    budget.take_text(text.len())?;
     Ok(Text::copied(alloc, text)?)
 }
 
 // A KeyValue table (Schema.fbs): 0 key, 1 value.
 #[tactic(auto, unfolding(crate::specs::Reading::pair_read))]
-fn read_pair(alloc: Global, table: &TableRef<'_>, left: &mut Budget) -> Result<(Text, Text), Fault>
-    ensures { AnswersUnlessOutOfMemory (λ p. (p, left.new)) result (pair_read table.now left.old) }
+fn read_pair(
+    alloc: Global,
+    table: &TableRef<'_>,
+    budget: &mut Budget,
+) -> Result<(Text, Text), Fault>
+    ensures { AnswersUnlessOutOfMemory (λ p. (p, budget.new)) result
+        (pair_read table.now budget.old) }
 {
-    let key = read_text(alloc, table, 0, left)?;
-    let value = read_text(alloc, table, 1, left)?;
+    let key = read_text(alloc, table, 0, budget)?;
+    let value = read_text(alloc, table, 1, budget)?;
     Ok((key, value))
 }
 
@@ -43,19 +48,19 @@ pub(crate) fn read_pairs(
     alloc: Global,
     table: &TableRef<'_>,
     slot: u16,
-    left: &mut Budget,
+    budget: &mut Budget,
 ) -> Result<Items<(Text, Text)>, Fault>
-    ensures { AnswersUnlessOutOfMemory (λ ps. (ps, left.new)) result
-        (pairs_read table.now slot left.old) }
+    ensures { AnswersUnlessOutOfMemory (λ ps. (ps, budget.new)) result
+        (pairs_read table.now slot budget.old) }
 {
     let mut pairs = Vec::new(alloc);
     let Some(tables) = map_fault(table.tables(slot))? else {
         return Ok(Items::from_vec(pairs));
     };
-    left.take_pairs(tables.len())?;
+    budget.take_pairs(tables.len())?;
     for i in 0..tables.len() {
         let table = map_fault(tables.at(i))?;
-        pairs.push(read_pair(alloc, &table, left)?)?;
+        pairs.push(read_pair(alloc, &table, budget)?)?;
     }
     Ok(Items::from_vec(pairs))
 }
@@ -69,19 +74,19 @@ pub(crate) fn read_fields(
     table: &TableRef<'_>,
     slot: u16,
     depth: u64,
-    left: &mut Budget,
+    budget: &mut Budget,
 ) -> Result<Items<Field>, Fault>
-    ensures { AnswersUnlessOutOfMemory (λ fs. (fs, left.new)) result
-        (fields_read (field_read depth) table.now slot left.old) }
+    ensures { AnswersUnlessOutOfMemory (λ fs. (fs, budget.new)) result
+        (fields_read (field_read depth) table.now slot budget.old) }
 {
     let mut fields = Vec::new(alloc);
     let Some(tables) = map_fault(table.tables(slot))? else {
         return Ok(Items::from_vec(fields));
     };
-    left.take_fields(tables.len())?;
+    budget.take_fields(tables.len())?;
     for i in 0..tables.len() {
         let table = map_fault(tables.at(i))?;
-        fields.push(read_field(alloc, &table, depth, left)?)?;
+        fields.push(read_field(alloc, &table, depth, budget)?)?;
     }
     Ok(Items::from_vec(fields))
 }
@@ -94,20 +99,20 @@ fn read_field(
     alloc: Global,
     table: &TableRef<'_>,
     depth: u64,
-    left: &mut Budget,
+    budget: &mut Budget,
 ) -> Result<Field, Fault>
-    ensures { AnswersUnlessOutOfMemory (λ f. (f, left.new)) result
-        (field_read depth table.now left.old) }
+    ensures { AnswersUnlessOutOfMemory (λ f. (f, budget.new)) result
+        (field_read depth table.now budget.old) }
 {
     if depth == 0 {
         return Err(Fault::TooDeep);
     }
-    let name = read_text(alloc, table, 0, left)?;
+    let name = read_text(alloc, table, 0, budget)?;
     let nullable = read_flag(table, 1)?;
-    let kind = read_counted_type(alloc, table, left)?;
+    let kind = read_counted_type(alloc, table, budget)?;
     let dictionary = read_dictionary(table)?;
-    let metadata = read_pairs(alloc, table, 6, left)?;
-    let children = read_fields(alloc, table, 5, depth - 1, left)?;
+    let metadata = read_pairs(alloc, table, 6, budget)?;
+    let children = read_fields(alloc, table, 5, depth - 1, budget)?;
     Ok(Field {
         name,
         nullable,
@@ -127,10 +132,10 @@ fn read_field(
 pub fn read_only_field(alloc: Global, limits: &Limits, table: &TableRef<'_>) -> Result<Field, Fault>
     ensures { AnswersUnlessOutOfMemory (λ f. f) result (only_field limits.now table.now) }
 {
-    let mut left = Budget {
+    let mut budget = Budget {
         fields: limits.fields,
         text: limits.text,
         pairs: limits.pairs,
     };
-    read_field(alloc, table, limits.depth, &mut left)
+    read_field(alloc, table, limits.depth, &mut budget)
 }

@@ -49,17 +49,17 @@ fn read_columns(
     alloc: Global,
     limits: &Limits,
     table: &TableRef<'_>,
-    left: &mut Budget,
+    budget: &mut Budget,
 ) -> Result<Items<Field>, Fault>
-    ensures { AnswersUnlessOutOfMemory (λ fs. (fs, left.new)) result
-        (fields_read (field_read limits.now.depth) table.now 1 left.old) }
+    ensures { AnswersUnlessOutOfMemory (λ fs. (fs, budget.new)) result
+        (fields_read (field_read limits.now.depth) table.now 1 budget.old) }
 {
-    read_fields(alloc, table, 1, limits.depth, left)
+    read_fields(alloc, table, 1, limits.depth, budget)
 }
 
 // A Schema table (Schema.fbs): 0 endianness, 1 fields, 2 custom_metadata.
 fn read_schema(alloc: Global, limits: &Limits, table: &TableRef<'_>) -> Result<Schema, Fault>
-    ensures found { IfOk result (λ s. SchemaAt limits.now table.now s) }
+    ensures finds { IfOk result (λ s. SchemaAt limits.now table.now s) }
     ensures only { (s : Schema) → SchemaAt limits.now table.now s
         → AnswersUnlessOutOfMemory (λ y. y) result (Ok s) }
     ensures refused { IfErr result
@@ -67,13 +67,13 @@ fn read_schema(alloc: Global, limits: &Limits, table: &TableRef<'_>) -> Result<S
         → UnlessOutOfMemory f (Cause limits.now b f)) }
 {
     check_endianness(table)?;
-    let mut left = Budget {
+    let mut budget = Budget {
         fields: limits.fields,
         text: limits.text,
         pairs: limits.pairs,
     };
-    let metadata = read_pairs(alloc, table, 2, &mut left)?;
-    let fields = read_columns(alloc, limits, table, &mut left)?;
+    let metadata = read_pairs(alloc, table, 2, &mut budget)?;
+    let fields = read_columns(alloc, limits, table, &mut budget)?;
     let schema = Schema { fields, metadata };
     schema.check(alloc, limits)?;
     Ok(schema)
@@ -85,7 +85,7 @@ fn read_batch_pairs(
     limits: &Limits,
     root: &TableRef<'_>,
 ) -> Result<Items<(Text, Text)>, Fault>
-    ensures found { IfOk result (λ pairs. PairsAt limits.now root.now pairs) }
+    ensures finds { IfOk result (λ pairs. PairsAt limits.now root.now pairs) }
     ensures only { (pairs : List (List ℕ × List ℕ)) → PairsAt limits.now root.now pairs
         → AnswersUnlessOutOfMemory (λ y. y) result (Ok pairs) }
     ensures refused { IfErr result
@@ -93,12 +93,12 @@ fn read_batch_pairs(
         → UnlessOutOfMemory f (Cause limits.now b f)) }
 {
     let (text, pairs) = (limits.text, limits.pairs);
-    let mut left = Budget {
+    let mut budget = Budget {
         fields: 0,
         text,
         pairs,
     };
-    read_pairs(alloc, root, 4, &mut left)
+    read_pairs(alloc, root, 4, &mut budget)
 }
 
 // What the message of a record batch carries: the batch, whose table is the header's, and the
@@ -109,7 +109,7 @@ fn read_record_batch(
     root: &TableRef<'_>,
     table: &TableRef<'_>,
 ) -> Result<(BatchHead, Items<(Text, Text)>), Fault>
-    ensures found { IfOk result (λ r. BatchAt table.now r.0 × PairsAt limits.now root.now r.1) }
+    ensures finds { IfOk result (λ r. BatchAt table.now r.0 × PairsAt limits.now root.now r.1) }
     ensures only { (batch : BatchHead) (pairs : List (List ℕ × List ℕ)) → BatchAt table.now batch
         → PairsAt limits.now root.now pairs
         → AnswersUnlessOutOfMemory (λ y. y) result (Ok (batch, pairs)) }
@@ -124,7 +124,7 @@ fn read_record_batch(
 // The header of a Message table (Message.fbs): 1 its code in union MessageHeader, 2 its table,
 // which isn't looked at where the code is none of a stream's.
 fn read_header(alloc: Global, limits: &Limits, root: &TableRef<'_>) -> Result<Head, Fault>
-    ensures found { IfOk result (λ head. HeaderAt limits.now root.now head) }
+    ensures finds { IfOk result (λ head. HeaderAt limits.now root.now head) }
     ensures only { (head : Head) → HeaderAt limits.now root.now head
         → AnswersUnlessOutOfMemory (λ y. y) result (Ok head) }
     ensures refused { IfErr result
@@ -167,7 +167,7 @@ fn check_version(root: &TableRef<'_>) -> Result<(), Fault>
 
 // The length of the body (Message.fbs, table Message, 3), which is not below 0.
 fn read_body_length(root: &TableRef<'_>) -> Result<u64, Fault>
-    ensures found { IfOk result (λ m. scalar root.now 3 8 int64 (pos 0) ≡ Ok (pos m)) }
+    ensures finds { IfOk result (λ m. scalar root.now 3 8 int64 (pos 0) ≡ Ok (pos m)) }
     ensures only { IfErr result
         (λ f. (m : ℕ) → ¬ (scalar root.now 3 8 int64 (pos 0) ≡ Ok (pos m))) }
     ensures refused { IfErr result
@@ -239,7 +239,7 @@ fn check_body_length(limits: &Limits, length: u64) -> Result<(), Fault>
 /// - `DeltaDictionary` (F24): a dictionary batch adds to a dictionary.
 /// - `OutOfMemory` (F37): memory from `alloc` ran out.
 pub fn read_message(alloc: Global, limits: &Limits, metadata: &[u8]) -> Result<(Head, u64), Fault>
-    ensures found { IfOk result (λ r. HeadOf limits.now metadata.now r.0 r.1) }
+    ensures finds { IfOk result (λ r. HeadOf limits.now metadata.now r.0 r.1) }
     ensures only { (head : Head) (m : ℕ) → HeadOf limits.now metadata.now head m
         → MatchResult result (λ r. (r.0 ≡ head) × (r.1 ≡ m)) (λ f. f ≡ Fault.OutOfMemory) }
     ensures refused { IfErr result (λ f. UnlessOutOfMemory f (Cause limits.now metadata.now f)) }

@@ -220,12 +220,13 @@ fn text_len(kind: &DataType) -> usize
 pub(crate) fn read_counted_type(
     alloc: Global,
     field: &TableRef<'_>,
-    left: &mut Budget,
+    budget: &mut Budget,
 ) -> Result<DataType, Fault>
-    ensures { AnswersUnlessOutOfMemory (λ κ. (κ, left.new)) result (type_read field.now left.old) }
+    ensures { AnswersUnlessOutOfMemory (λ κ. (κ, budget.new)) result
+        (type_read field.now budget.old) }
 {
     let kind = read_type(alloc, field)?;
-    left.take_text(text_len(&kind))?;
+    budget.take_text(text_len(&kind))?;
     Ok(kind)
 }
 

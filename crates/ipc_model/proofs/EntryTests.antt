@@ -36,14 +36,14 @@ chain type children fields depth text conflict nested n =
     else None))))))
 
 -- a fault has the number, its test fails, and none that is returned before it does
-pub record Told (test : SchemaFault → Bool) (n : ℕ) (x : SchemaFault) : Type 0 where
+pub record ReturnedEvent (test : SchemaFault → Bool) (n : ℕ) (x : SchemaFault) : Type 0 where
   pub number : entry_number x ≡ n
   pub fails : test x ≡ false
   pub least : (y : SchemaFault) → test y ≡ false → rank x ≤ rank y
 
-told_as : (test : SchemaFault → Bool) (n : ℕ) (x y : SchemaFault) → ◌≡◌ {A = Option SchemaFault} (Some x) (Some y) → Told test n x
-    → Told test n y
-told_as test n x y h t = let same : x ≡ y = cc in subst (λ (z : SchemaFault). Told test n z) same t
+told_as : (test : SchemaFault → Bool) (n : ℕ) (x y : SchemaFault) → ◌≡◌ {A = Option SchemaFault} (Some x) (Some y) → ReturnedEvent test n x
+    → ReturnedEvent test n y
+told_as test n x y h t = let same : x ≡ y = cc in subst (λ (z : SchemaFault). ReturnedEvent test n z) same t
 
 -- true is not false
 pub no : {P : Type 0} → true ≡ false → P
@@ -107,21 +107,21 @@ from_7 i (f.NestedDictionary m) p = omega arith
 from_7 i f.OutOfMemory p = omega arith
 from_7 i _ p = no p
 
-told : (b c d e g h i : Bool) (n : ℕ) (x : SchemaFault) → chain b c d e g h i n ≡ Some x → Told (pick b c d e g h i) n x
-told false c d e g h i n x q = told_as _ n (f.BadType n) x q (record { number = refl; fails = refl; least = λ y p. from_1 y })
-told true false d e g h i n x q = told_as _ n (f.BadChildren n) x q
+report : (b c d e g h i : Bool) (n : ℕ) (x : SchemaFault) → chain b c d e g h i n ≡ Some x → ReturnedEvent (pick b c d e g h i) n x
+report false c d e g h i n x q = told_as _ n (f.BadType n) x q (record { number = refl; fails = refl; least = λ y p. from_1 y })
+report true false d e g h i n x q = told_as _ n (f.BadChildren n) x q
     (record { number = refl; fails = refl; least = λ y p. from_2 false d e g h i y p })
-told true true false e g h i n x q = told_as _ n (f.TooManyFields n) x q
+report true true false e g h i n x q = told_as _ n (f.TooManyFields n) x q
     (record { number = refl; fails = refl; least = λ y p. from_3 false e g h i y p })
-told true true true false g h i n x q =
+report true true true false g h i n x q =
     told_as _ n (f.TooDeep n) x q (record { number = refl; fails = refl; least = λ y p. from_4 false g h i y p })
-told true true true true false h i n x q =
+report true true true true false h i n x q =
     told_as _ n (f.TooMuchText n) x q (record { number = refl; fails = refl; least = λ y p. from_5 false h i y p })
-told true true true true true true i n x q =
+report true true true true true true i n x q =
     told_as _ n (f.DictionaryConflict n) x q (record { number = refl; fails = refl; least = λ y p. from_6 true i y p })
-told true true true true true false false n x q =
+report true true true true true false false n x q =
     told_as _ n (f.NestedDictionary n) x q (record { number = refl; fails = refl; least = λ y p. from_7 false y p })
-told true true true true true false true n x q = cc
+report true true true true true false true n x q = cc
 
 none_fails : (b c d e g h i : Bool) (n : ℕ) → chain b c d e g h i n ≡ None → (y : SchemaFault) → pick b c d e g h i y ≡ true
 none_fails false c d e g h i n q y = cc
@@ -147,8 +147,8 @@ test_at limits b e = pick (has_good_type e.kind) (has_fitting_children e.kind e.
 
 -- the fault told at an entry has the entry's number, counted from 1, and is the first of the faults whose test fails there
 pub told_at : (limits : Limits) (b : Before) (e : Entry) (x : SchemaFault) → fault_at limits b e ≡ Some x
-    → Told (test_at limits b e) (b.fields + 1) x
-told_at limits b e x h = told (has_good_type e.kind) (has_fitting_children e.kind e.children) (nat_le (b.fields + 1) limits.fields)
+    → ReturnedEvent (test_at limits b e) (b.fields + 1) x
+told_at limits b e x h = report (has_good_type e.kind) (has_fitting_children e.kind e.children) (nat_le (b.fields + 1) limits.fields)
     (nat_le e.depth limits.depth) (is_little_text limits (after b e)) (has_conflict b.kinds e.dictionary e.kind) (has_leaf_dictionary e)
     (b.fields + 1) x h
 

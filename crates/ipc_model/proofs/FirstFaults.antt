@@ -6,7 +6,7 @@ use Rattle.std.proofs.lemmas.Bool.{cases_lt, cases_order, false≢true}
 use Rattle.std.proofs.lemmas.Bool.Decides.{nat_tests}
 use Rattle.std.proofs.lemmas.List.Sums.{sum_by-append, sum_by-cons}
 use Rattle.std.proofs.lemmas.Option.{slice_get_past}
-use Rattle.ipc_model.specs.FirstFault.{HasMuchText, HasConflict, BreaksRule, BreaksAt, rank, entry_number, IsFirstAt, IsFirstFault}
+use Rattle.ipc_model.specs.FirstFault.{ExceedsTextLimits, HasConflict, BreaksRule, BreaksAt, rank, entry_number, IsFirstAt, IsFirstFault}
 use Rattle.ipc_model.specs.WellFormed.{IsAmong}
 use Rattle.ipc_model.specs.SchemaFaults.{Before, after, scan, unless_at, fault_at, has_good_type, has_fitting_children, has_leaf_dictionary}
 use Rattle.ipc_model.specs.SchemaFaults.{is_little_text, has_conflict, agrees, same_type, at_start, done, verdict_on}
@@ -85,7 +85,7 @@ is_much true y h = ⊎_elim (λ p. no p) (λ q. q) h
 is_much false y h = refl
 
 little_both : (limits : Limits) (s : Schema) (es : List Entry) (b : Before) → b.text ≡ pair_text s.metadata + sum_by (λ e. e.text) es
-    → b.pairs ≡ length s.metadata + sum_by (λ e. e.pairs) es → (is_little_text limits b ≡ false) ↔ HasMuchText limits s es
+    → b.pairs ≡ length s.metadata + sum_by (λ e. e.pairs) es → (is_little_text limits b ≡ false) ↔ ExceedsTextLimits limits s es
 little_both limits s es b text pairs = (
   λ h. ⊎_elim (λ p. let q = over_is b.text limits.text p in inl (omega (arith, q, text)))
       (λ p. let q = over_is b.pairs limits.pairs p in inr (omega (arith, q, pairs)))
@@ -263,7 +263,7 @@ pub done_err : (r : Result Before SchemaFault) (x : SchemaFault) → done r ≡ 
 done_err (Ok b) x h = cc
 done_err (Err e) x h = let same : e ≡ x = cc in ap Err same
 
-start_both : (limits : Limits) (s : Schema) → (is_little_text limits (at_start s.metadata) ≡ false) ↔ HasMuchText limits s []
+start_both : (limits : Limits) (s : Schema) → (is_little_text limits (at_start s.metadata) ≡ false) ↔ ExceedsTextLimits limits s []
 start_both limits s = little_both limits s [] (at_start s.metadata) (omega arith) (omega arith)
 
 first_from_verdict : {limits : Limits} → (s : Schema) (x : SchemaFault) → verdict_on limits s ≡ Err x → IsFirstFault limits s x
@@ -305,25 +305,25 @@ one_first {limits} s j k x y a b =
 pub verdict_from_first : {limits : Limits} → (s : Schema) (x : SchemaFault) → IsFirstFault limits s x → verdict_on limits s ≡ Err x
 verdict_from_first {limits} s x h = by_start (is_little_text limits (at_start s.metadata)) refl
   where
-    by_scan : ¬ HasMuchText limits s [] → (r : Result Before SchemaFault) → scan limits (at_start s.metadata) (entries s.fields) ≡ r
+    by_scan : ¬ ExceedsTextLimits limits s [] → (r : Result Before SchemaFault) → scan limits (at_start s.metadata) (entries s.fields) ≡ r
         → done r ≡ Err x
     by_scan little (Ok b) is =
-        ⊎_elim (λ (own : HasMuchText limits s [] × (x ≡ f.TooMuchText 0)). absurd (little own.0))
-        (λ (at : ¬ HasMuchText limits s [] × ((k : ℕ) × IsFirstAt limits s k x)). absurd
+        ⊎_elim (λ (own : ExceedsTextLimits limits s [] × (x ≡ f.TooMuchText 0)). absurd (little own.0))
+        (λ (at : ¬ ExceedsTextLimits limits s [] × ((k : ℕ) × IsFirstAt limits s k x)). absurd
         (clean_from limits s 0 (entries s.fields) (at_start s.metadata) b refl (start_so_far s) (none_yet limits s) is at.1.0 x
         at.1.1.broken)) h
     by_scan little (Err y) is =
         let q = first_from s 0 (entries s.fields) (at_start s.metadata) refl (start_so_far s) (none_yet limits s) y is in
-        ⊎_elim (λ (own : HasMuchText limits s [] × (x ≡ f.TooMuchText 0)). absurd (little own.0))
-        (λ (at : ¬ HasMuchText limits s [] × ((k : ℕ) × IsFirstAt limits s k x)). ap Err (one_first s q.0 at.1.0 y x q.1 at.1.1)) h
+        ⊎_elim (λ (own : ExceedsTextLimits limits s [] × (x ≡ f.TooMuchText 0)). absurd (little own.0))
+        (λ (at : ¬ ExceedsTextLimits limits s [] × ((k : ℕ) × IsFirstAt limits s k x)). ap Err (one_first s q.0 at.1.0 y x q.1 at.1.1)) h
 
     by_start : (c : Bool) → is_little_text limits (at_start s.metadata) ≡ c
         → (if c then done (scan limits (at_start s.metadata) (entries s.fields)) else Err (f.TooMuchText 0)) ≡ Err x
     by_start true is = by_scan (λ much. absurd (false≢true (sym ((start_both limits s).1 much) ∙ is)))
         (scan limits (at_start s.metadata) (entries s.fields)) refl
     by_start false is =
-        ⊎_elim (λ (own : HasMuchText limits s [] × (x ≡ f.TooMuchText 0)). ap Err (sym own.1))
-        (λ (at : ¬ HasMuchText limits s [] × ((k : ℕ) × IsFirstAt limits s k x)). absurd (at.0 ((start_both limits s).0 is))) h
+        ⊎_elim (λ (own : ExceedsTextLimits limits s [] × (x ≡ f.TooMuchText 0)). ap Err (sym own.1))
+        (λ (at : ¬ ExceedsTextLimits limits s [] × ((k : ℕ) × IsFirstAt limits s k x)). absurd (at.0 ((start_both limits s).0 is))) h
 
 -- what the check tells
 pub tells_first : (limits : Limits) (s : Schema) (r : Result Unit SchemaFault) → IfErr r (λ e. (e ≡ f.OutOfMemory)

@@ -68,7 +68,7 @@ own p = own_fault p.kind p.nullable p.children p.value
 
 module _ (p : Place) (is : own p ≡ kind_fault p.kind p.children p.value) (other : ¬ (p.value ≡ Value-F.Null)) where
   off_range : (x : RowCause) → IsOfVariant p.kind p.value → own p ≡ Some x → x ≡ range_cause p.kind → IsMisfit p x
-  off_range x has told same =
+  off_range x has report same =
       let off : IsOffRange p = (has, λ fine. let none = (kind_both p.kind p.children p.value).1 fine in cc) in
       subst (λ (y : RowCause). IsMisfit p y) (sym same) (⊎_elim
       (λ r. subst (λ (y : RowCause). IsMisfit p y) (sym r.1) (r.0, off))
@@ -76,8 +76,8 @@ module _ (p : Place) (is : own p ≡ kind_fault p.kind p.children p.value) (othe
       (range_is p.kind))
 
   kind_told : (x : RowCause) → own p ≡ Some x → IsMisfit p x
-  kind_told x told = ⊎_elim
-      (λ has. ⊎_elim (λ none. absurd cc) (λ some. off_range x has.0 told cc) has.1)
+  kind_told x report = ⊎_elim
+      (λ has. ⊎_elim (λ none. absurd cc) (λ some. off_range x has.0 report cc) has.1)
       (λ no. let same : c.WrongKind ≡ x = cc in subst (λ (y : RowCause). IsMisfit p y) same (other, no.0))
       (judged p.kind p.children p.value)
 
@@ -95,7 +95,7 @@ module _ (p : Place) (is : own p ≡ kind_fault p.kind p.children p.value) (othe
 
 null_told : (nullable : Bool) (kind : DataType) (x : RowCause) → unless (nullable || is_null_type kind) c.NullNotAllowed ≡ Some x
     → (x ≡ c.NullNotAllowed) × ¬ (IsTrue nullable ⊎ (kind ≡ t.Null))
-null_told nullable kind x told = (
+null_told nullable kind x report = (
   ⊎_elim (λ none. absurd cc) (λ some. cc) (unless_is (nullable || is_null_type kind) c.NullNotAllowed),
   λ may. let fine = (null_both nullable kind).1 may in absurd (let fits : unless (nullable || is_null_type kind) c.NullNotAllowed ≡ None =
       ap (λ (b : Bool). unless b c.NullNotAllowed) fine in cc),
@@ -142,8 +142,8 @@ misfit_both p x = by_value p.value refl
 
     by_value : (w : Value-F Value) → p.value ≡ w → (own p ≡ Some x) ↔ IsMisfit p x
     by_value Value-F.Null is = (
-      λ told.
-          let h = null_told p.nullable p.kind x (sym (ap (λ (w : Value-F Value). own_fault p.kind p.nullable p.children w) is) ∙ told) in
+      λ report.
+          let h = null_told p.nullable p.kind x (sym (ap (λ (w : Value-F Value). own_fault p.kind p.nullable p.children w) is) ∙ report) in
           subst (λ (y : RowCause). IsMisfit p y) (sym h.0) (is, h.1),
       of_null is x,
     )
@@ -188,11 +188,11 @@ told_both n ps qs es fs one more = told_append (map (inside n) ps) qs
 
 -- ---- a value's faults are those of its places
 
-abbrev IsTold : Field → Type 0
-IsTold f = (v : Value) → all_told (places f v) ≡ faults f v
+abbrev IsStatusOf : Field → Type 0
+IsStatusOf f = (v : Value) → all_told (places f v) ≡ faults f v
 
 abbrev Shown : Type 0
-Shown = (f : Field) × IsTold f
+Shown = (f : Field) × IsStatusOf f
 
 abbrev fields_of : List Shown → List Field
 fields_of xs = map (λ x. x.0) xs
@@ -235,16 +235,16 @@ layer_told y v =
     ∙ ap (λ (es : List RowFault). here (own_fault y.kind y.nullable (length (map faults (fields_of y.children))) (out-Value v)) ++ es)
     (inner_told y.kind y.children (out-Value v))
 
-roll_told : (x : Field-F Field) (y : Field-F Shown) → map-Field Shown Field (λ z. z.0) y ≡ x → IsTold (roll-Field x)
-roll_told x y is = subst (λ z. IsTold (roll-Field z)) is (λ v.
+roll_told : (x : Field-F Field) (y : Field-F Shown) → map-Field Shown Field (λ z. z.0) y ≡ x → IsStatusOf (roll-Field x)
+roll_told x y is = subst (λ z. IsStatusOf (roll-Field z)) is (λ v.
     ap (λ (r : Placing). all_told (r v)) (fold-roll-Field Placing placing_step z0) ∙ layer_told y v
     ∙ sym (ap (λ (r : Judgement). r v) (fold-roll-Field Judgement judge_step z0)))
   where
     z0 : Field-F Field
     z0 = map-Field Shown Field (λ z. z.0) y
 
-are_told : (f : Field) → IsTold f
-are_told = ind-Field IsTold roll_told
+are_told : (f : Field) → IsStatusOf f
+are_told = ind-Field IsStatusOf roll_told
 
 columns_told : (n : ℕ) (fs : List Field) (vs : List Value) → all_told (each_places n (map places fs) vs) ≡ each_faults n (map faults fs) vs
 columns_told n [] vs = refl
@@ -278,11 +278,11 @@ none_here p ps k e is first (suc j) less other at = first.none_before j (omega a
 
 first_by : (p : Place) (ps : List Place) (e : RowFault) (o : Option RowCause) → own p ≡ o
     → (verdict (all_told ps) ≡ Err e → HasFirst ps e) → verdict (told_at o p.path ++ all_told ps) ≡ Err e → HasFirst (p ∷ ps) e
-first_by p ps e (Some x) is later told =
+first_by p ps e (Some x) is later report =
     let same : record { cause = x; path = p.path } ≡ e = cc in
     subst (λ (y : RowFault). HasFirst (p ∷ ps) y) same (first_here p ps x is)
-first_by p ps e None is later told =
-    let r = later told in
+first_by p ps e None is later report =
+    let r = later report in
     (suc r.0, record { broken = r.1.broken; none_before = none_here p ps r.0 e is r.1 })
 
 first_at : (ps : List Place) (e : RowFault) → verdict (all_told ps) ≡ Err e → HasFirst ps e
@@ -318,9 +318,9 @@ first_both fields row e = by_test (length row == length fields) refl
         → (verdict (if b then each_faults 0 (map faults fields) row else here (Some c.RowWidth)) ≡ Err e) ↔ IsFirstRowFault fields row e
     by_test true is =
         let wide = (Decides-eqb (length row) (length fields)).0 is in
-        let told = ap verdict (columns_told 0 fields row) in (
-          λ h. inr (wide, first_at (row_places fields row) e (told ∙ h)),
-          λ h. ⊎_elim (λ no. absurd (no.0 wide)) (λ at. sym told ∙ told_first (row_places fields row) at.1.0 e at.1.1) h,
+        let report = ap verdict (columns_told 0 fields row) in (
+          λ h. inr (wide, first_at (row_places fields row) e (report ∙ h)),
+          λ h. ⊎_elim (λ no. absurd (no.0 wide)) (λ at. sym report ∙ told_first (row_places fields row) at.1.0 e at.1.1) h,
         )
     by_test false is =
         let other : ¬ (length row ≡ length fields) =

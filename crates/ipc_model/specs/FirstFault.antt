@@ -11,8 +11,8 @@ use Rattle.ipc_model.specs.declared.schema.Schema.{Schema}
 use Rattle.ipc_model.specs.declared.limits.Limits.{Limits}
 
 -- the schema's own pairs and these entries have more text, or more pairs, than the limits allow
-abbrev pub HasMuchText : Limits → Schema → List Entry → Type 0
-HasMuchText limits s es = (limits.text < pair_text s.metadata + sum_by (λ e. e.text) es)
+abbrev pub ExceedsTextLimits : Limits → Schema → List Entry → Type 0
+ExceedsTextLimits limits s es = (limits.text < pair_text s.metadata + sum_by (λ e. e.text) es)
     ⊎ (limits.pairs < length s.metadata + sum_by (λ e. e.pairs) es)
 
 -- an earlier entry has the dictionary of this entry, and another type
@@ -25,7 +25,8 @@ BreaksRule limits s earlier e (f.BadType number) = ¬ HasGoodType e.kind
 BreaksRule limits s earlier e (f.BadChildren number) = ¬ HasFittingChildren e.kind e.children
 BreaksRule limits s earlier e (f.TooManyFields number) = limits.fields < length earlier + 1
 BreaksRule limits s earlier e (f.TooDeep number) = limits.depth < e.depth
-BreaksRule limits s earlier e (f.TooMuchText number) = HasMuchText limits s (earlier ++ e ∷ [])
+BreaksRule limits s earlier e (f.TooMuchText number) = ExceedsTextLimits limits s
+    (earlier ++ e ∷ [])
 BreaksRule limits s earlier e (f.DictionaryConflict number) = HasConflict earlier e
 BreaksRule limits s earlier e (f.NestedDictionary number) = ¬ (IsSome e.dictionary → IsLeaf e.kind)
 BreaksRule limits s earlier e f.OutOfMemory = ⊥
@@ -68,5 +69,5 @@ pub record IsFirstAt (limits : Limits) (s : Schema) (k : ℕ) (fault : SchemaFau
 -- the first fault of a schema: of its own pairs, which are counted before its entries and have the
 -- number 0, or of an entry
 abbrev pub IsFirstFault : Limits → Schema → SchemaFault → Type 0
-IsFirstFault limits s fault = (HasMuchText limits s [] × (fault ≡ f.TooMuchText 0))
-    ⊎ (¬ HasMuchText limits s [] × ((k : ℕ) × IsFirstAt limits s k fault))
+IsFirstFault limits s fault = (ExceedsTextLimits limits s [] × (fault ≡ f.TooMuchText 0))
+    ⊎ (¬ ExceedsTextLimits limits s [] × ((k : ℕ) × IsFirstAt limits s k fault))

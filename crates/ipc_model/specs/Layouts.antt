@@ -96,19 +96,6 @@ needs_slot_checks l.Lists = false
 needs_slot_checks (l.FixedLists size) = false
 needs_slot_checks l.Structs = false
 
--- each slot holds a signed number of 64 bits
-abbrev pub is_signed_64 : Layout → Bool
-is_signed_64 (l.Numbers B64 true) = true
-is_signed_64 (l.Numbers bits signed) = false
-is_signed_64 l.Null = false
-is_signed_64 l.Bits = false
-is_signed_64 (l.FixedBytes width) = false
-is_signed_64 (l.VariableBytes utf8) = false
-is_signed_64 l.Lists = false
-is_signed_64 (l.FixedLists size) = false
-is_signed_64 l.Structs = false
-is_signed_64 (l.Indices bits signed id) = false
-
 -- how many bytes a number of this width takes
 abbrev pub number_bytes : IntBits → ℕ
 number_bytes B8 = 1

@@ -1,7 +1,7 @@
 //! The layouts of types: which buffers each needs, and how wide numbers are.
 ghost use Rattle.std.specs.Prelude.{◌≡◌};
 ghost use Rattle.ipc_model.specs.Layouts.{type_layout, layout, own_buffers, has_validity};
-ghost use Rattle.ipc_model.specs.Layouts.{needs_slot_checks, is_signed_64, is_texts, number_bytes};
+ghost use Rattle.ipc_model.specs.Layouts.{needs_slot_checks, is_texts, number_bytes};
 ghost use Rattle.ipc_model.specs.Layouts.{time_bits};
 ghost use Rattle.ipc_model.specs.Ranges.{width};
 
@@ -147,19 +147,6 @@ impl Layout {
         match self {
             Layout::VariableBytes { utf8 } => utf8,
             Layout::Indices { .. } => true,
-            _ => false,
-        }
-    }
-
-    /// Returns whether each slot holds a signed number of 64 bits.
-    pub fn is_signed_64(self) -> bool
-        ensures { result ≡ is_signed_64 self }
-    {
-        match self {
-            Layout::Numbers {
-                bits: IntBits::B64,
-                signed,
-            } => signed,
             _ => false,
         }
     }

@@ -97,10 +97,10 @@ tells_8 bits signed n limit most count s b r is some inside counts sign bound sm
     let size : count ≡ 1 = rw is at counts in
     let room : n * 1 ≤ length b = let i = rw is at inside in omega (arith, i) in
     let cut = cut_numbers 1 n most b room (omega arith) in
-    let told = rw size at h in
+    let report = rw size at h in
     let one : (i : ℕ) → (num b (1 * i) 1 ≤ most) ↔ IsBelow limit (number 8 signed b i) =
     λ i. below_8 signed (num b (1 * i) 1) limit most (omega arith) (rw (is, sign) at bound) (num_lt 1 (1 * i) b small) in
-    rw is (λ e i l. (one i).0 (cut.0 (told.0 e) i l), λ g. told.1 (cut.1 (λ i l. (one i).1 (g i l))))
+    rw is (λ e i l. (one i).0 (cut.0 (report.0 e) i l), λ g. report.1 (cut.1 (λ i l. (one i).1 (g i l))))
 
 -- what tells of numbers of 16 bits
 pub tells_16 : (bits : ℕ) (signed : Bool) (n limit most count s : ℕ) (b : List ℕ) (r : Bool) → bits ≡ 16 → (limit ≡ 0 → ⊥) → n * bits / 8
@@ -113,10 +113,10 @@ tells_16 bits signed n limit most count s b r is some inside counts sign bound s
     let size : count ≡ 2 = rw is at counts in
     let room : n * 2 ≤ length b = let i = rw is at inside in omega (arith, i) in
     let cut = cut_numbers 2 n most b room (omega arith) in
-    let told = rw size at h in
+    let report = rw size at h in
     let one : (i : ℕ) → (num b (2 * i) 2 ≤ most) ↔ IsBelow limit (number 16 signed b i) =
     λ i. below_16 signed (num b (2 * i) 2) limit most (omega arith) (rw (is, sign) at bound) (num_lt 2 (2 * i) b small) in
-    rw is (λ e i l. (one i).0 (cut.0 (told.0 e) i l), λ g. told.1 (cut.1 (λ i l. (one i).1 (g i l))))
+    rw is (λ e i l. (one i).0 (cut.0 (report.0 e) i l), λ g. report.1 (cut.1 (λ i l. (one i).1 (g i l))))
 
 -- what tells of numbers of 32 bits
 pub tells_32 : (bits : ℕ) (signed : Bool) (n limit most count s : ℕ) (b : List ℕ) (r : Bool) → bits ≡ 32 → (limit ≡ 0 → ⊥) → n * bits / 8
@@ -129,10 +129,10 @@ tells_32 bits signed n limit most count s b r is some inside counts sign bound s
     let size : count ≡ 4 = rw is at counts in
     let room : n * 4 ≤ length b = let i = rw is at inside in omega (arith, i) in
     let cut = cut_numbers 4 n most b room (omega arith) in
-    let told = rw size at h in
+    let report = rw size at h in
     let one : (i : ℕ) → (num b (4 * i) 4 ≤ most) ↔ IsBelow limit (number 32 signed b i) =
     λ i. below_32 signed (num b (4 * i) 4) limit most (omega arith) (rw (is, sign) at bound) (num_lt 4 (4 * i) b small) in
-    rw is (λ e i l. (one i).0 (cut.0 (told.0 e) i l), λ g. told.1 (cut.1 (λ i l. (one i).1 (g i l))))
+    rw is (λ e i l. (one i).0 (cut.0 (report.0 e) i l), λ g. report.1 (cut.1 (λ i l. (one i).1 (g i l))))
 
 -- what tells of numbers of 64 bits
 pub tells_64 : (bits : ℕ) (signed : Bool) (n limit most count s : ℕ) (b : List ℕ) (r : Bool) → bits ≡ 64 → (limit ≡ 0 → ⊥) → n * bits / 8
@@ -145,10 +145,10 @@ tells_64 bits signed n limit most count s b r is some inside counts sign bound s
     let size : count ≡ 8 = rw is at counts in
     let room : n * 8 ≤ length b = let i = rw is at inside in omega (arith, i) in
     let cut = cut_numbers 8 n most b room (omega arith) in
-    let told = rw size at h in
+    let report = rw size at h in
     let one : (i : ℕ) → (num b (8 * i) 8 ≤ most) ↔ IsBelow limit (number 64 signed b i) =
     λ i. below_64 signed (num b (8 * i) 8) limit most (omega arith) (rw (is, sign) at bound) (num_lt 8 (8 * i) b small) in
-    rw is (λ e i l. (one i).0 (cut.0 (told.0 e) i l), λ g. told.1 (cut.1 (λ i l. (one i).1 (g i l))))
+    rw is (λ e i l. (one i).0 (cut.0 (report.0 e) i l), λ g. report.1 (cut.1 (λ i l. (one i).1 (g i l))))
 
 -- the width that is left
 pub last_width : (bits : ℕ) → IsWidth bits → (bits ≡ 8 → ⊥) → (bits ≡ 16 → ⊥) → (bits ≡ 32 → ⊥) → bits ≡ 64

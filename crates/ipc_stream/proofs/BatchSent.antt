@@ -222,11 +222,11 @@ module _ (limits : Limits) (s : Schema) (b : BatchRows) (kept : List KeptEntry) 
   both_told sets tells o in_force =
       let first = sets o in_force in
       let τ = first.0 in
-      let told = tells τ first.1.0 in (
+      let report = tells τ first.1.0 in (
         τ,
         (
           first.1.0,
-          run_then (Some o) (Some τ) (Some τ) (all_bytes ms) own [] (batch b ∷ []) first.1.1 (run_one told.frame told.step),
+          run_then (Some o) (Some τ) (Some τ) (all_bytes ms) own [] (batch b ∷ []) first.1.1 (run_one report.frame report.step),
         ),
       )
 
@@ -235,15 +235,15 @@ module _ (limits : Limits) (s : Schema) (b : BatchRows) (kept : List KeptEntry) 
       → AllSettled kept (tally_of_rows s.fields b.rows) os → FindsSent
       → SetDictionaries limits s (sends_of (tally_of_rows s.fields b.rows) os) ms → Tells → SendsBatch limits s kept b (all_bytes ms ++ own)
   batch_sent fit counted ids settled finds sets tells =
-      let told = tells_own (counted_after s.fields b.rows kept fit counted) ids settled finds tells in
+      let report = tells_own (counted_after s.fields b.rows kept fit counted) ids settled finds tells in
       record {
         dictionaries = all_bytes ms;
         own = own;
         bytes = refl;
         set = subst (λ sends. DictionaryMessages limits s sends (all_bytes ms)) (needed_is s.fields b.rows kept os ids settled)
             (set_messages limits s (sends_of (tally_of_rows s.fields b.rows) os) ms sets);
-        told = told;
-        in_turn = both_told (sets_first ids settled sets) told;
+        report = report;
+        in_turn = both_told (sets_first ids settled sets) report;
       }
 
 -- ---- parts

@@ -48,8 +48,8 @@ module _ (limits : Limits) (s : Schema) (b : BatchRows) where
   pub rows_refused : (fault : WriteFault) → (fault ≡ w.OutOfMemory) ⊎ AreMismatches s.fields b.rows fault → RefusesBatch limits s b fault
   rows_refused fault (inl e) = subst (λ (f : WriteFault). RefusesBatch limits s b f) (sym e) tt
   rows_refused fault (inr h) =
-      subst (λ (f : WriteFault). RefusesBatch limits s b f) (sym h.told)
-      (subst (λ (f : WriteFault). AreMismatches s.fields b.rows f) h.told h)
+      subst (λ (f : WriteFault). RefusesBatch limits s b f) (sym h.report)
+      (subst (λ (f : WriteFault). AreMismatches s.fields b.rows f) h.report h)
 
   -- the dictionaries have too many or too long values, or memory ran out
   pub values_refused : (fault : WriteFault) → (fault ≡ w.DictionaryFull → IsIndexOverflow (tally_of_rows s.fields b.rows))
@@ -68,7 +68,7 @@ module _ (limits : Limits) (s : Schema) (b : BatchRows) where
 
   pub rows_unsent : (fault : WriteFault) → (fault ≡ w.OutOfMemory) ⊎ AreMismatches s.fields b.rows fault → fault ≡ w.Write → ⊥
   rows_unsent fault (inl e) is = absurd (let both = sym e ∙ is in cc)
-  rows_unsent fault (inr h) is = absurd (let both = sym h.told ∙ is in cc)
+  rows_unsent fault (inr h) is = absurd (let both = sym h.report ∙ is in cc)
 
   pub values_unsent : (fault : WriteFault) → ((fault ≡ w.DictionaryFull) ⊎ IsOfLimits fault) ⊎ (fault ≡ w.OutOfMemory)
       → fault ≡ w.Write → ⊥

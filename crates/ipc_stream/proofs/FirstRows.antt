@@ -35,7 +35,7 @@ misfits_more fields rows more fault m =
       misfit = subst (λ (row : List Value). RowFits fields row → ⊥) (sym same) m.misfit;
       cause = m.cause;
       first = ap (λ (row : List Value). verdict (row_faults fields row)) same ∙ m.first;
-      told = m.told;
+      report = m.report;
     }
 
 -- what a batch that isn't sent is refused for is a cause of refusing it with more rows

@@ -54,7 +54,7 @@ module _ (limits : Limits) (s : Schema) (rows : List (List Value)) (kept : List 
           let low : j < index_capacity d = omega (arith, few, slice_get_within found.0 j v found.1.1) in
           record {
             within = subst (λ k. IsIndexWithin d.index.bits d.index.signed k) (sym index) (index_within d j low);
-            found = ap (λ k. slice_get (values_for m d.id) k) index ∙ ap (λ xs. slice_get xs j) here ∙ found.1.1;
+            value_is = ap (λ k. slice_get (values_for m d.id) k) index ∙ ap (λ xs. slice_get xs j) here ∙ found.1.1;
           }
 
   pub plan_finds : WellFormed limits s → ((id : ℤ) → at m id ≡ sent_for (after_all kept (tally_of_rows s.fields rows) os) id)
@@ -89,7 +89,7 @@ module _ (limits : Limits) (s : Schema) (rows : List (List Value)) (kept : List 
           let low : j < index_capacity d = omega (arith, few, slice_get_within found.0 j v found.1.1) in
           record {
             within = subst (λ k. IsIndexWithin d.index.bits d.index.signed k) (sym index_is) (index_within d j low);
-            found = ap (λ k. slice_get (values_for m d.id) k) index_is ∙ ap (λ xs. slice_get xs j) here ∙ found.1.1;
+            value_is = ap (λ k. slice_get (values_for m d.id) k) index_is ∙ ap (λ xs. slice_get xs j) here ∙ found.1.1;
           }
 
   pub plan_finds_indices : WellFormed limits s → ((id : ℤ) → at m id ≡ sent_for (after_all kept (tally_of_rows s.fields rows) os) id)

@@ -21,13 +21,13 @@ use Rattle.ipc_stream.specs.Progress.{ReportsBefore, ReportsSome, ReportsTo, Are
 
 -- batches of a source were read and reported: so many, with so many rows
 pub record Progressed (limits : Limits) (before : Option (List ℕ)) (batches rows : ℕ) (now : Reader)
-    (told_old told_new : Option (List Report)) : Type 0 where
+    (reports_old reports_new : Option (List Report)) : Type 0 where
   pub x : List ℕ
   pub done : List BatchRows
   pub reports : List Report
   pub bytes : Consumes before now.remaining x
   pub are : AreReports limits x done reports (Some (in_force_of now))
-  pub told : AreAppended told_old told_new reports
+  pub report : AreAppended reports_old reports_new reports
   pub limits_are : now.limits ≡ limits
   pub taken : now.taken ≡ count_up 0 (length x)
   pub batches_are : batches ≡ count_up 0 (length done)
@@ -82,7 +82,7 @@ progressed_none before r a o = record {
   reports = [];
   bytes = o.bytes;
   are = opened o.run;
-  told = told_none a;
+  report = told_none a;
   limits_are = o.same_limits;
   taken = o.counted;
   batches_are = omega arith;
@@ -102,7 +102,7 @@ module _ {limits : Limits} (before : Option (List ℕ)) (batches rows : ℕ) (no
       state = Some (in_force_of now);
       bytes = subst (Consumes before now.remaining) (sym (append-nil p.x)) p.bytes;
       are = p.are;
-      told = p.told;
+      report = p.report;
     },
     inl refl,
   )
@@ -122,7 +122,7 @@ module _ {limits : Limits} (before : Option (List ℕ)) (batches rows : ℕ) (no
         ≡ count_up batches 1
         → n ≡ count_up rows (length found.0.rows) → AreAppended b c (record { bytes = new.taken; batches = m; rows = n } ∷ [])
         → Progressed limits before m n new a c
-    progressed_more found m n c t one all told =
+    progressed_more found m n c t one all appends =
         let y = p.x ++ t.x in
         let done_now = p.done ++ batch_rows found ∷ [] in
         let taken : new.taken ≡ count_up 0 (length y) = omega (arith, p.taken, t.counted, length-append p.x t.x) in
@@ -136,7 +136,7 @@ module _ {limits : Limits} (before : Option (List ℕ)) (batches rows : ℕ) (no
           reports = p.reports ++ report_of y done_now ∷ [];
           bytes = Consumes-trans before now.remaining new.remaining p.x t.x p.bytes t.bytes;
           are = more p.are (last_given found t);
-          told = told_then a b c p.reports (report_of y done_now ∷ []) p.told (subst (λ r. AreAppended b c (r ∷ [])) is told);
+          report = told_then a b c p.reports (report_of y done_now ∷ []) p.report (subst (λ r. AreAppended b c (r ∷ [])) is appends);
           limits_are = t.same_limits ∙ p.limits_are;
           taken = taken;
           batches_are = some;
@@ -154,7 +154,7 @@ module _ {limits : Limits} (before : Option (List ℕ)) (batches rows : ℕ) (no
         state = Some (in_force_of now);
         bytes = Consumes-trans before now.remaining new.remaining p.x t.x p.bytes t.bytes;
         are = p.are;
-        told = p.told;
+        report = p.report;
       },
       inr (batch_rows found, (Some (in_force_of new), last_given found t)),
     )
@@ -171,7 +171,7 @@ module _ {limits : Limits} (before : Option (List ℕ)) (batches rows : ℕ) (no
         state = Some (in_force_of now);
         bytes = Consumes-trans before now.remaining new.remaining p.x x p.bytes bytes;
         are = p.are;
-        told = p.told;
+        report = p.report;
       },
       inr (subst (λ l. Reads l (Some (in_force_of now)) x new.remaining [] answer) p.limits_are
           (record { state = Some (in_force_of new); whole = h.whole; rest = h.rest; joined = h.joined; run = h.run; ends = h.ends })),
@@ -219,7 +219,7 @@ unopened_to old new f a o = (
     state = None;
     bytes = o.bytes;
     are = unopened;
-    told = told_none a;
+    report = told_none a;
   },
   inr o.reads,
 )

@@ -70,7 +70,7 @@ pub record SendsBatch (limits : Limits) (s : Schema) (kept : List KeptEntry) (b 
   pub own : List ℕ
   pub bytes : x ≡ dictionaries ++ own
   pub set : DictionaryMessages limits s (dictionaries_to_send s.fields b.rows kept) dictionaries
-  pub told : (o : InForce) → IsInForce s (sent_after s.fields b.rows kept) o
+  pub report : (o : InForce) → IsInForce s (sent_after s.fields b.rows kept) o
       → IsMessage limits (Some o) own (batch b ∷ []) (Some o)
   pub in_turn : DenotesBatches limits s kept (b ∷ []) x
 

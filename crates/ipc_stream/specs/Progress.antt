@@ -55,7 +55,7 @@ pub data AreReports (limits : Limits) : List ℕ → List BatchRows → List Rep
 -- reports were added: of the batches in a beginning x of the bytes that were taken. These bytes end
 -- with `rest`, before which the state is the given
 pub record Reports (limits : Limits) (old new : Option (List ℕ))
-    (told_old told_new : Option (List Report)) : Type 0 where
+    (reports_old reports_new : Option (List Report)) : Type 0 where
   pub x : List ℕ
   pub rest : List ℕ
   pub batches : List BatchRows
@@ -63,7 +63,7 @@ pub record Reports (limits : Limits) (old new : Option (List ℕ))
   pub state : State
   pub bytes : Consumes old new (x ++ rest)
   pub are : AreReports limits x batches reports state
-  pub told : AreAppended told_old told_new reports
+  pub report : AreAppended reports_old reports_new reports
 
 -- no batch is read from these bytes: there are none, or reading ends among them with this result
 abbrev pub HasNoBatch : Limits → State → List ℕ → Option (List ℕ) → Result End Fault → Type 0
@@ -78,26 +78,28 @@ HasOneBatch limits σ rest =
 -- ended among them with this result
 abbrev pub ReportsTo : Limits → Option (List ℕ) → Option (List ℕ) → Option (List Report)
     → Option (List Report) → Result End Fault → Type 0
-ReportsTo limits old new told_old told_new answer =
-    (r : Reports limits old new told_old told_new) × HasNoBatch limits r.state r.rest new answer
+ReportsTo limits old new reports_old reports_new answer =
+    (r : Reports limits old new reports_old reports_new)
+    × HasNoBatch limits r.state r.rest new answer
 
 -- each batch that was read was reported, in order, and reading did not break off
 abbrev pub ReportsAll : Limits → Option (List ℕ) → Option (List ℕ) → Option (List Report)
     → Option (List Report) → Type 0
-ReportsAll limits old new told_old told_new =
-    (end : End) × ReportsTo limits old new told_old told_new (Ok end)
+ReportsAll limits old new reports_old reports_new =
+    (end : End) × ReportsTo limits old new reports_old reports_new (Ok end)
 
 -- each batch that was read was reported, in order, before reading broke off for this fault, or
 -- ended
 abbrev pub ReportsBefore : Limits → Option (List ℕ) → Option (List ℕ) → Option (List Report)
     → Option (List Report) → Fault → Type 0
-ReportsBefore limits old new told_old told_new fault =
-    ReportsTo limits old new told_old told_new (Err fault)
-    ⊎ ReportsAll limits old new told_old told_new
+ReportsBefore limits old new reports_old reports_new fault =
+    ReportsTo limits old new reports_old reports_new (Err fault)
+    ⊎ ReportsAll limits old new reports_old reports_new
 
 -- each batch that was read was reported, in order, maybe without the last one
 abbrev pub ReportsSome : Limits → Option (List ℕ) → Option (List ℕ) → Option (List Report)
     → Option (List Report) → Type 0
-ReportsSome limits old new told_old told_new = (r : Reports limits old new told_old told_new)
+ReportsSome limits old new reports_old reports_new =
+    (r : Reports limits old new reports_old reports_new)
     × (((answer : Result End Fault) × HasNoBatch limits r.state r.rest new answer)
     ⊎ HasOneBatch limits r.state r.rest)

@@ -100,33 +100,33 @@ pub(crate) fn dictionary_messages(
     Ok(messages)
 }
 
-// The messages of the batch that is held, and what it does with each dictionary. Its rows, its
+// The messages of the pending batch, and what it does with each dictionary. Its rows, its
 // pairs and its dictionaries are within the limits.
-pub fn held_messages(
+pub fn pending_messages(
     alloc: Global,
     limits: &Limits,
     columns: &Dictionaries,
     kept: &Kept,
-    held: PendingBatch,
+    pending: PendingBatch,
 ) -> Result<(BatchMessages, Plan), WriteFault>
     ensures messages { (s : Schema) (b : BatchRows) → IsGoingOn limits.now s columns.now kept.now
-        → HoldsBatch limits.now s b held
+        → HoldsBatch limits.now s b pending
         → IfOk result (λ r. SendsBatch limits.now s kept.now b (all_bytes r.0.messages.items)) }
     ensures sent { (s : Schema) (b : BatchRows) → IsGoingOn limits.now s columns.now kept.now
-        → HoldsBatch limits.now s b held
+        → HoldsBatch limits.now s b pending
         → IfOk result (λ r. Leads kept.now (sent_after s.fields b.rows kept.now) r.1) }
     ensures only { (s : Schema) (b : BatchRows) → IsGoingOn limits.now s columns.now kept.now
-        → HoldsBatch limits.now s b held
+        → HoldsBatch limits.now s b pending
         → IfErr result (λ fault. fault ≡ WriteFault.OutOfMemory) }
     ensures some { IfOk result (λ r. 0 < length r.0.messages.items) }
-    ensures ids { IfOk result (λ r. tally_ids r.1.entries ≡ ids_of held.tally.fields) }
-    ensures addressed { IfOk result (λ r. AreAddressed held.tally.fields r.1.entries) }
+    ensures ids { IfOk result (λ r. tally_ids r.1.entries ≡ ids_of pending.tally.fields) }
+    ensures addressed { IfOk result (λ r. AreAddressed pending.tally.fields r.1.entries) }
 {
     let PendingBatch {
         builder,
         tally,
         pairs,
-    } = held;
+    } = pending;
     let count = builder.row_count();
     let plan = tally.settle(alloc, kept)?;
     let parts = builder.finish(&plan)?;

@@ -56,7 +56,7 @@ impl<W: Sink> StreamWriter<W> {
         ensures* rests { sem 𝓛 (RestsIfErr (the_row W.row W.Sink) self.entry
             (λ b. b.writer.ghost_name) result (λ last. IfErr result (StaysAt self.old last))) }
         ensures same_reference { IfOk result (λ b. b.writer.ghost_name ≡ self.entry.ghost_name) }
-        ensures begun { IfOk result (λ b. Stays self.old b.writer.now result) }
+        ensures begins { IfOk result (λ b. Stays self.old b.writer.now result) }
         ensures judged { MatchResult result
             (λ b. HoldsBatch self.old.limits self.old.schema (no_rows pairs) b.batch)
             (λ fault. RefusesPending self.old.limits self.old.schema (no_rows pairs) self.old.failed

@@ -10,7 +10,7 @@ ghost use Rattle.ipc_stream.specs.PendingBatches.{no_rows, with_row, with_rows};
 ghost use Rattle.ipc_stream.specs.Writing.{AcceptsBatch, AcceptsSchema, RefusesBatch};
 ghost use Rattle.ipc_stream.specs.Writing.{RefusesSchema, Sends};
 
-use crate::batch_messages::held_messages;
+use crate::batch_messages::pending_messages;
 use crate::column_messages::column_messages;
 use crate::messages::schema_message;
 use crate::pending_batch::PendingBatch;
@@ -143,19 +143,23 @@ impl OpenStream {
 
     // Takes one row more into a batch of this stream's. Nothing is sent.
     #[inline(always)]
-    pub(crate) fn push_row(&self, held: &mut PendingBatch, row: &[Value]) -> Result<(), WriteFault>
-        ensures stays { StaysInStream held.old held.new }
-        ensures holds { (b : BatchRows) → HoldsBatch self.now.limits self.now.schema b held.old
+    pub(crate) fn push_row(
+        &self,
+        pending: &mut PendingBatch,
+        row: &[Value],
+    ) -> Result<(), WriteFault>
+        ensures stays { StaysInStream pending.old pending.new }
+        ensures holds { (b : BatchRows) → HoldsBatch self.now.limits self.now.schema b pending.old
             → OnOk result
-            (HoldsBatch self.now.limits self.now.schema (with_row b row.now) held.new) }
-        ensures refused { (b : BatchRows) → HoldsBatch self.now.limits self.now.schema b held.old
+            (HoldsBatch self.now.limits self.now.schema (with_row b row.now) pending.new) }
+        ensures refused { (b : BatchRows) → HoldsBatch self.now.limits self.now.schema b pending.old
             → IfErr result
             (RefusesPending self.now.limits self.now.schema (with_row b row.now) false) }
-        ensures kept { (b : BatchRows) → HoldsBatch self.now.limits self.now.schema b held.old
+        ensures kept { (b : BatchRows) → HoldsBatch self.now.limits self.now.schema b pending.old
             → IfErr result (λ fault. ¬ (fault ≡ WriteFault.OutOfMemory)
-            → HoldsBatch self.now.limits self.now.schema b held.new) }
+            → HoldsBatch self.now.limits self.now.schema b pending.new) }
     {
-        held.push(&self.schema, row)
+        pending.push(&self.schema, row)
     }
 
     // Sends the messages of a batch whose rows were pushed: those of the dictionaries that it
@@ -163,14 +167,14 @@ impl OpenStream {
     pub(crate) fn send_rows<W: Sink>(
         &mut self,
         sink: &mut W,
-        held: PendingBatch,
+        pending: PendingBatch,
     ) -> Result<(), WriteFault>
-        requires { BelongsTo self.old.limits self.old.schema held }
-        ensures sends { (b : BatchRows) → HoldsBatch self.old.limits self.old.schema b held
+        requires { BelongsTo self.old.limits self.old.schema pending }
+        ensures sends { (b : BatchRows) → HoldsBatch self.old.limits self.old.schema b pending
             → Sends (SendsBatch self.old.limits self.old.schema self.old.kept b)
             (W.written sink.old) (W.written sink.new) (W.failures sink.old)
             (W.failures sink.new) result }
-        ensures sent { (b : BatchRows) → HoldsBatch self.old.limits self.old.schema b held
+        ensures sent { (b : BatchRows) → HoldsBatch self.old.limits self.old.schema b pending
             → OnOk result (self.new ≡ record self.old {
               kept = sent_after self.old.schema.fields b.rows self.old.kept;
             }) }
@@ -178,16 +182,16 @@ impl OpenStream {
         ensures schema { self.new.schema ≡ self.old.schema }
         ensures counted { OnOk result (AreCounted self.new.schema.fields self.new.kept) }
         ensures err { OnErr result (self.new ≡ self.old) }
-        ensures only { (b : BatchRows) → HoldsBatch self.old.limits self.old.schema b held
+        ensures only { (b : BatchRows) → HoldsBatch self.old.limits self.old.schema b pending
             → IfErr result
             (λ fault. (fault ≡ WriteFault.Write) ⊎ (fault ≡ WriteFault.OutOfMemory)) }
     {
-        let (messages, plan) = held_messages(
+        let (messages, plan) = pending_messages(
             self.alloc,
             &self.limits,
             &self.columns,
             &self.kept,
-            held,
+            pending,
         )?;
         send_messages(sink, messages.as_slice())?;
         plan.commit(&mut self.kept);
@@ -213,9 +217,9 @@ impl OpenStream {
             (λ _. AcceptsBatch self.old.limits self.old.schema batch.now)
             (λ fault. RefusesBatch self.old.limits self.old.schema batch.now fault) }
     {
-        let mut held = self.begin_batch(batch.pairs.clone()?)?;
-        held.push_all(&self.schema, batch.rows.as_slice())?;
-        self.send_rows(sink, held)
+        let mut pending = self.begin_batch(batch.pairs.clone()?)?;
+        pending.push_all(&self.schema, batch.rows.as_slice())?;
+        self.send_rows(sink, pending)
     }
 
     // Sends the messages of a batch that was read, with these pairs: those of the dictionaries that

@@ -14,8 +14,8 @@ use Rattle.ipc_frame.specs.Sees.{IsFrame, RefusesStart}
 use Rattle.ipc_frame.specs.Decisions.{RefusesNow, start_decision}
 use Rattle.ipc_frame.specs.declared.frame.Frame.{Frame as Framed}
 use Rattle.ipc_frame.specs.declared.frame.Frame.TheVariants as f
-use Rattle.ipc_stream_read.specs.declared.event.Event.{Event as Told}
-use Rattle.ipc_stream_read.specs.declared.event.Event.TheVariants as told
+use Rattle.ipc_stream_read.specs.declared.event.Event.{Event as ReturnedEvent}
+use Rattle.ipc_stream_read.specs.declared.event.Event.TheVariants as report
 use Rattle.ipc_stream_read.specs.StreamStates.{Brings, IsWellFormedFrame, RefusesFrame, RefusesValues}
 use Rattle.ipc_stream_read.specs.Found.{batch_rows}
 use Rattle.ipc_stream_read.specs.Reasons.{Refuses, early, no_schema, second_schema, dictionary, no_values, no_rows}
@@ -32,11 +32,11 @@ frame_well_formed limits x (f.Message meta (h.Dictionary id b) body) is = tt
 frame_well_formed limits x (f.Message meta (h.Batch b pairs) body) is = tt
 
 -- what a frame that is taken tells
-abbrev pub Brought : Limits → State → State → List ℕ → Option Told → Type 0
+abbrev pub Brought : Limits → State → State → List ℕ → Option ReturnedEvent → Type 0
 Brought limits σ τ x None = IsMessage limits σ x [] τ
-Brought limits σ τ x (Some told.Schema) = (s : Schema) × IsMessage limits σ x (schema s ∷ []) τ
-Brought limits σ τ x (Some (told.Batch found pairs)) = IsMessage limits σ x (batch (batch_rows (found, pairs)) ∷ []) τ
-Brought limits σ τ x (Some told.End) = (x ≡ end_of_stream) × (τ ≡ σ) × (τ ≢ None)
+Brought limits σ τ x (Some report.Schema) = (s : Schema) × IsMessage limits σ x (schema s ∷ []) τ
+Brought limits σ τ x (Some (report.Batch found pairs)) = IsMessage limits σ x (batch (batch_rows (found, pairs)) ∷ []) τ
+Brought limits σ τ x (Some report.End) = (x ≡ end_of_stream) × (τ ≡ σ) × (τ ≢ None)
 
 message_of : (limits : Limits) (σ τ : State) (x metadata body : List ℕ) (g : Head) (es : List Event) → Frame limits x metadata g body
     → Step limits σ g body es τ → IsMessage limits σ x es τ
@@ -44,18 +44,18 @@ message_of limits σ τ x metadata body g es frame step =
     record { metadata = metadata; head = g; body = body; frame = frame; step = step }
 
 -- what is taken of a frame is what the stream tells
-pub brought : (limits : Limits) (σ τ : State) (x : List ℕ) (frame : Framed) (found : Option Told) → IsFrame limits x frame
+pub brought : (limits : Limits) (σ τ : State) (x : List ℕ) (frame : Framed) (found : Option ReturnedEvent) → IsFrame limits x frame
     → Brings limits σ frame τ (Ok found) → Brought limits σ τ x found
 brought limits σ τ x (f.Message meta g body) None is b = message_of limits σ τ x meta.items body.items g [] is b
-brought limits σ τ x (f.Message meta g body) (Some told.Schema) is b =
+brought limits σ τ x (f.Message meta g body) (Some report.Schema) is b =
     (b.0, message_of limits σ τ x meta.items body.items g (schema b.0 ∷ []) is b.1)
-brought limits σ τ x (f.Message meta g body) (Some (told.Batch found pairs)) is b =
+brought limits σ τ x (f.Message meta g body) (Some (report.Batch found pairs)) is b =
     message_of limits σ τ x meta.items body.items g (batch (batch_rows (found, pairs)) ∷ []) is b
-brought limits σ τ x (f.Message meta g body) (Some told.End) is b = absurd b
+brought limits σ τ x (f.Message meta g body) (Some report.End) is b = absurd b
 brought limits σ τ x f.End None is b = absurd b
-brought limits σ τ x f.End (Some told.Schema) is b = absurd b
-brought limits σ τ x f.End (Some (told.Batch found pairs)) is b = absurd b
-brought limits σ τ x f.End (Some told.End) is b = (is, b.0, λ none. b.1 (sym b.0 ∙ none))
+brought limits σ τ x f.End (Some report.Schema) is b = absurd b
+brought limits σ τ x f.End (Some (report.Batch found pairs)) is b = absurd b
+brought limits σ τ x f.End (Some report.End) is b = (is, b.0, λ none. b.1 (sym b.0 ∙ none))
 
 -- ---- what is refused
 

@@ -22,8 +22,8 @@ use Rattle.ipc_frame.specs.declared.frame.Frame.TheVariants as f
 use Rattle.ipc_stream_read.specs.declared.stream_state.StreamState.{StreamState}
 use Rattle.ipc_stream_read.specs.declared.stream_phase.StreamPhase.TheVariants as phase
 use Rattle.ipc_stream_read.specs.declared.end.End.TheVariants.{Mark}
-use Rattle.ipc_stream_read.specs.declared.event.Event.{Event as Told}
-use Rattle.ipc_stream_read.specs.declared.event.Event.TheVariants as told
+use Rattle.ipc_stream_read.specs.declared.event.Event.{Event as ReturnedEvent}
+use Rattle.ipc_stream_read.specs.declared.event.Event.TheVariants as report
 use Rattle.ipc_stream_read.specs.Counts.{count_up}
 use Rattle.ipc_stream_read.specs.StreamStates.{Brings, IsMessageFrame, IsWellFormedFrame, IsRefused, IsSound, Moves, decoding_of, stage_of}
 use Rattle.ipc_stream_read.specs.Decoding.{Decoding, taking, over, refused, Reaches, Waits, ReportsEvent, RefusesAt, FeedsOn, FeedsAt}
@@ -58,25 +58,25 @@ message_sized limits x (f.Message meta head body) is message = frame_sized x met
 message_sized limits x f.End is message = absurd message
 
 -- how a decoder goes on behind what a frame brought
-abbrev pub Went : Decoding → Decoding → Option Told → Type 0
-Went old new (Some told.End) = (new.stage ≡ over Mark) × (new.messages ≡ old.messages)
+abbrev pub Went : Decoding → Decoding → Option ReturnedEvent → Type 0
+Went old new (Some report.End) = (new.stage ≡ over Mark) × (new.messages ≡ old.messages)
 Went old new found = (new.stage ≡ taking []) × (new.messages ≡ count_up old.messages 1)
 
 -- it does, where the frame was taken
-pub went : (before after : Framing) (c d : StreamState) (σ τ : State) (limits : Limits) (frame : Framed) (found : Option Told)
+pub went : (before after : Framing) (c d : StreamState) (σ τ : State) (limits : Limits) (frame : Framed) (found : Option ReturnedEvent)
     → Brings limits σ frame τ (Ok found) → after.progress ≡ behind frame → c.phase ≡ phase.Reading → Moves c d (Ok found)
     → Went (decoding_of before c) (decoding_of after d) found
 went before after c d σ τ limits f.End None b p r m = absurd b
-went before after c d σ τ limits f.End (Some told.Schema) b p r m = absurd b
-went before after c d σ τ limits f.End (Some (told.Batch found pairs)) b p r m = absurd b
-went before after c d σ τ limits f.End (Some told.End) b p r m = (ap (stage_of after.progress) m.0, m.1)
+went before after c d σ τ limits f.End (Some report.Schema) b p r m = absurd b
+went before after c d σ τ limits f.End (Some (report.Batch found pairs)) b p r m = absurd b
+went before after c d σ τ limits f.End (Some report.End) b p r m = (ap (stage_of after.progress) m.0, m.1)
 went before after c d σ τ limits (f.Message meta g body) None b p r m =
     (ap (stage_of after.progress) (m.0 ∙ r) ∙ ap (λ q. stage_of q phase.Reading) p, m.1)
-went before after c d σ τ limits (f.Message meta g body) (Some told.Schema) b p r m =
+went before after c d σ τ limits (f.Message meta g body) (Some report.Schema) b p r m =
     (ap (stage_of after.progress) (m.0 ∙ r) ∙ ap (λ q. stage_of q phase.Reading) p, m.1)
-went before after c d σ τ limits (f.Message meta g body) (Some (told.Batch found pairs)) b p r m =
+went before after c d σ τ limits (f.Message meta g body) (Some (report.Batch found pairs)) b p r m =
     (ap (stage_of after.progress) (m.0 ∙ r) ∙ ap (λ q. stage_of q phase.Reading) p, m.1)
-went before after c d σ τ limits (f.Message meta g body) (Some told.End) b p r m = absurd b
+went before after c d σ τ limits (f.Message meta g body) (Some report.End) b p r m = absurd b
 
 -- from what was kept, with what is in force and counted as it was
 module _ (old new : Decoding) (fits : old.messages ≤ 2 ^ 64 - 1) where
@@ -96,24 +96,25 @@ module _ (old new : Decoding) (fits : old.messages ≤ 2 ^ 64 - 1) where
 
   one_told : (x : List ℕ) (e : Event) → IsMessage old.limits old.state x (e ∷ []) new.state
       → new.stage ≡ taking [] → new.messages ≡ count_up old.messages 1 → ReportsOneEvent old new x e
-  one_told x e told stage count = record {
+  one_told x e report stage count = record {
     last = record {
       silent = [];
       message = x;
       joined = refl;
       between = old.state;
       run = done;
-      told = told;
+      report = report;
     };
     counted = count;
     stage = stage;
   }
 
   -- a frame that is taken tells its event
-  pub tells : (x : List ℕ) (e : Told) → Brought old.limits old.state new.state x (Some e) → Went old new (Some e) → ReportsEvent old new x e
-  tells x told.Schema b m = (b.0, one_told x (schema b.0) b.1 m.0 m.1)
-  tells x (told.Batch found pairs) b m = one_told x (batch (batch_rows (found, pairs))) b m.0 m.1
-  tells x told.End b m = (subst (λ z. Reaches old new x [] z) b.0 (still x b.1 m.1), b.2, m.0)
+  pub tells : (x : List ℕ) (e : ReturnedEvent) → Brought old.limits old.state new.state x (Some e) → Went old new (Some e)
+      → ReportsEvent old new x e
+  tells x report.Schema b m = (b.0, one_told x (schema b.0) b.1 m.0 m.1)
+  tells x (report.Batch found pairs) b m = one_told x (batch (batch_rows (found, pairs))) b m.0 m.1
+  tells x report.End b m = (subst (λ z. Reaches old new x [] z) b.0 (still x b.1 m.1), b.2, m.0)
 
   -- or tells nothing
   pub silent : (x : List ℕ) → Brought old.limits old.state new.state x None → Went old new None → Reaches old new x [] []
@@ -171,7 +172,8 @@ module _ (before after : Framing) (c d : StreamState) (sound : IsSound before c)
   stage_is : (decoding_of before c).stage ≡ taking kept
   stage_is = ap (stage_of before.progress) reading ∙ ap (λ p. stage_of p phase.Reading) takes
 
-  at_stage : (piece : List ℕ) (r : Result (ℕ × Option Told) Fault) → FeedsOn (decoding_of before c) kept piece new r → Feeds old piece new r
+  at_stage : (piece : List ℕ) (r : Result (ℕ × Option ReturnedEvent) Fault) → FeedsOn (decoding_of before c) kept piece new r
+      → Feeds old piece new r
   at_stage piece r h =
       subst (λ o. Feeds o piece new r) seen (subst (λ s. FeedsAt (decoding_of before c) s piece new r) (sym stage_is) h)
 
@@ -219,14 +221,15 @@ module _ (before after : Framing) (c d : StreamState) (sound : IsSound before c)
       (λ out. fed_memory piece (memory (sym is ∙ out))))
 
   -- a frame that is taken tells its event
-  pub feeds_event : (n : ℕ) (piece : List ℕ) (found : Option Framed) (frame : Framed) (r : Option Told) (e : Told) → r ≡ Some e
+  pub feeds_event : (n : ℕ) (piece : List ℕ) (found : Option Framed) (frame : Framed) (r : Option ReturnedEvent) (e : ReturnedEvent) → r
+      ≡ Some e
       → found ≡ Some frame
       → FramesFeed piece (Ok (n, found)) → Brings c.limits (state_of c.scope) frame (state_of d.scope) (Ok r) → Moves c d (Ok r)
       → Feeds old piece new (Ok (n, Some e))
-  feeds_event n piece found frame r e told is h brings moves =
+  feeds_event n piece found frame r e report is h brings moves =
       let g = fed piece (Ok (n, found)) (Ok (n, Some frame)) (ap (λ f. Ok (n, f)) is) h in
-      let b = subst (λ q. Brings c.limits (state_of c.scope) frame (state_of d.scope) (Ok q)) told brings in
-      let m = subst (λ q. Moves c d (Ok q)) told moves in
+      let b = subst (λ q. Brings c.limits (state_of c.scope) frame (state_of d.scope) (Ok q)) report brings in
+      let m = subst (λ q. Moves c d (Ok q)) report moves in
       at_stage piece (Ok (n, Some e)) (
         g.0,
         tells (decoding_of before c) new fits (kept ++ take n piece) e
@@ -235,21 +238,21 @@ module _ (before after : Framing) (c d : StreamState) (sound : IsSound before c)
       )
 
   -- or tells nothing
-  pub feeds_silent : (n : ℕ) (piece : List ℕ) (found : Option Framed) (frame : Framed) (r : Option Told) → r ≡ None
+  pub feeds_silent : (n : ℕ) (piece : List ℕ) (found : Option Framed) (frame : Framed) (r : Option ReturnedEvent) → r ≡ None
       → found ≡ Some frame
       → FramesFeed piece (Ok (n, found)) → Brings c.limits (state_of c.scope) frame (state_of d.scope) (Ok r) → Moves c d (Ok r)
       → FeedsSilent old piece n new
-  feeds_silent n piece found frame r told is h brings moves =
+  feeds_silent n piece found frame r report is h brings moves =
       let g = fed piece (Ok (n, found)) (Ok (n, Some frame)) (ap (λ f. Ok (n, f)) is) h in
-      let b = subst (λ q. Brings c.limits (state_of c.scope) frame (state_of d.scope) (Ok q)) told brings in
-      let m = subst (λ q. Moves c d (Ok q)) told moves in
+      let b = subst (λ q. Brings c.limits (state_of c.scope) frame (state_of d.scope) (Ok q)) report brings in
+      let m = subst (λ q. Moves c d (Ok q)) report moves in
       let x = kept ++ take n piece in
       let one = brought c.limits (state_of c.scope) (state_of d.scope) x frame None g.2 b in
       let on = went before after c d (state_of c.scope) (state_of d.scope) c.limits frame None b g.1 reading m in
       subst (λ o. FeedsSilent o piece n new) seen (record {
         kept = kept;
         stage = stage_is;
-        some = omega (arith, one.frame.begun);
+        some = omega (arith, one.frame.prefix);
         within = g.0;
         reaches = silent (decoding_of before c) new fits x one on;
         between = on.0;
@@ -288,7 +291,7 @@ module _ (before after : Framing) (c d : StreamState) (sound : IsSound before c)
         (subst (λ l. pulled.TakesFromSource l from to (frames.taking kept) after.progress count r) sound.same_limits
         (subst (λ p. pulled.TakesFromSource before.limits from to p after.progress count r) takes t))
 
-    drawn : (a : Result (Option Told) Fault) (came : List ℕ) → length came ≡ count → Consumes from to came
+    drawn : (a : Result (Option ReturnedEvent) Fault) (came : List ℕ) → length came ≡ count → Consumes from to came
         → IsFew c.limits (taking kept) came → EndsAt (taking kept) came to a → Gives (decoding_of before c) (taking kept) came new a
         → Draws from to old new count a
     drawn a came counted bytes few at_end gives = subst (λ o. Draws from to o new count a) seen (record {
@@ -329,7 +332,7 @@ module _ (before after : Framing) (c d : StreamState) (sound : IsSound before c)
         )
 
     -- a frame that is taken tells its event, or nothing
-    pub draws_frame : (frame : Framed) (found : Option Told) → r ≡ Ok (Some frame)
+    pub draws_frame : (frame : Framed) (found : Option ReturnedEvent) → r ≡ Ok (Some frame)
         → Brings c.limits (state_of c.scope) frame (state_of d.scope) (Ok found)
         → Moves c d (Ok found) → Draws from to old new count (Ok found)
     draws_frame frame None is b m =

@@ -30,7 +30,7 @@ use Rattle.ipc_dict_read.proofs.Leaves.{columns_alone}
 use Rattle.ipc_dict_read.proofs.Named.{NamesOther, names_other, none_named, some_entry}
 use Rattle.ipc_dict_read.proofs.ValuesColumns as law
 use Rattle.ipc_stream_read.specs.Alone.{are_alone, is_alone}
-use Rattle.ipc_stream_read.specs.Reasons.{NamesNone}
+use Rattle.ipc_stream_read.specs.Reasons.{IsUnknownDictionary}
 use Rattle.ipc_stream_read.specs.Scopes.{dictionaries_of, set_by}
 use Rattle.ipc_stream_read.specs.Stream.{DictionaryInForce}
 
@@ -46,11 +46,12 @@ each_among id [] h = tt
 each_among id (x ∷ xs) h = (h x (inl refl), each_among id xs (λ e among. h e (inr among)))
 
 -- a dictionary without a column is named by no field
-pub no_column : (s : Schema) (id : ℤ) → columns_for (dictionary_columns s.fields) id ≡ None → NamesNone id s
+pub no_column : (s : Schema) (id : ℤ) → columns_for (dictionary_columns s.fields) id ≡ None → IsUnknownDictionary id s
 no_column s id none = record { none = λ e among. all_among id (entries s.fields) (names_other s.fields id none) e among }
 
 -- one that no field names has no column
-pub names_none : (s : Schema) (id : ℤ) (columns : List Field) → NamesNone id s → columns_for (dictionary_columns s.fields) id ≡ Some columns
+pub names_none : (s : Schema) (id : ℤ) (columns : List Field) → IsUnknownDictionary id s → columns_for (dictionary_columns s.fields) id
+    ≡ Some columns
     → ⊥
 names_none s id columns h found =
     let bad : Some columns ≡ None = sym found ∙ none_named s.fields id (each_among id (entries s.fields) (λ e among. h.none e among)) in

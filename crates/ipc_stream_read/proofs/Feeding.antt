@@ -8,8 +8,8 @@ use Rattle.ipc_model.specs.Answers.{UnlessOutOfMemory}
 use Rattle.ipc_model.specs.declared.fault.Fault.{Fault}
 use Rattle.ipc_model.specs.declared.limits.Limits.{Limits}
 use Rattle.ipc_frame.specs.Frames.{end_of_stream, IsSized, Pending}
-use Rattle.ipc_stream_read.specs.declared.event.Event.{Event as Told}
-use Rattle.ipc_stream_read.specs.declared.event.Event.TheVariants as told
+use Rattle.ipc_stream_read.specs.declared.event.Event.{Event as ReturnedEvent}
+use Rattle.ipc_stream_read.specs.declared.event.Event.TheVariants as report
 use Rattle.ipc_stream_read.specs.declared.feed_progress.FeedProgress.{FeedProgress}
 use Rattle.ipc_stream_read.specs.declared.feed_progress.FeedProgress.TheVariants as fed
 use Rattle.ipc_stream_read.specs.Counts.{messages_in}
@@ -53,10 +53,10 @@ module _ (a b c : Decoding) (x z w : List ℕ) (same : b.limits ≡ a.limits) (p
       (last_after a.state b.state c.state p.reached.whole (z ++ w) e p.reached.run behind.0, joined) in
       record { last = all.0; counted = omega (arith, p.counted, q.counted, behind.1, all.1); stage = q.stage }
 
-  pub tells_then : (e : Told) → ReportsEvent b c (z ++ w) e → ReportsEvent a c (x ++ w) e
-  tells_then told.Schema h = (h.0, one_then (schema h.0) h.1)
-  tells_then (told.Batch found pairs) h = one_then (batch (batch_rows (found, pairs))) h
-  tells_then told.End h = (reaches_then end_of_stream [] h.0, h.1, h.2)
+  pub tells_then : (e : ReturnedEvent) → ReportsEvent b c (z ++ w) e → ReportsEvent a c (x ++ w) e
+  tells_then report.Schema h = (h.0, one_then (schema h.0) h.1)
+  tells_then (report.Batch found pairs) h = one_then (batch (batch_rows (found, pairs))) h
+  tells_then report.End h = (reaches_then end_of_stream [] h.0, h.1, h.2)
 
   pub waits_then : Waits b c (z ++ w) → Waits a c (x ++ w)
   waits_then h = (h.0, reaches_then h.0 [] h.1, h.2, (h.3.0, subst (λ l. Pending l h.0 h.3.0) same h.3.1))
@@ -82,9 +82,6 @@ pub record Feeding (old : Decoding) (piece : List ℕ) (taken : ℕ) (now : Deco
   pub so_far : ((taken ≡ 0) × (now ≡ old))
       ⊎ ((z : List ℕ) × (old.stage ≡ taking z) × Reaches old now (z ++ take taken piece) [] [] × (now.stage ≡ taking []))
 
-pub feeding_none : (d : Decoding) (piece : List ℕ) → Feeding d piece 0 d
-feeding_none d piece = record { within = omega arith; same_limits = refl; so_far = inl (refl, refl) }
-
 -- what is behind the bytes that were taken, with those before it
 cut_bytes : (z piece : List ℕ) (k n : ℕ) → (z ++ take k piece) ++ take n (drop k piece) ≡ z ++ take (k + n) piece
 cut_bytes z piece k n = append_assoc z (take k piece) (take n (drop k piece)) ∙ ap (λ y. z ++ y) (sym (take-add k n piece))
@@ -93,20 +90,20 @@ pub all_bytes : (z piece : List ℕ) (k : ℕ) → (z ++ take k piece) ++ drop k
 all_bytes z piece k = append_assoc z (take k piece) (drop k piece) ∙ ap (λ y. z ++ y) (take-append-drop k piece)
 
 -- what is answered of the rest of a piece, as an answer of the whole
-abbrev Behind : ℕ → Result (ℕ × Option Told) Fault → Result (ℕ × Option Told) Fault
+abbrev Behind : ℕ → Result (ℕ × Option ReturnedEvent) Fault → Result (ℕ × Option ReturnedEvent) Fault
 Behind k (Ok (n, found)) = Ok (k + n, found)
 Behind k (Err fault) = Err fault
 
 module _ (old now new : Decoding) (piece : List ℕ) (k : ℕ) (f : Feeding old piece k now) where
   module _ (z : List ℕ) (stage : old.stage ≡ taking z) (p : Reaches old now (z ++ take k piece) [] []) (between : now.stage ≡ taking [])
     where
-      feeds_now : (r : Result (ℕ × Option Told) Fault) → Feeds now (drop k piece) new r → FeedsOn now [] (drop k piece) new r
+      feeds_now : (r : Result (ℕ × Option ReturnedEvent) Fault) → Feeds now (drop k piece) new r → FeedsOn now [] (drop k piece) new r
       feeds_now r h = subst (λ s. FeedsAt now s (drop k piece) new r) between h
 
-      feeds_old : (r : Result (ℕ × Option Told) Fault) → FeedsOn old z piece new r → Feeds old piece new r
+      feeds_old : (r : Result (ℕ × Option ReturnedEvent) Fault) → FeedsOn old z piece new r → Feeds old piece new r
       feeds_old r h = subst (λ s. FeedsAt old s piece new r) (sym stage) h
 
-      on_then : (r : Result (ℕ × Option Told) Fault) → FeedsOn now [] (drop k piece) new r → FeedsOn old z piece new (Behind k r)
+      on_then : (r : Result (ℕ × Option ReturnedEvent) Fault) → FeedsOn now [] (drop k piece) new r → FeedsOn old z piece new (Behind k r)
       on_then (Ok (n, None)) h = (
         omega (arith, h.0, length-drop k piece, f.within),
         subst (Waits old new) (all_bytes z piece k) (waits_then old now new (z ++ take k piece) [] (drop k piece) f.same_limits p h.1),
@@ -126,15 +123,15 @@ module _ (old now new : Decoding) (piece : List ℕ) (k : ℕ) (f : Feeding old 
         ),
       )
 
-      feeds_then : (r : Result (ℕ × Option Told) Fault) → Feeds now (drop k piece) new r → Feeds old piece new (Behind k r)
+      feeds_then : (r : Result (ℕ × Option ReturnedEvent) Fault) → Feeds now (drop k piece) new r → Feeds old piece new (Behind k r)
       feeds_then r h = feeds_old (Behind k r) (on_then r (feeds_now r h))
 
-  first_piece : (r : Result (ℕ × Option Told) Fault) → k ≡ 0 → Behind k r ≡ r
+  first_piece : (r : Result (ℕ × Option ReturnedEvent) Fault) → k ≡ 0 → Behind k r ≡ r
   first_piece (Ok (n, found)) none = ap (λ m. Ok (m, found)) (omega (arith, none))
   first_piece (Err e) none = refl
 
   -- what is answered of the rest is answered of the whole
-  pub fed_then : (r : Result (ℕ × Option Told) Fault) → Feeds now (drop k piece) new r → Feeds old piece new (Behind k r)
+  pub fed_then : (r : Result (ℕ × Option ReturnedEvent) Fault) → Feeds now (drop k piece) new r → Feeds old piece new (Behind k r)
   fed_then r h = by_cases f.so_far
     where
       by_cases : ((k ≡ 0) × (now ≡ old))
@@ -148,7 +145,7 @@ module _ (old now new : Decoding) (piece : List ℕ) (k : ℕ) (f : Feeding old 
   pub fed_more : (n : ℕ) → FeedsMessage now (drop k piece) new (Ok (n, fed.More)) → Feeds old piece new (Ok (k + n, None))
   fed_more n h = fed_then (Ok (n, None)) h
 
-  pub fed_event : (n : ℕ) (e : Told) → FeedsMessage now (drop k piece) new (Ok (n, fed.WithEvent e))
+  pub fed_event : (n : ℕ) (e : ReturnedEvent) → FeedsMessage now (drop k piece) new (Ok (n, fed.WithEvent e))
       → Feeds old piece new (Ok (k + n, Some e))
   fed_event n e h = fed_then (Ok (n, Some e)) h
 

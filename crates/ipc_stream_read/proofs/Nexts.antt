@@ -9,8 +9,8 @@ use Rattle.ipc_column.specs.Contents.{Contents}
 use Rattle.ipc_frame.specs.Frames.{end_of_stream}
 use Rattle.ipc_stream_read.specs.declared.end.End.{End}
 use Rattle.ipc_stream_read.specs.declared.end.End.TheVariants.{Mark, Closed}
-use Rattle.ipc_stream_read.specs.declared.event.Event.{Event as Told}
-use Rattle.ipc_stream_read.specs.declared.event.Event.TheVariants as told
+use Rattle.ipc_stream_read.specs.declared.event.Event.{Event as ReturnedEvent}
+use Rattle.ipc_stream_read.specs.declared.event.Event.TheVariants as report
 use Rattle.ipc_stream_read.specs.declared.source_reading.NextItem.TheVariants as next
 use Rattle.ipc_stream_read.specs.Decoding.{Decoding, Stage, taking, refused, HasColumns, Reaches, schema_of}
 use Rattle.ipc_stream_read.specs.Found.{batch_rows}
@@ -96,12 +96,12 @@ module _ (old new : Option (List ℕ)) (n0 n1 : ℕ) (before after : Decoding) (
     (some : before.state ≢ None) where
   -- a batch that is pulled is next
   pub next_batch : (found : Contents) (pairs : List (List ℕ × List ℕ))
-      → Pulls old new n0 n1 before after (Ok (Some (told.Batch found pairs)))
+      → Pulls old new n0 n1 before after (Ok (Some (report.Batch found pairs)))
       → ReadsNext old new n0 n1 before after (Ok (next.Batch found pairs))
   next_batch found pairs p = record { x = p.x; takes = p.takes; same_limits = same_limits; gives = p.gives }
 
   -- the end mark that is pulled ends the stream
-  pub next_mark : Pulls old new n0 n1 before after (Ok (Some told.End)) → ReadsNext old new n0 n1 before after (Ok (next.Ended Mark))
+  pub next_mark : Pulls old new n0 n1 before after (Ok (Some report.End)) → ReadsNext old new n0 n1 before after (Ok (next.Ended Mark))
   next_mark p = record {
     x = p.x;
     takes = p.takes;
@@ -118,21 +118,21 @@ module _ (old new : Option (List ℕ)) (n0 n1 : ℕ) (before after : Decoding) (
   next_broken e p = record { x = p.x; takes = p.takes; same_limits = same_limits; gives = p.gives }
 
   -- no second schema is told
-  pub next_no_schema : Pulls old new n0 n1 before after (Ok (Some told.Schema)) → ⊥
+  pub next_no_schema : Pulls old new n0 n1 before after (Ok (Some report.Schema)) → ⊥
   next_no_schema p =
       let last = p.gives.1.last in
-      step_no_schema p.gives.0 last.told.step (run_open last.run some) refl
+      step_no_schema p.gives.0 last.report.step (run_open last.run some) refl
 
   -- a batch has a column for each field
   pub next_columns : (found : Contents) (pairs : List (List ℕ × List ℕ))
-      → Pulls old new n0 n1 before after (Ok (Some (told.Batch found pairs))) → HasColumns after.state (told.Batch found pairs)
+      → Pulls old new n0 n1 before after (Ok (Some (report.Batch found pairs))) → HasColumns after.state (report.Batch found pairs)
       → HasAllColumns before.state (next.Batch found pairs)
   next_columns found pairs p h =
       let b = batch (batch_rows (found, pairs)) in
       columns_of before.state after.state
       (run_keeps (told_run before.state after.state p.x b p.gives.last) some).of_state h
     where
-      columns_of : (σ τ : State) → schema_of τ ≡ schema_of σ → HasColumns τ (told.Batch found pairs)
+      columns_of : (σ τ : State) → schema_of τ ≡ schema_of σ → HasColumns τ (report.Batch found pairs)
           → HasAllColumns σ (next.Batch found pairs)
       columns_of None τ same h = tt
       columns_of (Some o) None same h = let bad : None ≡ Some o.schema = same in absurd (cc)
@@ -142,7 +142,7 @@ module _ (old new : Option (List ℕ)) (n0 n1 : ℕ) (before after : Decoding) (
           h ∙ ap (λ s. length s.fields) one
 
 -- what was pulled is what an equal answer says
-pub pulls_at : (old new : Option (List ℕ)) (n0 n1 : ℕ) (before after : Decoding) (r q : Result (Option Told) Fault) → r ≡ q
+pub pulls_at : (old new : Option (List ℕ)) (n0 n1 : ℕ) (before after : Decoding) (r q : Result (Option ReturnedEvent) Fault) → r ≡ q
     → Pulls old new n0 n1 before after r → Pulls old new n0 n1 before after q
 pulls_at old new n0 n1 before after r q is p = subst (Pulls old new n0 n1 before after) is p
 
@@ -151,12 +151,12 @@ pulls_at old new n0 n1 before after r q is p = subst (Pulls old new n0 n1 before
 module _ (old new : Option (List ℕ)) (n0 n1 : ℕ) (before after : Decoding) (same_limits : after.limits ≡ before.limits)
     (none : before.state ≡ None) (zero_messages : before.messages ≡ 0) where
   -- a schema that is pulled is in force
-  pub schema_read : Pulls old new n0 n1 before after (Ok (Some told.Schema)) → TakesSchema old new n0 n1 before after (Ok tt)
+  pub schema_read : Pulls old new n0 n1 before after (Ok (Some report.Schema)) → TakesSchema old new n0 n1 before after (Ok tt)
   schema_read p =
       let s = p.gives.0 in
       let h = p.gives.1 in
       let nothing = run_closed h.last.run none refl in
-      let now = step_schema s h.last.told.step nothing.1 refl in
+      let now = step_schema s h.last.report.step nothing.1 refl in
       record {
         x = p.x;
         takes = p.takes;
@@ -187,10 +187,10 @@ module _ (old new : Option (List ℕ)) (n0 n1 : ℕ) (before after : Decoding) (
   nothing_first p = nothing_open p.gives.reaches p.gives.ends.1
 
   pub batch_first : (found : Contents) (pairs : List (List ℕ × List ℕ))
-      → Pulls old new n0 n1 before after (Ok (Some (told.Batch found pairs))) → ⊥
+      → Pulls old new n0 n1 before after (Ok (Some (report.Batch found pairs))) → ⊥
   batch_first found pairs p =
       let last = p.gives.last in
-      step_no_batch (batch_rows (found, pairs)) last.told.step (run_closed last.run none refl).1 refl
+      step_no_batch (batch_rows (found, pairs)) last.report.step (run_closed last.run none refl).1 refl
 
-  pub mark_first : Pulls old new n0 n1 before after (Ok (Some told.End)) → ⊥
+  pub mark_first : Pulls old new n0 n1 before after (Ok (Some report.End)) → ⊥
   mark_first p = nothing_open p.gives.0 p.gives.1

@@ -35,7 +35,7 @@ IsStop a = (a ≡ []) ⊎ ((c : List ℕ) × (a ≡ end_of_stream ++ c))
 
 -- no message begins where a run stops
 pub frame_stop : {limits : Limits} → (x m body u a : List ℕ) (g : Head) → Frame limits x m g body → x ++ u ≡ a → IsStop a → ⊥
-frame_stop x m body u a g f e (inl none) = omega (arith, f.begun, length-append x u, ap length e, ap length none)
+frame_stop x m body u a g f e (inl none) = omega (arith, f.prefix, length-append x u, ap length e, ap length none)
 frame_stop x m body u a g f e (inr (c, is)) = no_frame_at_end x m body u c g f (e ∙ is)
 
 -- two runs of messages over the same bytes are the same bytes, tell the same events and leave the same rest

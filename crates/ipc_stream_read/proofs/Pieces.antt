@@ -11,8 +11,8 @@ use Rattle.ipc_frame.specs.Frames.{end_of_stream, Pending}
 use Rattle.ipc_frame.proofs.Decided.{pending_not_end, pending_not_frame}
 use Rattle.ipc_frame.proofs.Exact.{pending_none}
 use Rattle.ipc_frame.proofs.OneFrame.{frame_one, no_frame_at_end}
-use Rattle.ipc_stream_read.specs.declared.event.Event.{Event as Told}
-use Rattle.ipc_stream_read.specs.declared.event.Event.TheVariants as told
+use Rattle.ipc_stream_read.specs.declared.event.Event.{Event as ReturnedEvent}
+use Rattle.ipc_stream_read.specs.declared.event.Event.TheVariants as report
 use Rattle.ipc_stream_read.specs.Decoding.{Decoding, FeedsAt, FeedsOn, taking}
 use Rattle.ipc_stream_read.specs.PieceFeeds.{AnyPieces, AreReported, Call, EndsWithMark, GoesOn, HasRefusal, HasVerdict, LeavesBytes}
 use Rattle.ipc_stream_read.specs.PieceFeeds.{RefusesByVerdict}
@@ -25,7 +25,7 @@ use Rattle.ipc_stream_read.proofs.OneReading.{at_eos, one_run, step_one}
 use Rattle.ipc_stream_read.proofs.Runs.{run_then, told_reached}
 
 -- what a call does where these bytes are kept
-feeds_on : (d e : Decoding) (z piece : List ℕ) (r : Result (ℕ × Option Told) Fault) → d.stage ≡ taking z → Call d piece e r
+feeds_on : (d e : Decoding) (z piece : List ℕ) (r : Result (ℕ × Option ReturnedEvent) Fault) → d.stage ≡ taking z → Call d piece e r
     → FeedsOn d z piece e r
 feeds_on d e z piece r stage call = subst (λ s. FeedsAt d s piece e r) stage call.0
 
@@ -57,7 +57,7 @@ cut_at z piece behind n =
 -- messages that are whole, and what is told behind them
 module _ (d e : Decoding) (front behind left : List ℕ) (rest : List ℕ) (es : List Event)
     (h : Reached d.limits d.state front es e.state rest)
-    (same : e.limits ≡ d.limits) (pieces : List (List ℕ)) (told : List Told) (v : HasVerdict e rest pieces told left) where
+    (same : e.limits ≡ d.limits) (pieces : List (List ℕ)) (report : List ReturnedEvent) (v : HasVerdict e rest pieces report left) where
   all_joined : front ++ concat pieces ≡ (h.whole ++ v.x) ++ left
   all_joined =
       ap (λ y. y ++ concat pieces) h.joined
@@ -70,12 +70,13 @@ module _ (d e : Decoding) (front behind left : List ℕ) (rest : List ℕ) (es :
       (subst (λ l. Verdict l e.state v.x v.events v.out) same v.verdict)
 
 -- one more event before others leaves the same bytes
-leaves_on : (o : Out) (e : Told) (told : List Told) (left : List ℕ) → GoesOn e → LeavesBytes o told left → LeavesBytes o (e ∷ told) left
-leaves_on (out.more k) e told left on h = h
-leaves_on out.end told.Schema told left on h = h
-leaves_on out.end (told.Batch found pairs) told left on h = h
-leaves_on out.end told.End told left on h = absurd on
-leaves_on (out.refused c) e told left on h = h
+leaves_on : (o : Out) (e : ReturnedEvent) (report : List ReturnedEvent) (left : List ℕ) → GoesOn e → LeavesBytes o report left
+    → LeavesBytes o (e ∷ report) left
+leaves_on (out.more k) e report left on h = h
+leaves_on out.end report.Schema report left on h = h
+leaves_on out.end (report.Batch found pairs) report left on h = h
+leaves_on out.end report.End report left on h = absurd on
+leaves_on (out.refused c) e report left on h = h
 
 -- after each call the rest goes on
 told_pieces : ReportsVerdict
@@ -107,8 +108,8 @@ told_pieces d g z left k pieces events stage pending (kept {e = e} {piece = piec
       verdict = all_verdict d e (z ++ piece) [] left w.0 [] w.1.reached call.1 more events v;
     }
 told_pieces d g z left k pieces events stage pending
-    (goes_on {e = e} {piece = piece} {pieces = more} {events = later} n {event = told.Schema} on call rest) =
-    let f = (feeds_on d e z piece (Ok (n, Some told.Schema)) stage call).1 in
+    (goes_on {e = e} {piece = piece} {pieces = more} {events = later} n {event = report.Schema} on call rest) =
+    let f = (feeds_on d e z piece (Ok (n, Some report.Schema)) stage call).1 in
     let v = told_pieces e g [] left 4 (drop n piece ∷ more) later f.1.stage (subst (λ l. Pending l [] 4) (sym call.1) pending_none) rest in
     let h = told_reached d.state e.state (z ++ take n piece) (schema f.0) f.1.last in
     record {
@@ -118,12 +119,12 @@ told_pieces d g z left k pieces events stage pending
       events = schema f.0 ∷ v.events;
       are_told = v.are_told;
       out = v.out;
-      leaves = leaves_on v.out told.Schema later left on v.leaves;
+      leaves = leaves_on v.out report.Schema later left on v.leaves;
       verdict = all_verdict d e (z ++ take n piece) [] left [] (schema f.0 ∷ []) h call.1 (drop n piece ∷ more) later v;
     }
 told_pieces d g z left k pieces events stage pending
-    (goes_on {e = e} {piece = piece} {pieces = more} {events = later} n {event = told.Batch found pairs} on call rest) =
-    let f = (feeds_on d e z piece (Ok (n, Some (told.Batch found pairs))) stage call).1 in
+    (goes_on {e = e} {piece = piece} {pieces = more} {events = later} n {event = report.Batch found pairs} on call rest) =
+    let f = (feeds_on d e z piece (Ok (n, Some (report.Batch found pairs))) stage call).1 in
     let b = batch (batch_rows (found, pairs)) in
     let v = told_pieces e g [] left 4 (drop n piece ∷ more) later f.stage (subst (λ l. Pending l [] 4) (sym call.1) pending_none) rest in
     let h = told_reached d.state e.state (z ++ take n piece) b f.last in
@@ -134,12 +135,12 @@ told_pieces d g z left k pieces events stage pending
       events = b ∷ v.events;
       are_told = (refl, v.are_told);
       out = v.out;
-      leaves = leaves_on v.out (told.Batch found pairs) later left on v.leaves;
+      leaves = leaves_on v.out (report.Batch found pairs) later left on v.leaves;
       verdict = all_verdict d e (z ++ take n piece) [] left [] (b ∷ []) h call.1 (drop n piece ∷ more) later v;
     }
-told_pieces d g z left k pieces events stage pending (goes_on n {event = told.End} on call rest) = absurd on
+told_pieces d g z left k pieces events stage pending (goes_on n {event = report.End} on call rest) = absurd on
 told_pieces d g z left k pieces events stage pending (ended {e = e} {piece = piece} {pieces = more} n call) =
-    let f = (feeds_on d e z piece (Ok (n, Some told.End)) stage call).1 in
+    let f = (feeds_on d e z piece (Ok (n, Some report.End)) stage call).1 in
     record {
       x = z ++ take n piece;
       joined = cut_at z piece (concat more) n;
@@ -152,8 +153,9 @@ told_pieces d g z left k pieces events stage pending (ended {e = e} {piece = pie
 
 -- messages that are whole, and what is refused behind them
 module _ (d e : Decoding) (front rest : List ℕ) (es : List Event) (h : Reached d.limits d.state front es e.state rest)
-    (same : e.limits ≡ d.limits) (pieces : List (List ℕ)) (told : List Told) (fault : Fault) (v : HasRefusal e rest pieces told fault)
-    (z : List ℕ) (all : List (List ℕ)) (cut : z ++ concat all ≡ front ++ concat pieces) (tells : List Told)
+    (same : e.limits ≡ d.limits) (pieces : List (List ℕ)) (report : List ReturnedEvent) (fault : Fault)
+    (v : HasRefusal e rest pieces report fault)
+    (z : List ℕ) (all : List (List ℕ)) (cut : z ++ concat all ≡ front ++ concat pieces) (tells : List ReturnedEvent)
     (are : AreReported tells (es ++ v.events)) where
   refused_behind : HasRefusal d z all tells fault
   refused_behind =
@@ -198,23 +200,23 @@ refused_pieces d z k pieces events fault stage pending (after_none {e = e} {piec
     refused_behind d e (z ++ piece) w.0 [] w.1.reached call.1 more events fault v z (piece ∷ more)
     (sym (append_assoc z piece (concat more))) events v.are_told
 refused_pieces d z k pieces events fault stage pending
-    (after_event {e = e} {piece = piece} {pieces = more} {events = later} n {event = told.Schema} on call rest) other =
-    let f = (feeds_on d e z piece (Ok (n, Some told.Schema)) stage call).1 in
+    (after_event {e = e} {piece = piece} {pieces = more} {events = later} n {event = report.Schema} on call rest) other =
+    let f = (feeds_on d e z piece (Ok (n, Some report.Schema)) stage call).1 in
     let v = refused_pieces e [] 4 (drop n piece ∷ more) later fault f.1.stage (subst (λ l. Pending l [] 4) (sym call.1) pending_none) rest
     other in
     let h = told_reached d.state e.state (z ++ take n piece) (schema f.0) f.1.last in
     refused_behind d e (z ++ take n piece) [] (schema f.0 ∷ []) h call.1 (drop n piece ∷ more) later fault v z (piece ∷ more)
-    (cut_at z piece (concat more) n) (told.Schema ∷ later) v.are_told
+    (cut_at z piece (concat more) n) (report.Schema ∷ later) v.are_told
 refused_pieces d z k pieces events fault stage pending
-    (after_event {e = e} {piece = piece} {pieces = more} {events = later} n {event = told.Batch found pairs} on call rest) other =
-    let f = (feeds_on d e z piece (Ok (n, Some (told.Batch found pairs))) stage call).1 in
+    (after_event {e = e} {piece = piece} {pieces = more} {events = later} n {event = report.Batch found pairs} on call rest) other =
+    let f = (feeds_on d e z piece (Ok (n, Some (report.Batch found pairs))) stage call).1 in
     let b = batch (batch_rows (found, pairs)) in
     let v = refused_pieces e [] 4 (drop n piece ∷ more) later fault f.stage (subst (λ l. Pending l [] 4) (sym call.1) pending_none) rest
     other in
     let h = told_reached d.state e.state (z ++ take n piece) b f.last in
     refused_behind d e (z ++ take n piece) [] (b ∷ []) h call.1 (drop n piece ∷ more) later fault v z (piece ∷ more)
-    (cut_at z piece (concat more) n) (told.Batch found pairs ∷ later) (refl, v.are_told)
-refused_pieces d z k pieces events fault stage pending (after_event n {event = told.End} on call rest) other = absurd on
+    (cut_at z piece (concat more) n) (report.Batch found pairs ∷ later) (refl, v.are_told)
+refused_pieces d z k pieces events fault stage pending (after_event n {event = report.End} on call rest) other = absurd on
 
 -- both together
 pub any_pieces : AnyPieces
@@ -243,7 +245,8 @@ stop_pending {limits} w rest k
     stop_pending w rest k run
     (subst (λ q. Run limits q y' later' υ') (sym one.1) run') p same.same_rest
 
-module _ (d : Decoding) (x w left : List ℕ) (t : Table) (pieces : List (List ℕ)) (told : List Told) (h : HasVerdict d [] pieces told left)
+module _ (d : Decoding) (x w left : List ℕ) (t : Table) (pieces : List (List ℕ)) (report : List ReturnedEvent)
+    (h : HasVerdict d [] pieces report left)
     (empty : d.state ≡ None) (denotes : Denotes d.limits x t Mark) (joined : concat pieces ≡ x ++ w) where
   run_told : Run d.limits d.state denotes.0 (events_of t) denotes.2.0
   run_told = subst (λ σ. Run d.limits σ denotes.0 (events_of t) denotes.2.0) (sym empty) denotes.2.1
@@ -264,19 +267,20 @@ module _ (d : Decoding) (x w left : List ℕ) (t : Table) (pieces : List (List �
       (bytes ∙ ap (λ r. h.verdict.reached.whole ++ (r ++ left)) mark) in
       (sym same.events, sym (append_cancel_left end_of_stream w left same.rest))
 
-  by_out : (o : Out) → h.out ≡ o → (h.events ≡ events_of t) × (left ≡ w) × EndsWithMark told
+  by_out : (o : Out) → h.out ≡ o → (h.events ≡ events_of t) × (left ≡ w) × EndsWithMark report
   by_out (out.more k) is =
-      absurd (undecided k (subst (λ o. LeavesBytes o told left) is h.leaves) (subst (λ o. Decides d.limits h.verdict.state h.verdict.rest o)
+      absurd (undecided k (subst (λ o. LeavesBytes o report left) is h.leaves)
+      (subst (λ o. Decides d.limits h.verdict.state h.verdict.rest o)
       is
       h.verdict.decides))
   by_out out.end is =
       let all = told_mark (subst (λ o. Decides d.limits h.verdict.state h.verdict.rest o) is h.verdict.decides).0 in
-      (all.0, all.1, subst (λ o. LeavesBytes o told left) is h.leaves)
-  by_out (out.refused c) is = absurd (subst (λ o. LeavesBytes o told left) is h.leaves)
+      (all.0, all.1, subst (λ o. LeavesBytes o report left) is h.leaves)
+  by_out (out.refused c) is = absurd (subst (λ o. LeavesBytes o report left) is h.leaves)
 
 -- a table and its mark are told as they are
 pub table_pieces : TablePieces
-table_pieces d g x w left t pieces told empty fresh denotes joined fed =
-    let h = told_pieces d g [] left 4 pieces told fresh pending_none fed in
-    let all = by_out d x w left t pieces told h empty denotes joined h.out refl in
-    record { are_told = subst (AreReported told) all.0 h.are_told; ends = all.2; behind = all.1 }
+table_pieces d g x w left t pieces report empty fresh denotes joined fed =
+    let h = told_pieces d g [] left 4 pieces report fresh pending_none fed in
+    let all = by_out d x w left t pieces report h empty denotes joined h.out refl in
+    record { are_told = subst (AreReported report) all.0 h.are_told; ends = all.2; behind = all.1 }

@@ -16,16 +16,15 @@ use Rattle.ipc_frame.specs.Failures.{UnlessOutside}
 use Rattle.ipc_frame.proofs.Exact.{pending_none}
 use Rattle.ipc_stream_read.specs.declared.end.End.{End}
 use Rattle.ipc_stream_read.specs.declared.end.End.TheVariants.{Closed}
-use Rattle.ipc_stream_read.specs.declared.event.Event.{Event as Told}
-use Rattle.ipc_stream_read.specs.declared.event.Event.TheVariants as told
+use Rattle.ipc_stream_read.specs.declared.event.Event.{Event as ReturnedEvent}
+use Rattle.ipc_stream_read.specs.declared.event.Event.TheVariants as report
 use Rattle.ipc_stream_read.specs.Counts.{count_up}
 use Rattle.ipc_stream_read.specs.Found.{batch_rows}
 use Rattle.ipc_stream_read.specs.Decoding.{IsFew, EndsAt, Decoding, taking, over, Reaches, ReportsEvent, ReportsOneEvent, Gives, Draws}
 use Rattle.ipc_stream_read.specs.Decoding.{FailsWhile}
 use Rattle.ipc_stream_read.specs.Decoding.{ClosesAt}
-use Rattle.ipc_stream_read.specs.Failures.{CountsFault as TellsFailures}
 use Rattle.ipc_stream_read.specs.Reasons as reasons
-use Rattle.ipc_stream_read.specs.Reasons.{EndsReading, IsOutside, Wanted}
+use Rattle.ipc_stream_read.specs.Reasons.{EndsReading, IsOutside, IsUndecidedPrefix}
 use Rattle.ipc_stream_read.specs.Stream.{State, Event, schema, batch}
 use Rattle.ipc_stream_read.specs.Taken.{Takes, Pulls}
 use Rattle.ipc_stream_read.specs.Verdicts.{Decision, Reason}
@@ -43,10 +42,6 @@ takes_then a b c n m k x y t u = record {
   counted = omega (arith, t.counted, u.counted, length-append x y);
 }
 
--- a source whose count stayed so far tells what it does then
-pub tells_after : (a b c : ℕ) (e : Fault) → b ≡ a → TellsFailures b c e → TellsFailures a c e
-tells_after a b c e same t = record { failed = t.failed; stayed = λ other. t.stayed other ∙ same }
-
 -- the source failed or memory ran out, or neither
 is_outside : Fault → Bool
 is_outside Read = true
@@ -63,7 +58,7 @@ not_outside : (e g : Fault) → is_outside e ≡ false → is_outside g ≡ true
 not_outside e g h t p = let q : true ≡ false = sym t ∙ (ap is_outside (sym p) ∙ h) in cc
 
 -- why the bytes z that were kept and those that came are refused
-breaks : (limits : Limits) (σ : State) (x : List ℕ) (left : Option (List ℕ)) (e : Fault) → Wanted limits x
+breaks : (limits : Limits) (σ : State) (x : List ℕ) (left : Option (List ℕ)) (e : Fault) → IsUndecidedPrefix limits x
     → UnlessOutside e ((d : Decision) × Reason limits e d σ x) → EndsReading limits σ x left e
 unfolding is_outside
 breaks limits σ x left e wanted reason = elim (is_outside e) as (λ b. is_outside e ≡ b → EndsReading limits σ x left e) [
@@ -100,16 +95,17 @@ pulls_none source b f n d fits counts between = record {
 }
 
 module _ (old now new : Option (List ℕ)) (b0 b1 f0 f1 n0 n1 n2 : ℕ) (before decoder after : Decoding) (count : ℕ)
-    (r : Result (Option Told) Fault) (p : Pulling old now b0 b1 f0 f1 n0 n1 before decoder) (t : Draws now new decoder after count r)
+    (r : Result (Option ReturnedEvent) Fault) (p : Pulling old now b0 b1 f0 f1 n0 n1 before decoder)
+    (t : Draws now new decoder after count r)
     (counted : n2 ≡ count_up n1 count) where
   takes_now : Takes old new n0 n2 (p.x ++ t.came)
   takes_now = takes_then old now new n0 n1 n2 p.x t.came p.takes
       (record { bytes = t.bytes; counted = counted ∙ ap (count_up n1) (sym t.counted) })
 
-  gives_now : (s : Result (Option Told) Fault) → r ≡ s → Gives decoder (taking p.z) t.came after s
+  gives_now : (s : Result (Option ReturnedEvent) Fault) → r ≡ s → Gives decoder (taking p.z) t.came after s
   gives_now s is = subst (λ q. Gives decoder (taking p.z) t.came after q) is (subst (λ q. Gives decoder q t.came after r) p.kept t.gives)
 
-  wanted_now : Wanted before.limits (p.z ++ t.came)
+  wanted_now : IsUndecidedPrefix before.limits (p.z ++ t.came)
   wanted_now =
       let few = subst (λ q. IsFew decoder.limits q t.came) p.kept t.few in
       record {
@@ -121,14 +117,14 @@ module _ (old now new : Option (List ℕ)) (b0 b1 f0 f1 n0 n1 n2 : ℕ) (before 
         few = few.2;
       }
 
-  told_now : (e : Told) → ReportsEvent decoder after (p.z ++ t.came) e → ReportsEvent before after (p.x ++ t.came) e
+  told_now : (e : ReturnedEvent) → ReportsEvent decoder after (p.z ++ t.came) e → ReportsEvent before after (p.x ++ t.came) e
   told_now e h = tells_then before decoder after p.x p.z t.came p.same_limits p.reaches e h
 
   counts_fit : decoder.messages ≤ 2 ^ 64 - 1
   counts_fit = omega (arith, p.reaches.counted)
 
   -- an event that is told of what came is the next one
-  pub pulled : (e : Told) → r ≡ Ok (Some e) → Pulls old new n0 n2 before after (Ok (Some e))
+  pub pulled : (e : ReturnedEvent) → r ≡ Ok (Some e) → Pulls old new n0 n2 before after (Ok (Some e))
   pulled e is =
       let g = gives_now (Ok (Some e)) is in
       record {
@@ -182,18 +178,19 @@ module _ (old now new : Option (List ℕ)) (b0 b1 f0 f1 n0 n1 n2 : ℕ) (before 
 -- where the stream told something, bytes came
 told_bytes : (before after : Decoding) (x : List ℕ) (event : Event) → ReportsOneEvent before after x event → 0 < length x
 told_bytes before after x event h =
-    omega (arith, h.last.told.frame.begun, ap length h.last.joined, length-append h.last.silent h.last.message)
+    omega (arith, h.last.report.frame.prefix, ap length h.last.joined, length-append h.last.silent h.last.message)
 
-told_some : (before after : Decoding) (x : List ℕ) (e : Told) → ReportsEvent before after x e → 0 < length x
-told_some before after x told.Schema h = told_bytes before after x (schema h.0) h.1
-told_some before after x (told.Batch found pairs) h = told_bytes before after x (batch (batch_rows (found, pairs))) h
-told_some before after x told.End h =
+told_some : (before after : Decoding) (x : List ℕ) (e : ReturnedEvent) → ReportsEvent before after x e → 0 < length x
+told_some before after x report.Schema h = told_bytes before after x (schema h.0) h.1
+told_some before after x (report.Batch found pairs) h = told_bytes before after x (batch (batch_rows (found, pairs))) h
+told_some before after x report.End h =
     omega (arith, ap length h.0.reached.joined, length-append h.0.reached.whole end_of_stream)
 
 -- so the source has fewer left
 pub fewer_left : (old now new : Option (List ℕ)) (b0 b1 b2 f0 f1 n0 n1 n2 : ℕ) (before decoder after : Decoding) (count : ℕ)
-    (r : Result (Option Told) Fault) (p : Pulling old now b0 b1 f0 f1 n0 n1 before decoder) (t : Draws now new decoder after count r)
-    (counted : n2 ≡ count_up n1 count) (e : Told) → r ≡ Ok (Some e) → OnOk r (b2 + count ≤ b1) → b2 < b0
+    (r : Result (Option ReturnedEvent) Fault) (p : Pulling old now b0 b1 f0 f1 n0 n1 before decoder)
+    (t : Draws now new decoder after count r)
+    (counted : n2 ≡ count_up n1 count) (e : ReturnedEvent) → r ≡ Ok (Some e) → OnOk r (b2 + count ≤ b1) → b2 < b0
 unfolding pulled
 fewer_left old now new b0 b1 b2 f0 f1 n0 n1 n2 before decoder after count r p t counted e is less =
     let all = pulled old now new b0 b1 f0 f1 n0 n1 n2 before decoder after count r p t counted e is in
@@ -255,7 +252,7 @@ module _ (old now : Option (List ℕ)) (b0 b1 f0 f1 n0 n1 : ℕ) (before decoder
       }
 
 -- where no byte came, the source is at its end
-pub none_came : (now new : Option (List ℕ)) (decoder after : Decoding) (count : ℕ) (r : Result (Option Told) Fault) (z : List ℕ)
+pub none_came : (now new : Option (List ℕ)) (decoder after : Decoding) (count : ℕ) (r : Result (Option ReturnedEvent) Fault) (z : List ℕ)
     → Draws now new decoder after count r → decoder.stage ≡ taking z → r ≡ Ok None → count ≡ 0 → IsAtEnd new
 none_came now new decoder after count r z t kept is none =
     subst (λ q. EndsAt (taking z) t.came new q) is (subst (λ s. EndsAt s t.came new r) kept t.at_end)

@@ -203,23 +203,6 @@ reading_works (taking z) failures is works = works z refl
 reading_works (over end) failures is works = absurd (cc)
 reading_works refused failures is works = absurd (cc)
 
--- what leads to an event is a run that tells it
-pub leads_run : (old new : Reader) (x : List ℕ) (e : Event) → LeadsTo old new x e
-    → Run old.limits (Some (in_force_of old)) x (e ∷ []) (Some (in_force_of new))
-leads_run old new x e h = told_run (Some (in_force_of old)) (Some (in_force_of new)) x e h.last
-
--- what ends behind messages that tell nothing is read
-pub ends_reads : (old new : Reader) (x : List ℕ) (answer : Result End Fault) → EndsBehind old new x answer
-    → Reads old.limits (Some (in_force_of old)) x new.remaining [] answer
-ends_reads old new x answer h = record {
-  state = Some (in_force_of new);
-  whole = h.whole;
-  rest = h.rest;
-  joined = h.joined;
-  run = h.run;
-  ends = h.ends;
-}
-
 -- a reader is opened behind the schema's message
 pub opens : (old new : Option (List ℕ)) (f b n0 n1 : ℕ) (before after : Decoding) (limits : Limits) → n0 ≡ 0 → before.limits ≡ limits
     → TakesSchema old new n0 n1 before after (Ok tt) → Opens limits old (reader_of new f b after n1)

@@ -65,7 +65,7 @@ module _ (limits : Limits) (z b : List ℕ) (stop : IsStop (z ++ b)) where
   stop_head e r = go stop
     where
       go : IsStop (z ++ b) → ⊥
-      go (inl none) = omega (arith, (no_head_longer z b e r).begins.begun, ap length none)
+      go (inl none) = omega (arith, (no_head_longer z b e r).begins.prefix, ap length none)
       go (inr (c, is)) = no_head_not_end c e (subst (λ x. StatesNoHead limits x e) is (no_head_longer z b e r))
 
   stop_early : (e : Fault) → RefusesNow limits z e → ⊥

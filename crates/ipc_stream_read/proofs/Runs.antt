@@ -61,13 +61,13 @@ messages_then σ τ υ x y es fs r q = (then_counted σ τ υ x y es fs (message
 pub messages_none : {limits : Limits} → {σ τ : State} {x : List ℕ} {es : List Event} (r : Run limits σ x es τ) → x ≡ []
     → messages_in r ≡ 0
 messages_none done is = refl
-messages_none (more {x = x} {y = y} frame step rest) is = absurd (omega (arith, frame.begun, length-append x y, ap length is))
+messages_none (more {x = x} {y = y} frame step rest) is = absurd (omega (arith, frame.prefix, length-append x y, ap length is))
 
 -- messages that tell nothing, and behind them one that tells an event
 pub told_run : {limits : Limits} → (σ τ : State) (x : List ℕ) (e : Event) → ReportsLastEvent limits σ x e τ → Run limits σ x (e ∷ []) τ
 told_run {limits} σ τ x e t =
     subst (λ y. Run limits σ y (e ∷ []) τ) (sym t.joined)
-    (run_then σ t.between τ t.silent t.message [] (e ∷ []) t.run (run_one t.told.frame t.told.step))
+    (run_then σ t.between τ t.silent t.message [] (e ∷ []) t.run (run_one t.report.frame t.report.step))
 
 pub told_reached : {limits : Limits} → (σ τ : State) (x : List ℕ) (e : Event) → ReportsLastEvent limits σ x e τ
     → Reached limits σ x (e ∷ []) τ []
@@ -82,7 +82,7 @@ last_after σ τ υ x y e r t = record {
   joined = ap (λ z. x ++ z) t.joined ∙ sym (append_assoc x t.silent t.message);
   between = t.between;
   run = run_then σ τ t.between x t.silent [] [] r t.run;
-  told = t.told;
+  report = t.report;
 }
 
 pub messages_after : {limits : Limits} → (σ τ υ : State) (x y : List ℕ) (e : Event) (r : Run limits σ x [] τ)

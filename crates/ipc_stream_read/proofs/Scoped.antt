@@ -13,7 +13,7 @@ use Rattle.ipc_column.specs.Contents.{Contents}
 use Rattle.ipc_column.specs.DictionaryBatches.{dictionary_values}
 use Rattle.ipc_dict_read.specs.DictionariesState.{DictionariesState}
 use Rattle.ipc_dict_read.specs.InForce.{put}
-use Rattle.ipc_stream_read.specs.declared.event.Event.TheVariants as told
+use Rattle.ipc_stream_read.specs.declared.event.Event.TheVariants as report
 use Rattle.ipc_stream_read.specs.declared.scope.Scope.{Scope}
 use Rattle.ipc_stream_read.specs.StreamStates.{Brings, BringsScope, GivesValues, SetsValues}
 use Rattle.ipc_stream_read.specs.Scopes.{dictionaries_of, in_scope}
@@ -22,7 +22,7 @@ use Rattle.ipc_stream_read.proofs.Dictionaries.{kept_put}
 
 -- a frame that brings a scope tells its schema
 pub first_brings : (limits : Limits) (frame : Framed) (scope : Scope) → BringsScope frame (Ok scope)
-    → Brings limits None frame (Some (in_scope scope)) (Ok (Some told.Schema))
+    → Brings limits None frame (Some (in_scope scope)) (Ok (Some report.Schema))
 first_brings limits f.End scope b = absurd b
 first_brings limits (f.Message meta head body) scope b =
     let s = scope.schema in (

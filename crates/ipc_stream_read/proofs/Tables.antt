@@ -18,14 +18,14 @@ use Rattle.ipc_stream_read.specs.Decoding.{Decoding, Stage, schema_of, taking, o
 use Rattle.ipc_stream_read.specs.Found.{batch_rows}
 use Rattle.ipc_stream_read.specs.Stream.{State, Event, schema, batch, Run, done, initial_state}
 use Rattle.ipc_stream_read.specs.Reasons as reasons
-use Rattle.ipc_stream_read.specs.Reasons.{Reads, Wanted}
+use Rattle.ipc_stream_read.specs.Reasons.{Reads, IsUndecidedPrefix}
 use Rattle.ipc_stream_read.specs.Taken.{ReadsNext, StopsAt, TakesBatches, TakesSchema, TakesTable}
 use Rattle.ipc_stream_read.proofs.Nexts.{run_keeps, stops_reads}
 use Rattle.ipc_stream_read.proofs.Reasons.{run_open}
 use Rattle.ipc_stream_read.proofs.Runs.{run_then, reads_after, told_run}
 
 -- no bytes are no more than were wanted
-pub wanted_none : {limits : Limits} → Wanted limits []
+pub wanted_none : {limits : Limits} → IsUndecidedPrefix limits []
 wanted_none = record { front = []; behind = []; wants = 4; joined = refl; undecided = pending_none; few = omega arith }
 
 -- memory ran out behind whole messages
@@ -152,15 +152,6 @@ module _ (old now new : Option (List ℕ)) (f0 f1 n1 n2 : ℕ) (before decoder a
       })
 
 -- ---- the whole table
-
--- where no schema is read, no table is, for the same fault
-pub table_unopened : (old new : Option (List ℕ)) (n0 n1 : ℕ) (before after : Decoding) (limits : Limits) (e : Fault)
-    → before.limits ≡ limits → TakesSchema old new n0 n1 before after (Err e) → TakesTable limits old new (Err e)
-table_unopened old new n0 n1 before after limits e same t = record {
-  x = t.x;
-  bytes = t.takes.bytes;
-  gives = ([], subst (λ l. Reads l None t.x new [] (Err e)) same t.gives.0);
-}
 
 module _ (old now new : Option (List ℕ)) (n0 n1 : ℕ) (before opened : Decoding) (limits : Limits) (same : before.limits ≡ limits)
     (t : TakesSchema old now n0 n1 before opened (Ok tt)) where

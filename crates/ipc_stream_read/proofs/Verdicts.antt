@@ -65,7 +65,7 @@ falls_one : (limits : Limits) (z : List ℕ) (c d : Decision) → FallsAt limits
 falls_one limits z at_mark at_mark a b = refl
 falls_one limits z at_mark at_size a b = absurd (omega (arith, a, b))
 falls_one limits z at_mark at_metadata a (e, s, b) = absurd (omega (arith, a, b))
-falls_one limits z at_mark at_body a (m, body, g, frame) = absurd (omega (arith, a, frame.begun))
+falls_one limits z at_mark at_body a (m, body, g, frame) = absurd (omega (arith, a, frame.prefix))
 falls_one limits z at_size at_mark a b = absurd (omega (arith, a, b))
 falls_one limits z at_size at_size a b = refl
 falls_one limits z at_size at_metadata a (e, s, b) = absurd (omega (arith, a, b, s.some))
@@ -74,7 +74,7 @@ falls_one limits z at_metadata at_mark (e, s, a) b = absurd (omega (arith, a, b)
 falls_one limits z at_metadata at_size (e, s, a) b = absurd (omega (arith, a, b, s.some))
 falls_one limits z at_metadata at_metadata a b = refl
 falls_one limits z at_metadata at_body (e, s, a) (m, body, g, frame) = absurd (head_whole z m body g e s frame)
-falls_one limits z at_body at_mark (m, body, g, frame) b = absurd (omega (arith, b, frame.begun))
+falls_one limits z at_body at_mark (m, body, g, frame) b = absurd (omega (arith, b, frame.prefix))
 falls_one limits z at_body at_size (m, body, g, frame) b = absurd (whole_some z m body g frame b)
 falls_one limits z at_body at_metadata (m, body, g, frame) (e, s, b) = absurd (head_whole z m body g e s frame)
 falls_one limits z at_body at_body a b = refl

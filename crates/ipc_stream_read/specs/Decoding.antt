@@ -15,8 +15,8 @@ use Rattle.ipc_frame.specs.Frames.{end_of_stream, IsSized, Pending}
 use Rattle.ipc_frame.specs.Parts.{Capacity, no_capacity}
 use Rattle.ipc_stream_read.specs.declared.end.End.{End}
 use Rattle.ipc_stream_read.specs.declared.end.End.TheVariants.{Mark, Closed}
-use Rattle.ipc_stream_read.specs.declared.event.Event.{Event as Told}
-use Rattle.ipc_stream_read.specs.declared.event.Event.TheVariants as told
+use Rattle.ipc_stream_read.specs.declared.event.Event.{Event as ReturnedEvent}
+use Rattle.ipc_stream_read.specs.declared.event.Event.TheVariants as report
 use Rattle.ipc_stream_read.specs.Counts.{count_up, messages_in}
 use Rattle.ipc_stream_read.specs.Found.{batch_rows}
 use Rattle.ipc_stream_read.specs.Stream.{State, Event, schema, batch, Run, IsMessage}
@@ -53,7 +53,7 @@ pub record ReportsLastEvent (limits : Limits) (σ : State) (x : List ℕ) (event
   pub joined : x ≡ silent ++ message
   pub between : State
   pub run : Run limits σ silent [] between
-  pub told : IsMessage limits between message (event ∷ []) τ
+  pub report : IsMessage limits between message (event ∷ []) τ
 
 -- the bytes x are such messages (`ReportsLastEvent`), and change a decoder from the old value to
 --   the new
@@ -68,11 +68,11 @@ Waits old new x = (rest : List ℕ) × Reaches old new x [] rest × (new.stage �
     × ((k : ℕ) × Pending old.limits rest k)
 
 -- the last message of the bytes x, or the end mark, reports this event, and those before it none
-abbrev pub ReportsEvent : Decoding → Decoding → List ℕ → Told → Type 0
-ReportsEvent old new x told.Schema = (s : Schema) × ReportsOneEvent old new x (schema s)
-ReportsEvent old new x (told.Batch found pairs) = ReportsOneEvent old new x
+abbrev pub ReportsEvent : Decoding → Decoding → List ℕ → ReturnedEvent → Type 0
+ReportsEvent old new x report.Schema = (s : Schema) × ReportsOneEvent old new x (schema s)
+ReportsEvent old new x (report.Batch found pairs) = ReportsOneEvent old new x
     (batch (batch_rows (found, pairs)))
-ReportsEvent old new x told.End =
+ReportsEvent old new x report.End =
     Reaches old new x [] end_of_stream × (new.state ≢ None) × (new.stage ≡ over Mark)
 
 -- the whole messages of the bytes x report no event; what follows them is refused for this fault,
@@ -84,7 +84,7 @@ RefusesAt old new x fault = (rest : List ℕ) × Reaches old new x [] rest
 
 -- the stored bytes z with a beginning of the piece end with an event, or are refused at their last
 -- byte; or the whole piece is taken
-abbrev pub FeedsOn : Decoding → List ℕ → List ℕ → Decoding → Result (ℕ × Option Told) Fault
+abbrev pub FeedsOn : Decoding → List ℕ → List ℕ → Decoding → Result (ℕ × Option ReturnedEvent) Fault
     → Type 0
 FeedsOn old z piece new (Ok (n, None)) = (n ≡ length piece) × Waits old new (z ++ piece)
 FeedsOn old z piece new (Ok (n, Some event)) =
@@ -94,20 +94,21 @@ FeedsOn old z piece new (Err fault) = (new.stage ≡ refused)
 
 -- how a piece is taken at this stage: after the end no bytes are taken, and after a refusal the
 -- result is F35
-abbrev pub FeedsAt : Decoding → Stage → List ℕ → Decoding → Result (ℕ × Option Told) Fault
+abbrev pub FeedsAt : Decoding → Stage → List ℕ → Decoding → Result (ℕ × Option ReturnedEvent) Fault
     → Type 0
 FeedsAt old (taking z) piece new r = FeedsOn old z piece new r
 FeedsAt old (over end) piece new r = (new ≡ old) × (r ≡ Ok (0, None))
 FeedsAt old refused piece new r = (new ≡ old) × (r ≡ Err Failed)
 
 -- how a call takes a piece
-abbrev pub Feeds : Decoding → List ℕ → Decoding → Result (ℕ × Option Told) Fault → Type 0
+abbrev pub Feeds : Decoding → List ℕ → Decoding → Result (ℕ × Option ReturnedEvent) Fault → Type 0
 Feeds old piece new r = FeedsAt old old.stage piece new r
 
 -- the result is what `feed` returns for the bytes that came from a source. A refusal comes at the
 -- last of them and leaves what is in force; no whole message came before it. Memory runs out only
 -- after the first eight bytes of a message
-abbrev pub Gives : Decoding → Stage → List ℕ → Decoding → Result (Option Told) Fault → Type 0
+abbrev pub Gives : Decoding → Stage → List ℕ → Decoding → Result (Option ReturnedEvent) Fault
+    → Type 0
 Gives old stage came new (Ok found) = FeedsAt old stage came new (Ok (length came, found))
 Gives old (taking z) came new (Err fault) = (new.stage ≡ refused) × (new.state ≡ old.state)
     × (new.messages ≡ old.messages)
@@ -122,14 +123,14 @@ IsFew limits stage came = came ≡ []
 
 -- a call that returns no event while messages are awaited takes no byte only if the source is at
 -- its end
-abbrev pub EndsAt : Stage → List ℕ → Option (List ℕ) → Result (Option Told) Fault → Type 0
+abbrev pub EndsAt : Stage → List ℕ → Option (List ℕ) → Result (Option ReturnedEvent) Fault → Type 0
 EndsAt (taking z) came left (Ok None) = came ≡ [] → IsAtEnd left
 EndsAt stage came left r = ⊤
 
 -- `count` bytes were taken from a source, at most the number up to the next decision, and the
 -- result is theirs
 pub record Draws (old new : Option (List ℕ)) (before after : Decoding) (count : ℕ)
-    (r : Result (Option Told) Fault) : Type 0 where
+    (r : Result (Option ReturnedEvent) Fault) : Type 0 where
   pub came : List ℕ
   pub counted : length came ≡ count
   pub bytes : Consumes old new came
@@ -139,7 +140,7 @@ pub record Draws (old new : Option (List ℕ)) (before after : Decoding) (count 
 
 -- the count of failures changes as `FailsAs` states while messages are awaited; after the end or a
 -- refusal it stays
-abbrev pub FailsWhile : Stage → ℕ → ℕ → Result (Option Told) Fault → Type 0
+abbrev pub FailsWhile : Stage → ℕ → ℕ → Result (Option ReturnedEvent) Fault → Type 0
 FailsWhile (taking z) old new r = FailsAs old new r
 FailsWhile stage old new r = new ≡ old
 
@@ -189,8 +190,8 @@ ClosesAt old (over end) new r = (new ≡ old) × (r ≡ Ok end)
 ClosesAt old refused new r = (new ≡ old) × (r ≡ Err Failed)
 
 -- a batch has a column for each field of the schema in force
-abbrev pub HasColumns : State → Told → Type 0
-HasColumns (Some o) (told.Batch found pairs) = found.columns ≡ length o.schema.fields
+abbrev pub HasColumns : State → ReturnedEvent → Type 0
+HasColumns (Some o) (report.Batch found pairs) = found.columns ≡ length o.schema.fields
 HasColumns state event = ⊤
 
 -- the schema in force, if one came

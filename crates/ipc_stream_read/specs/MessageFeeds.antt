@@ -3,7 +3,7 @@
 use Rattle.std.specs.Prelude.{◌≡◌, ℕ, ◌<◌, ◌≤◌, List, [], ◌++◌, length, take, Some, None}
 use Rattle.std.specs.Prelude.{Result, Ok, Err, ⊤}
 use Rattle.ipc_model.specs.declared.fault.Fault.{Fault}
-use Rattle.ipc_stream_read.specs.declared.event.Event.{Event as Told}
+use Rattle.ipc_stream_read.specs.declared.event.Event.{Event as ReturnedEvent}
 use Rattle.ipc_stream_read.specs.declared.feed_progress.FeedProgress.{FeedProgress}
 use Rattle.ipc_stream_read.specs.declared.feed_progress.FeedProgress.TheVariants as fed
 use Rattle.ipc_stream_read.specs.Decoding.{Decoding, Feeds, Reaches, taking}
@@ -25,7 +25,7 @@ FeedsMessage old piece new (Ok (n, fed.WithoutEvent)) = FeedsSilent old piece n 
 FeedsMessage old piece new (Err fault) = Feeds old piece new (Err fault)
 
 -- P holds for the event, if one is returned
-abbrev pub ForReported : FeedProgress → (Told → Type 0) → Type 0
+abbrev pub ForReported : FeedProgress → (ReturnedEvent → Type 0) → Type 0
 ForReported (fed.WithEvent event) P = P event
 ForReported fed.WithoutEvent P = ⊤
 ForReported fed.More P = ⊤

@@ -6,8 +6,8 @@ use Rattle.ipc_model.specs.declared.fault.Fault.{Fault}
 use Rattle.ipc_model.specs.declared.fault.Fault.TheVariants.{OutOfMemory}
 use Rattle.ipc_model.specs.declared.table.Table.{Table}
 use Rattle.ipc_frame.specs.Frames.{Pending}
-use Rattle.ipc_stream_read.specs.declared.event.Event.{Event as Told}
-use Rattle.ipc_stream_read.specs.declared.event.Event.TheVariants as told
+use Rattle.ipc_stream_read.specs.declared.event.Event.{Event as ReturnedEvent}
+use Rattle.ipc_stream_read.specs.declared.event.Event.TheVariants as report
 use Rattle.ipc_stream_read.specs.Decoding.{Decoding, Feeds, taking}
 use Rattle.ipc_stream_read.specs.Found.{batch_rows}
 use Rattle.ipc_stream_read.specs.declared.end.End.TheVariants.{Mark}
@@ -15,91 +15,97 @@ use Rattle.ipc_stream_read.specs.Stream.{Event, schema, batch, Denotes, events_o
 use Rattle.ipc_stream_read.specs.Verdicts.{Decision, Out, more, end, refused, Reason, Verdict}
 
 -- a call of `feed` with this piece and this result, which leaves the limits as they were
-abbrev pub Call : Decoding → List ℕ → Decoding → Result (ℕ × Option Told) Fault → Type 0
+abbrev pub Call : Decoding → List ℕ → Decoding → Result (ℕ × Option ReturnedEvent) Fault → Type 0
 Call old piece new r = Feeds old piece new r × (new.limits ≡ old.limits)
 
 -- the event is not the end
-abbrev pub GoesOn : Told → Type 0
-GoesOn told.End = ⊥
+abbrev pub GoesOn : ReturnedEvent → Type 0
+GoesOn report.End = ⊥
 GoesOn event = ⊤
 
 -- a decoder is fed these pieces in turn, and again what a call left of a piece, until the end mark
 -- comes or no piece is left. No call fails. The calls return these events, and these bytes are left
-pub data FeedsPieces : Decoding → List (List ℕ) → List Told → Decoding → List ℕ → Type 0 where
+pub data FeedsPieces : Decoding → List (List ℕ) → List ReturnedEvent → Decoding → List ℕ
+    → Type 0 where
   none : {d : Decoding} → FeedsPieces d [] [] d []
-  kept : {d e g : Decoding} {piece left : List ℕ} {pieces : List (List ℕ)} {events : List Told}
+  kept : {d e g : Decoding} {piece left : List ℕ} {pieces : List (List ℕ)}
+      {events : List ReturnedEvent}
       (n : ℕ) → Call d piece e (Ok (n, None)) → FeedsPieces e pieces events g left
       → FeedsPieces d (piece ∷ pieces) events g left
   goes_on : {d e g : Decoding} {piece left : List ℕ} {pieces : List (List ℕ)}
-      {events : List Told} (n : ℕ) {event : Told} → GoesOn event
+      {events : List ReturnedEvent} (n : ℕ) {event : ReturnedEvent} → GoesOn event
       → Call d piece e (Ok (n, Some event)) → FeedsPieces e (drop n piece ∷ pieces) events g left
       → FeedsPieces d (piece ∷ pieces) (event ∷ events) g left
   ended : {d e : Decoding} {piece : List ℕ} {pieces : List (List ℕ)} (n : ℕ)
-      → Call d piece e (Ok (n, Some told.End))
-      → FeedsPieces d (piece ∷ pieces) (told.End ∷ []) e (drop n piece ++ concat pieces)
+      → Call d piece e (Ok (n, Some report.End))
+      → FeedsPieces d (piece ∷ pieces) (report.End ∷ []) e (drop n piece ++ concat pieces)
 
 -- the returned events are exactly these events of the stream, in order; the end may follow them
-abbrev pub AreReported : List Told → List Event → Type 0
+abbrev pub AreReported : List ReturnedEvent → List Event → Type 0
 AreReported [] [] = ⊤
-AreReported (told.Schema ∷ told) (schema s ∷ events) = AreReported told events
-AreReported (told.Batch found pairs ∷ told) (batch b ∷ events) =
-    (b ≡ batch_rows (found, pairs)) × AreReported told events
-AreReported (told.End ∷ told) events = (told ≡ []) × (events ≡ [])
-AreReported told events = ⊥
+AreReported (report.Schema ∷ report) (schema s ∷ events) = AreReported report events
+AreReported (report.Batch found pairs ∷ report) (batch b ∷ events) =
+    (b ≡ batch_rows (found, pairs)) × AreReported report events
+AreReported (report.End ∷ report) events = (report ≡ []) × (events ≡ [])
+AreReported report events = ⊥
 
 -- the last of the returned events is the end
-abbrev pub EndsWithMark : List Told → Type 0
+abbrev pub EndsWithMark : List ReturnedEvent → Type 0
 EndsWithMark [] = ⊥
-EndsWithMark (told.End ∷ told) = told ≡ []
-EndsWithMark (told.Schema ∷ told) = EndsWithMark told
-EndsWithMark (told.Batch found pairs ∷ told) = EndsWithMark told
+EndsWithMark (report.End ∷ report) = report ≡ []
+EndsWithMark (report.Schema ∷ report) = EndsWithMark report
+EndsWithMark (report.Batch found pairs ∷ report) = EndsWithMark report
 
 -- bytes are left only after the end mark, and then the end is the last event
-abbrev pub LeavesBytes : Out → List Told → List ℕ → Type 0
-LeavesBytes (more k) told left = left ≡ []
-LeavesBytes end told left = EndsWithMark told
-LeavesBytes (refused decision) told left = ⊥
+abbrev pub LeavesBytes : Out → List ReturnedEvent → List ℕ → Type 0
+LeavesBytes (more k) report left = left ≡ []
+LeavesBytes end report left = EndsWithMark report
+LeavesBytes (refused decision) report left = ⊥
 
 -- the stored bytes z and the pieces, without the bytes that are left, have a verdict with the
 -- events that were returned
-pub record HasVerdict (d : Decoding) (z : List ℕ) (pieces : List (List ℕ)) (told : List Told)
+pub record HasVerdict (d : Decoding) (z : List ℕ) (pieces : List (List ℕ))
+    (report : List ReturnedEvent)
     (left : List ℕ) : Type 0 where
   pub x : List ℕ
   pub joined : z ++ concat pieces ≡ x ++ left
   pub events : List Event
-  pub are_told : AreReported told events
+  pub are_told : AreReported report events
   pub out : Out
-  pub leaves : LeavesBytes out told left
+  pub leaves : LeavesBytes out report left
   pub verdict : Verdict d.limits d.state x events out
 
 -- however the bytes of a stream are cut into pieces, the returned events are those of their verdict
 abbrev pub ReportsVerdict : Type 0
 ReportsVerdict = (d g : Decoding) (z left : List ℕ) (k : ℕ) (pieces : List (List ℕ))
-    (events : List Told) → d.stage ≡ taking z → Pending d.limits z k
+    (events : List ReturnedEvent) → d.stage ≡ taking z → Pending d.limits z k
     → FeedsPieces d pieces events g left → HasVerdict d z pieces events left
 
 -- a decoder is fed these pieces in turn, and again what a call left of a piece, until a call is
 -- refused for this fault. The calls before it return these events
-pub data RefusesPieces : Decoding → List (List ℕ) → List Told → Fault → Type 0 where
+pub data RefusesPieces : Decoding → List (List ℕ) → List ReturnedEvent → Fault → Type 0 where
   fails : {d : Decoding} {piece : List ℕ} {pieces : List (List ℕ)} {fault : Fault} (e : Decoding)
       → Call d piece e (Err fault) → RefusesPieces d (piece ∷ pieces) [] fault
-  after_none : {d e : Decoding} {piece : List ℕ} {pieces : List (List ℕ)} {events : List Told}
+  after_none : {d e : Decoding} {piece : List ℕ} {pieces : List (List ℕ)}
+      {events : List ReturnedEvent}
       {fault : Fault} (n : ℕ) → Call d piece e (Ok (n, None)) → RefusesPieces e pieces events fault
       → RefusesPieces d (piece ∷ pieces) events fault
-  after_event : {d e : Decoding} {piece : List ℕ} {pieces : List (List ℕ)} {events : List Told}
-      {fault : Fault} (n : ℕ) {event : Told} → GoesOn event
+  after_event : {d e : Decoding} {piece : List ℕ} {pieces : List (List ℕ)}
+      {events : List ReturnedEvent}
+      {fault : Fault} (n : ℕ) {event : ReturnedEvent} → GoesOn event
       → Call d piece e (Ok (n, Some event)) → RefusesPieces e (drop n piece ∷ pieces) events fault
       → RefusesPieces d (piece ∷ pieces) (event ∷ events) fault
 
 -- the stored bytes z and the pieces begin with bytes that are refused for this fault: their verdict
 -- has the events that were returned, and the refusal's cause is true
-pub record HasRefusal (d : Decoding) (z : List ℕ) (pieces : List (List ℕ)) (told : List Told)
+pub record HasRefusal (d : Decoding) (z : List ℕ) (pieces : List (List ℕ))
+    (report : List ReturnedEvent)
     (fault : Fault) : Type 0 where
   pub x : List ℕ
   pub behind : List ℕ
   pub joined : z ++ concat pieces ≡ x ++ behind
   pub events : List Event
-  pub are_told : AreReported told events
+  pub are_told : AreReported report events
   pub decision : Decision
   pub verdict : Verdict d.limits d.state x events (refused decision)
   pub reason : Reason d.limits fault decision verdict.state verdict.rest
@@ -108,7 +114,7 @@ pub record HasRefusal (d : Decoding) (z : List ℕ) (pieces : List (List ℕ)) (
 -- memory ran out
 abbrev pub RefusesByVerdict : Type 0
 RefusesByVerdict = (d : Decoding) (z : List ℕ) (k : ℕ) (pieces : List (List ℕ))
-    (events : List Told) (fault : Fault) → d.stage ≡ taking z → Pending d.limits z k
+    (events : List ReturnedEvent) (fault : Fault) → d.stage ≡ taking z → Pending d.limits z k
     → RefusesPieces d pieces events fault → fault ≢ OutOfMemory → HasRefusal d z pieces events fault
 
 -- the events and the refusal that are returned for pieces are those of the verdict of their bytes
@@ -116,15 +122,16 @@ abbrev pub AnyPieces : Type 0
 AnyPieces = ReportsVerdict × RefusesByVerdict
 
 -- the returned events are those of a table and its end, and the bytes after its end mark are left
-pub record IsReportedWhole (t : Table) (w : List ℕ) (told : List Told) (left : List ℕ) : Type
+pub record IsReportedWhole (t : Table) (w : List ℕ) (report : List ReturnedEvent) (left : List ℕ) :
+    Type
     0 where
-  pub are_told : AreReported told (events_of t)
-  pub ends : EndsWithMark told
+  pub are_told : AreReported report (events_of t)
+  pub ends : EndsWithMark report
   pub behind : left ≡ w
 
 -- bytes that denote a table with the end mark return its events and its end. They may be cut into
 -- any pieces, together with bytes after them, which are left
 abbrev pub TablePieces : Type 0
 TablePieces = (d g : Decoding) (x w left : List ℕ) (t : Table) (pieces : List (List ℕ))
-    (told : List Told) → d.state ≡ None → d.stage ≡ taking [] → Denotes d.limits x t Mark
-    → concat pieces ≡ x ++ w → FeedsPieces d pieces told g left → IsReportedWhole t w told left
+    (report : List ReturnedEvent) → d.state ≡ None → d.stage ≡ taking [] → Denotes d.limits x t Mark
+    → concat pieces ≡ x ++ w → FeedsPieces d pieces report g left → IsReportedWhole t w report left

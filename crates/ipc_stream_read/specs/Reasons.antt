@@ -34,7 +34,7 @@ IsNoSchema (f.Message meta head body) = ⊤
 
 -- no field of the schema, at any level, has this dictionary (Schema.fbs, table DictionaryEncoding,
 -- id)
-pub record NamesNone (id : ℤ) (s : Schema) : Type 0 where
+pub record IsUnknownDictionary (id : ℤ) (s : Schema) : Type 0 where
   pub none : (e : Entry) → IsAmong e (entries s.fields) → (d : Dictionary) → e.dictionary ≡ Some d
       → d.id ≢ id
 
@@ -49,7 +49,7 @@ pub data Refuses (limits : Limits) (σ : State) (z : List ℕ) (fault : Fault) :
       → σ ≡ Some o → Frame limits z metadata (h.Schema s) body
       → Refuses limits σ z fault
   dictionary : (o : InForce) (id : ℤ) (b : BatchHead) (metadata body : List ℕ)
-      → fault ≡ UnknownDictionary → σ ≡ Some o → NamesNone id o.schema
+      → fault ≡ UnknownDictionary → σ ≡ Some o → IsUnknownDictionary id o.schema
       → Frame limits z metadata (h.Dictionary id b) body → Refuses limits σ z fault
   no_values : (o : InForce) (id : ℤ) (b : BatchHead) (columns : List Field) (metadata body : List ℕ)
       → σ ≡ Some o → columns_for (dictionary_columns o.schema.fields) id ≡ Some columns
@@ -62,7 +62,7 @@ pub data Refuses (limits : Limits) (σ : State) (z : List ℕ) (fault : Fault) :
       → Refuses limits σ z fault
 
 -- z is an undecided beginning of a message, followed by at most the bytes up to the next decision
-pub record Wanted (limits : Limits) (z : List ℕ) : Type 0 where
+pub record IsUndecidedPrefix (limits : Limits) (z : List ℕ) : Type 0 where
   pub front : List ℕ
   pub behind : List ℕ
   pub wants : ℕ
@@ -78,7 +78,7 @@ pub data EndsReading (limits : Limits) (σ : State) (z : List ℕ) (left : Optio
   truncated : (k : ℕ) → fault ≡ Truncated → Pending limits z k → (σ ≡ None) ⊎ (z ≢ [])
       → IsAtEnd left
       → EndsReading limits σ z left fault
-  aside : IsOutside fault → Wanted limits z → EndsReading limits σ z left fault
+  aside : IsOutside fault → IsUndecidedPrefix limits z → EndsReading limits σ z left fault
 
 -- how reading ends in this state: at the end mark, at the source's end, or with a fault
 abbrev pub Ends : Limits → State → List ℕ → Option (List ℕ) → Result End Fault → Type 0

@@ -97,11 +97,6 @@ Denotes limits x t Mark = (y : List ℕ) × (x ≡ y ++ end_of_stream) × Denote
 abbrev pub OpensStream : Limits → Schema → List ℕ → Type 0
 OpensStream limits s x = Run limits None x (schema s ∷ []) (Some (initial_state s))
 
--- x is the message of a batch with these pairs and rows, if no dictionary is in force
-abbrev pub AddsBatch : Limits → Schema → BatchRows → List ℕ → Type 0
-AddsBatch limits s b x = Run limits (Some (initial_state s)) x (batch b ∷ [])
-    (Some (initial_state s))
-
 -- x is messages that report this batch, whatever dictionaries they set
 abbrev pub DenotesOneBatch : Limits → InForce → BatchRows → List ℕ → Type 0
 DenotesOneBatch limits o b x = (τ : State) × Run limits (Some o) x (batch b ∷ []) τ

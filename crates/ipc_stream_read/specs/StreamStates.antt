@@ -30,7 +30,7 @@ use Rattle.ipc_stream_read.specs.declared.scope.Scope.{Scope}
 use Rattle.ipc_stream_read.specs.Counts.{count_up}
 use Rattle.ipc_stream_read.specs.Decoding.{Decoding, Stage, taking, over, refused}
 use Rattle.ipc_stream_read.specs.Found.{batch_rows}
-use Rattle.ipc_stream_read.specs.Reasons.{IsNoSchema, NamesNone}
+use Rattle.ipc_stream_read.specs.Reasons.{IsNoSchema, IsUnknownDictionary}
 use Rattle.ipc_stream_read.specs.Scopes.{in_scope, state_of}
 use Rattle.ipc_stream_read.specs.Stream.{InForce, State, Step, initial_state, values_in, schema}
 use Rattle.ipc_stream_read.specs.Stream.{batch}
@@ -62,7 +62,8 @@ BringsScope frame (Err fault) =
 
 -- why a dictionary's message is refused
 abbrev pub RefusesValues : Limits → InForce → ℤ → BatchHead → List ℕ → Fault → Type 0
-RefusesValues limits o id b body fault = ((fault ≡ UnknownDictionary) × NamesNone id o.schema)
+RefusesValues limits o id b body fault = ((fault ≡ UnknownDictionary)
+    × IsUnknownDictionary id o.schema)
     ⊎ ((columns : List Field) × (columns_for (dictionary_columns o.schema.fields) id ≡ Some columns)
     × RefusesParts limits fault [] columns b body)
 

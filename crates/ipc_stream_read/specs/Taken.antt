@@ -10,7 +10,7 @@ use Rattle.ipc_model.specs.declared.table.BatchRows.{BatchRows}
 use Rattle.ipc_model.specs.declared.table.Table.{Table}
 use Rattle.ipc_stream_read.specs.declared.end.End.{End}
 use Rattle.ipc_stream_read.specs.declared.end.End.TheVariants.{Closed}
-use Rattle.ipc_stream_read.specs.declared.event.Event.{Event as Told}
+use Rattle.ipc_stream_read.specs.declared.event.Event.{Event as ReturnedEvent}
 use Rattle.ipc_stream_read.specs.declared.source_reading.NextItem.{NextItem}
 use Rattle.ipc_stream_read.specs.declared.source_reading.NextItem.TheVariants as next
 use Rattle.ipc_stream_read.specs.Counts.{count_up}
@@ -39,14 +39,14 @@ pub record StopsAt (old new : Decoding) (x : List ℕ) (left : Option (List ℕ)
 -- the bytes x report this event, or the source is at its end after whole messages, or reading
 -- breaks off
 abbrev pub PullAnswer : Decoding → Decoding → List ℕ → Option (List ℕ)
-    → Result (Option Told) Fault → Type 0
+    → Result (Option ReturnedEvent) Fault → Type 0
 PullAnswer old new x left (Ok (Some event)) = ReportsEvent old new x event
 PullAnswer old new x left (Ok None) = StopsAt old new x left (over Closed) (Ok Closed)
 PullAnswer old new x left (Err fault) = StopsAt old new x left refused (Err fault)
 
 -- the bytes that were taken from the source for the next event, and the result
 pub record Pulls (old new : Option (List ℕ)) (count_old count_new : ℕ) (before after : Decoding)
-    (r : Result (Option Told) Fault) : Type 0 where
+    (r : Result (Option ReturnedEvent) Fault) : Type 0 where
   pub x : List ℕ
   pub takes : Takes old new count_old count_new x
   pub gives : PullAnswer before after x new r

@@ -16,8 +16,8 @@ use ipc_meta::Head;
 use ipc_model::{Fault, Limits, Schema};
 use std::alloc::Global;
 
-// The schema that a frame brings.
-fn schema_in(frame: Frame) -> Result<Schema, Fault>
+// Returns the schema of the first frame of a stream.
+fn schema_of_frame(frame: Frame) -> Result<Schema, Fault>
     ensures { BringsSchema frame result }
 {
     match frame {
@@ -29,18 +29,18 @@ fn schema_in(frame: Frame) -> Result<Schema, Fault>
     }
 }
 
-// What the schema that a frame brings puts in force.
-fn scope_of(alloc: Global, limits: &Limits, frame: Frame) -> Result<Scope, Fault>
+// Opens the scope of the schema that the first frame brings.
+fn open_scope(alloc: Global, limits: &Limits, frame: Frame) -> Result<Scope, Fault>
     requires { IsWellFormedFrame limits.now frame }
     ensures scope { BringsScope frame result }
     ensures memory { IfErr result (λ fault. fault ≡ Fault.OutOfMemory → IsMessageFrame frame) }
     ensures limits { IfOk result (λ scope. scope.limits ≡ limits.now) }
 {
-    Scope::new(alloc, *limits, schema_in(frame)?)
+    Scope::new(alloc, *limits, schema_of_frame(frame)?)
 }
 
-// What a frame after the schema brings: an event, or none if it sets a dictionary.
-fn next_of(alloc: Global, scope: &mut Scope, frame: Frame) -> Result<Option<Event>, Fault>
+// Applies a frame after the schema. Returns its event, or none if it sets a dictionary.
+fn apply_later_frame(alloc: Global, scope: &mut Scope, frame: Frame) -> Result<Option<Event>, Fault>
     ensures next { Brings scope.old.limits (Some (in_scope scope.old)) frame
         (Some (in_scope scope.new)) result }
     ensures memory { IfErr result (λ fault. fault ≡ Fault.OutOfMemory → IsMessageFrame frame) }
@@ -64,8 +64,8 @@ fn next_of(alloc: Global, scope: &mut Scope, frame: Frame) -> Result<Option<Even
     }
 }
 
-// What a frame brings, before or after the schema.
-fn event_of(
+// Applies a frame, the first or a later one. Returns its event, or none if it sets a dictionary.
+fn apply_frame(
     alloc: Global,
     limits: &Limits,
     scope: &mut Option<Scope>,
@@ -79,9 +79,9 @@ fn event_of(
     ensures columns { IfOk result (λ found. IfSome found (HasColumns (state_of scope.new))) }
 {
     match scope {
-        Some(scope) => next_of(alloc, scope, frame),
+        Some(scope) => apply_later_frame(alloc, scope, frame),
         None => {
-            *scope = Some(scope_of(alloc, limits, frame)?);
+            *scope = Some(open_scope(alloc, limits, frame)?);
             Ok(Some(Event::Schema))
         }
     }
@@ -116,7 +116,7 @@ impl StreamState {
         ensures columns { IfOk result
             (λ found. IfSome found (HasColumns (state_of self.new.scope))) }
     {
-        match event_of(alloc, &self.limits, &mut self.scope, frame) {
+        match apply_frame(alloc, &self.limits, &mut self.scope, frame) {
             Ok(Some(Event::End)) => {
                 self.phase = StreamPhase::Ended(End::Mark);
                 Ok(Some(Event::End))

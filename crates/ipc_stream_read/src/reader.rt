@@ -126,7 +126,7 @@ impl<R: Source> StreamReader<R> {
         self.schema().fields.as_slice()
     }
 
-    // Reads on, which `next` says in more words.
+    // Reads the next batch, as `next` does.
     fn advance(&mut self) -> Result<Option<(Batch, Items<(Text, Text)>)>, Fault>
         ensures next { NextCall self.old self.new result }
         ensures columns { IfOk result

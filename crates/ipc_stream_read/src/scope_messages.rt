@@ -22,7 +22,7 @@ impl Scope {
     // where the columns of its dictionaries find no room.
     pub fn new(alloc: Global, limits: Limits, schema: Schema) -> Result<Scope, Fault>
         requires { WellFormed limits schema }
-        ensures begun { IfOk result (λ scope. in_scope scope ≡ initial_state schema) }
+        ensures begins { IfOk result (λ scope. in_scope scope ≡ initial_state schema) }
         ensures limits { IfOk result (λ scope. scope.limits ≡ limits) }
         ensures memory { IfErr result (λ fault. fault ≡ Fault.OutOfMemory) }
     {

@@ -5,7 +5,7 @@ use crate::end::End;
 pub enum StreamPhase {
     // Another message or an end comes next.
     Reading,
-    // The stream ended so.
+    // The stream has ended in this way.
     Ended(End),
     // A call was refused.
     Refused,

@@ -6,12 +6,12 @@ use Rattle.std.proofs.lemmas.List.{take-append-drop, drop-drop, length-take-le}
 use Rattle.ipc_stream_session.specs.Tables.{Moves}
 
 -- the bytes from a place on are moved up to a later place
-pub moved : (items told part : List ℕ) (at count : ℕ) → part ≡ take count (drop at items)
-    → count ≡ min (length (drop at items)) (length told)
-    → Moves (drop at items) (drop (at + count) items) told (part ++ drop count told) count
-moved items told part at count is size =
+pub moved : (items report part : List ℕ) (at count : ℕ) → part ≡ take count (drop at items)
+    → count ≡ min (length (drop at items)) (length report)
+    → Moves (drop at items) (drop (at + count) items) report (part ++ drop count report) count
+moved items report part at count is size =
     let few : count ≤ length (drop at items) = subst (λ n. n ≤ length (drop at items)) (sym size)
-    (min-le_left (length (drop at items)) (length told)) in
+    (min-le_left (length (drop at items)) (length report)) in
     record {
       moved = part;
       size = ap length is ∙ length-take-le count (drop at items) few;

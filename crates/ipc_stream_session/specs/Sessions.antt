@@ -12,7 +12,7 @@ use Rattle.ipc_model.specs.Texts.{fault_line}
 use Rattle.ipc_text_json.specs.SchemaJson.{schema_text}
 use Rattle.ipc_stream_read.specs.declared.end.End.{End}
 use Rattle.ipc_stream_read.specs.declared.event.Event.{Event}
-use Rattle.ipc_stream_read.specs.declared.event.Event.TheVariants as told
+use Rattle.ipc_stream_read.specs.declared.event.Event.TheVariants as report
 use Rattle.ipc_stream_read.specs.Decoding as d
 use Rattle.ipc_stream_read.specs.Stream.{State}
 use Rattle.ipc_stream_session.specs.declared.arrival.Arrival.{Arrival}
@@ -32,15 +32,15 @@ pub record IsNew (limits : Limits) (s : ReadSession) : Type 0 where
 -- what an event of the decoder is called
 abbrev pub arrival_of : Option Event → Arrival
 arrival_of None = arrival.Nothing
-arrival_of (Some told.Schema) = arrival.Schema
-arrival_of (Some (told.Batch batch pairs)) = arrival.Batch
-arrival_of (Some told.End) = arrival.End
+arrival_of (Some report.Schema) = arrival.Schema
+arrival_of (Some (report.Batch batch pairs)) = arrival.Batch
+arrival_of (Some report.End) = arrival.End
 
 -- the session has the batch of an event with its message's pairs, or none
 abbrev pub batch_in : Option Event → Option ReadBatch → Type 0
-batch_in (Some (told.Batch batch pairs)) (Some found) =
+batch_in (Some (report.Batch batch pairs)) (Some found) =
     (found.batch ≡ batch) × (found.pairs ≡ pairs)
-batch_in (Some (told.Batch batch pairs)) None = ⊥
+batch_in (Some (report.Batch batch pairs)) None = ⊥
 batch_in event found = found ≡ None
 
 -- the first refusal is kept, with the number of its message

@@ -286,9 +286,9 @@ error_after last (error.Refused w.Failed) = last
 error_after last e = Some e
 
 -- the status is 0, or the number of the error, which is kept
-abbrev pub IsTold : WriteSession → Result ⊤ WriteError → WriteSession → ℕ → Type 0
-IsTold s (Ok x) new status = (status ≡ 0) × (new ≡ s)
-IsTold s (Err e) new status = (status ≡ error_number e)
+abbrev pub IsStatusOf : WriteSession → Result ⊤ WriteError → WriteSession → ℕ → Type 0
+IsStatusOf s (Ok x) new status = (status ≡ 0) × (new ≡ s)
+IsStatusOf s (Err e) new status = (status ≡ error_number e)
     × (new ≡ record s { error = error_after s.error e })
 
 -- the call is made, and the status is that of its answer
@@ -297,7 +297,7 @@ pub record Reports (Call : WriteSession → WriteSession → Result ⊤ WriteErr
   pub after : WriteSession
   pub answer : Result ⊤ WriteError
   pub called : Call old after answer
-  pub told : IsTold after answer new status
+  pub report : IsStatusOf after answer new status
 
 -- the bytes that were written and not taken are the front, and then those of the stage: if the
 -- front is empty, those of the stage become it

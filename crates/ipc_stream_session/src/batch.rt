@@ -94,7 +94,7 @@ impl ReadBatch {
 
     // The slots of the column to which a path leads.
     fn slots_at(&self, path: &[u64]) -> Option<SlotView<'_>>
-        ensures found { IfSome result (LeadsToColumn self.now.batch path.now) }
+        ensures finds { IfSome result (LeadsToColumn self.now.batch path.now) }
         ensures none { IfNone result (LeadsNowhere self.now.batch path.now) }
     {
         match path.split_first() {

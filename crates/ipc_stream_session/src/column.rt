@@ -48,7 +48,7 @@ pub(crate) fn facts_of(view: &SlotView<'_>) -> ColumnFacts
 
 // The slots to which one step leads.
 fn step_down<'a>(view: &SlotView<'a>, step: u64) -> Option<SlotView<'a>>
-    ensures found { IfSome result (StepsTo view.now step) }
+    ensures finds { IfSome result (StepsTo view.now step) }
     ensures none { IfNone result (HasNoStep view.now step) }
 {
     if step == DICTIONARY_STEP {
@@ -65,7 +65,7 @@ fn step_down<'a>(view: &SlotView<'a>, step: u64) -> Option<SlotView<'a>>
 
 // The slots to which all steps lead.
 pub(crate) fn slots_below<'a>(view: SlotView<'a>, steps: &[u64]) -> Option<SlotView<'a>>
-    ensures found { IfSome result (LeadsBelow view.entry steps.now) }
+    ensures finds { IfSome result (LeadsBelow view.entry steps.now) }
     ensures none { IfNone result (StopsBelow view.entry steps.now) }
 {
     match steps.split_first() {

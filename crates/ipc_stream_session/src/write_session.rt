@@ -255,7 +255,7 @@ impl WriteSession {
 
     // Returns the status of an answer, and keeps its error unless it is W10.
     fn report(&mut self, answer: Result<(), WriteError>) -> u32
-        ensures { w.IsTold self.old answer self.new result }
+        ensures { w.IsStatusOf self.old answer self.new result }
     {
         let Err(error) = answer else {
             return 0;

@@ -18,8 +18,8 @@ use Rattle.ipc_text_csv.proofs.NullText.{other_than_null}
 stands : (d : Dialect) (kind : DataType) (text : List ℕ) (w : Value-F Value) → IsStored w → value_text d kind w ≡ Some text
     → StandsFor d kind text w
 stands d kind text (Value-F.Bytes bytes) s e =
-    let told = other_than_null d (encode_lower bytes) text e in
-    (ap decoded_hex (sym told.0) ∙ ap if_read (decode_of-encode_lower bytes s), told.1)
+    let report = other_than_null d (encode_lower bytes) text e in
+    (ap decoded_hex (sym report.0) ∙ ap if_read (decode_of-encode_lower bytes s), report.1)
 stands d kind text (Value-F.Text chars) s e = (s, e)
 stands d kind text Value-F.Null s e = e
 stands d kind text (Value-F.Bool b) s e = e

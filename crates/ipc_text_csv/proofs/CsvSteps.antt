@@ -3,7 +3,6 @@ use Rattle.std.proofs.Common.{◌≡◌, ◌≢◌, ◌∙◌, ◌<◌, ◌+◌,
 use Rattle.std.proofs.Common.{Some, None, Option, Bool, true, false, ◌||◌, if◌then◌else◌}
 use Rattle.std.specs.List.{list_any}
 use Rattle.std.proofs.Common.{Result, Ok, Err, refl, sym, ap, subst, inl, inr, append_assoc, add-one, arith}
-use Rattle.std.specs.Prelude.{IfOk, IfErr, MatchResult}
 use Rattle.std.proofs.lemmas.List.{append-nil, length-set, take-set, take_more_set}
 use Rattle.csv.specs.Records.{field_at}
 use Rattle.ipc_model.specs.declared.schema.Field.{Field, out-Field}
@@ -145,14 +144,6 @@ none_bad d i (f ∷ fs) (t ∷ ts) (v ∷ vs) column h (inr later) = none_bad d 
 none_bad d i (f ∷ fs) (t ∷ ts) [] column h b = absurd h
 none_bad d i (f ∷ fs) [] vs column h b = absurd b
 none_bad d i [] ts vs column h b = absurd b
-
--- where the texts read as a row, it is what is given unless memory runs out
-pub row_given : (d : Dialect) (number : ℕ) (fs : List Field) (ts : List (List ℕ)) (r : Result (List Value) TextFault)
-    → IfOk r (λ read. (row : List Value) → EachReadsAs d fs ts row → read ≡ row) → IfErr r (IsBadField d number fs ts) → (row : List Value)
-    → EachReadsAs d fs ts row → MatchResult r (λ read. read ≡ row) (λ fault. fault ≡ OutOfMemory)
-row_given d number fs ts (Ok read) ok bad row h = ok row h
-row_given d number fs ts (Err fault) ok (inl memory) row h = memory
-row_given d number fs ts (Err fault) ok (inr bad) row h = absurd (none_bad d 0 fs ts row bad.0 h bad.2)
 
 -- where the texts read as a row, only memory is a cause to refuse them
 pub memory_alone : (d : Dialect) (number : ℕ) (fs : List Field) (ts : List (List ℕ)) (fault : TextFault) → IsBadField d number fs ts fault

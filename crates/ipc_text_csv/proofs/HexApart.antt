@@ -75,9 +75,6 @@ pub record Begun (text front rest : List ℕ) (good : Bool) : Type 0 where
   pub so_far : good ≡ true → decoded_hex text ≡ joined (Some front) (decoded_hex rest)
   pub never : good ≡ false → decoded_hex text ≡ None
 
-pub begun_none : (text : List ℕ) → Begun text [] text true
-begun_none text = record { so_far = λ _. joined_nothing (decoded_hex text); never = λ e. absurd cc }
-
 -- the bytes of thirty-two digits and of those behind them
 apart : (first rest : List ℕ) → length first ≡ 32 → length rest % 2 ≡ 0 → decoded_hex (first ++ rest)
     ≡ joined (decoded_hex first) (decoded_hex rest)
@@ -113,19 +110,3 @@ begun_more text front now new first rest more true false begins goes even long i
       so_far = λ e. absurd cc;
       never = λ _. begun.so_far refl ∙ ap (joined (Some front)) (half ∙ ap (λ o. joined o (decoded_hex more)) (fails refl));
     }
-
--- the last digits
-pub begun_bytes : (text front rest new : List ℕ) (good are : Bool)
-    → (are ≡ true → (more : List ℕ) × (decoded_hex rest ≡ Some more) × (new ≡ front ++ more))
-    → Begun text front rest good → (good && are) ≡ true → decoded_hex text ≡ Some new
-begun_bytes text front rest new true true reads begun e =
-    let r = reads refl in
-    begun.so_far refl ∙ ap (joined (Some front)) r.1 ∙ ap Some (sym r.2)
-begun_bytes text front rest new true false reads begun e = absurd cc
-begun_bytes text front rest new false are reads begun e = absurd cc
-
-pub begun_never : (text front rest : List ℕ) (good are : Bool) → (are ≡ false → decoded_hex rest ≡ None)
-    → Begun text front rest good → (good && are) ≡ false → decoded_hex text ≡ None
-begun_never text front rest true true fails begun e = absurd cc
-begun_never text front rest true false fails begun e = begun.so_far refl ∙ ap (joined (Some front)) (fails refl)
-begun_never text front rest false are fails begun e = begun.never refl

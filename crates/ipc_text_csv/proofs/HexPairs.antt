@@ -8,7 +8,7 @@ use Rattle.std.proofs.lemmas.List.{get_or-set_other, get_or-set_same}
 use Rattle.hex.specs.Hex.{decode_of, decode_pairs, digit_or_error, hex_digit_value, pair_value, value_at}
 use Rattle.hex.specs.declared.error.FromHexError.TheVariants.{InvalidHexCharacter}
 use Rattle.hex.proofs.HexLemmas.{decode_of-even}
-use Rattle.hex.proofs.Pairs.{prepend, decode_start, decode_step, decode_err, decode_done}
+use Rattle.hex.proofs.Pairs.{prepend, decode_step, decode_err, decode_done}
 use Rattle.ipc_text_csv.specs.CsvCells.{decoded_hex, if_read}
 
 -- a number that tells the value of a digit, or that there is none
@@ -20,12 +20,12 @@ abbrev agrees : Option ℕ → ℕ → Bool
 agrees (Some v) n = (v == n) && nat_lt n 16
 agrees None n = nat_le 16 n
 
-told : (o : Option ℕ) (n : ℕ) → agrees o n ≡ true → (n < 16 → o ≡ Some n) × (16 ≤ n → o ≡ None)
-told (Some v) n h =
+report : (o : Option ℕ) (n : ℕ) → agrees o n ≡ true → (n < 16 → o ≡ Some n) × (16 ≤ n → o ≡ None)
+report (Some v) n h =
     let parts = and_parts (v == n) (nat_lt n 16) h in
     let small : n < 16 = grind (arith, nat_tests, parts.1) in
     (λ _. ap Some (eqb-true v n parts.0), λ big. absurd (omega arith))
-told None n h =
+report None n h =
     let big : 16 ≤ n = grind (arith, nat_tests) in
     (λ small. absurd (omega arith), λ _. refl)
 
@@ -38,7 +38,7 @@ value_of n l = if nat_lt n 10 then n else (if nat_lt l 6 then l + 10 else 255)
 
 value_tells : (b : ℕ) → b < 256 → Tells b (value_of ((b + 208) % 256) (letter b))
 value_tells b small =
-    let t = told (hex_digit_value b) (value_of ((b + 208) % 256) (letter b))
+    let t = report (hex_digit_value b) (value_of ((b + 208) % 256) (letter b))
     (agree_below_at (λ k. agrees (hex_digit_value k) (value_of ((k + 208) % 256) (letter k))) (λ k. true) 256 b refl small) in
     record { digit = t.0; none = t.1 }
 
@@ -77,9 +77,6 @@ tells_more text values i v inside here before k below = elim (cases_lt k i) [
 pub record Decoded (text bytes : List ℕ) (i : ℕ) (good : Bool) : Type 0 where
   pub so_far : good ≡ true → decode_pairs 0 text ≡ prepend (take i bytes) (decode_pairs (2 * i) (drop (2 * i) text))
   pub never : good ≡ false → if_read (decode_pairs 0 text) ≡ None
-
-pub decoded_none : (text bytes : List ℕ) → Decoded text bytes 0 true
-decoded_none text bytes = record { so_far = λ _. decode_start text bytes; never = λ e. absurd cc }
 
 pair_reads : (a b high low i : ℕ) → Tells a high → Tells b low → high < 16 → low < 16
     → pair_value a b i ≡ Ok (high % 16 * 16 + low % 16)

@@ -5,8 +5,7 @@ use Rattle.std.specs.List.{AllByRecursion}
 use Rattle.std.specs.Prelude.{slice_get}
 use Rattle.serde_json.specs.View.{view}
 use Rattle.serde_json.specs.declared.value.Value.{Value}
-use Rattle.ipc_text_json.specs.SchemaErrors.{IsBadPart, IsField, IsFirstBadEntry}
-use Rattle.ipc_text_json.specs.declared.schema_errors.FieldPart.{FieldPart}
+use Rattle.ipc_text_json.specs.SchemaErrors.{IsField}
 
 -- one more field
 pub one_more : (vs : List Value) (i : ℕ) (v : Value) → i < length vs → v ≡ get_or vs i v → IsField (view v)
@@ -21,8 +20,3 @@ pub at_number : (vs : List Value) (i : ℕ) (v : Value) → i < length vs → v 
 at_number [] i v less is = absurd (omega arith)
 at_number (x ∷ xs) zero v less is = ap (λ w. Some (view w)) (sym is)
 at_number (x ∷ xs) (suc i) v less is = at_number xs i v (omega arith) is
-
--- an entry that is no field, after fields
-pub first_bad_at : (vs : List Value) (i : ℕ) (v : Value) (part : FieldPart) → i < length vs → v ≡ get_or vs i v
-    → IsBadPart part (view v) → AllByRecursion IsField (take i (map view vs)) → IsFirstBadEntry (map view vs) i part
-first_bad_at vs i v part less is bad all = (view v, at_number vs i v less is, bad, all)

@@ -207,7 +207,7 @@ fn value_error(alloc: Global, value: &Value) -> Result<Option<SchemaError>, Text
 /// Errors: `OutOfMemory` only. It takes memory for the text's values and for the schema.
 pub fn schema_error(alloc: Global, text: &str) -> Result<Option<SchemaError>, TextFault>
     ensures place { IfOk result (λ found. IfSome found (IsErrorOf text.now)) }
-    ensures found { result ≡ Ok None → (s : Schema) × (limits : Limits)
+    ensures finds { result ≡ Ok None → (s : Schema) × (limits : Limits)
         × (read_text text.now ≡ Some (schema_json s)) × IsStandard limits × WellFormed limits s }
     ensures refused { IfErr result (λ fault. fault ≡ TextFault.OutOfMemory) }
 {

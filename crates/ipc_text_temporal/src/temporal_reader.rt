@@ -168,11 +168,11 @@ fn take_time_of_day(unit: TimeUnit, text: &[u8]) -> Option<(u64, &[u8])>
 }
 
 // The number, where this is its text.
-fn if_canonical(number: i64, spelled: Option<ShortText>, text: &[u8]) -> Option<i64>
-    ensures only { IfSome result (λ z. (z ≡ number) × (spelled ≡ Some text.now)) }
-    ensures all { spelled ≡ Some text.now → result ≡ Some number }
+fn if_canonical(number: i64, canonical: Option<ShortText>, text: &[u8]) -> Option<i64>
+    ensures only { IfSome result (λ z. (z ≡ number) × (canonical ≡ Some text.now)) }
+    ensures all { canonical ≡ Some text.now → result ≡ Some number }
 {
-    if spelled?.as_str().as_bytes() == text {
+    if canonical?.as_str().as_bytes() == text {
         Some(number)
     } else {
         None

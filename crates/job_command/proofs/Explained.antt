@@ -13,13 +13,13 @@ pub field_explained : (number place line : ℕ) (columns : List Field) (texts : 
     → slice_get columns place ≡ Some f → field_at texts place ≡ Some text
     → (shown : List ℕ) × IsExcerpt text shown × (out ≡ bad_field line shown (middle_words number) f)
     → ExplainsRecord (BadField number place) columns texts out
-field_explained number place line columns texts f text out column field told g t e1 e2 =
+field_explained number place line columns texts f text out column field report g t e1 e2 =
     let same_column : f ≡ g = same_Some _ _ (sym column ∙ e1) in
     let same_text : text ≡ t = same_Some _ _ (sym field ∙ e2) in (
       line,
-      told.0,
-      subst (λ x. IsExcerpt x told.0) same_text told.1,
-      subst (λ x. out ≡ bad_field line told.0 (middle_words number) x) same_column told.2,
+      report.0,
+      subst (λ x. IsExcerpt x report.0) same_text report.1,
+      subst (λ x. out ≡ bad_field line report.0 (middle_words number) x) same_column report.2,
     )
 
 -- what holds of the value of a result holds of the value that `ok` returns

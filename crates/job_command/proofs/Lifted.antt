@@ -17,8 +17,9 @@ pub csv_answers : (d : Dialect) (bytes input old new : Option (List ℕ)) (s : S
     → IfErr p (StopsFor d input s size old new failures_old failures_new) → CountsSourceFailure source_old source_new p
     → CountsSinkFault failures_old failures_new p
     → AnswersCsv d bytes failures size input old new source_old source_new failures_old failures_new r
-csv_answers d bytes input old new s failures size sink_old sink_new source_old source_new (Ok x) r is works same converts stops told tells =
-    inr (s, is, works, Ok x, same, converts, told, tells)
-csv_answers d bytes input old new s failures size sink_old sink_new source_old source_new (Err e) r is works same converts stops told
+csv_answers d bytes input old new s failures size sink_old sink_new source_old source_new (Ok x) r is works same converts stops report tells
+    =
+    inr (s, is, works, Ok x, same, converts, report, tells)
+csv_answers d bytes input old new s failures size sink_old sink_new source_old source_new (Err e) r is works same converts stops report
     tells =
-    inr (s, is, works, Err e, same, stops, told, tells)
+    inr (s, is, works, Err e, same, stops, report, tells)

@@ -19,7 +19,7 @@ use Rattle.clap.specs.declared.parser.matches.ArgMatches.TheViews.{out-ArgMatche
 use Rattle.clap.proofs.WalkLemmas.{first_value-rows, one_text-rows}
 use Rattle.job_command.specs.CommandLine.{arrowstream}
 use Rattle.job_command.specs.Arguments.{Asks, AsksNoJob, HasFlag, HasNumber, HasWrongValue, IsCommand}
-use Rattle.job_command.specs.Arguments.{IsFound, IsHint, IsUsageOf, IsWrong, IsWrongFor, IsWrongFound, LacksNumber}
+use Rattle.job_command.specs.Arguments.{IsFound, IsUsageOf, IsWrong, IsWrongFor, IsWrongFound, LacksNumber}
 use Rattle.job_command.specs.declared.arguments.Invocation.{Invocation}
 use Rattle.job_command.specs.declared.arguments.Job.{Job}
 use Rattle.job_command.specs.declared.arguments.Usage.{Usage}
@@ -41,7 +41,7 @@ module _ {E : Type 0} (G : List ℕ → Result ℕ E → Type 0) (only : (u : Li
           let p = only t (Ok n) (value t e) in
           record {
             text = t;
-            found = sym (one_text-rows (found_of m) name) ∙ e;
+            text_is = sym (one_text-rows (found_of m) name) ∙ e;
             numeral = p.0.0;
             value = p.1;
             least_is = above;
@@ -52,7 +52,7 @@ module _ {E : Type 0} (G : List ℕ → Result ℕ E → Type 0) (only : (u : Li
   pub no_number : greatest < 2 ^ 64 → ((t : List ℕ) → one_text (found_of m) name ≡ Some t → ReadsOne G t None)
       → LacksNumber name least greatest (rows_of (found_of m))
   no_number fits value n h =
-      let e = value h.text (one_text-rows (found_of m) name ∙ h.found) in
+      let e = value h.text (one_text-rows (found_of m) name ∙ h.text_is) in
       let small : n < 2 ^ 64 = omega (arith, h.greatest_is, fits) in
       only h.text (Err e.0) e.1 (h.numeral, subst (λ x. x < 2 ^ 64) h.value small)
 
@@ -60,7 +60,7 @@ module _ {E : Type 0} (G : List ℕ → Result ℕ E → Type 0) (only : (u : Li
   pub other_number : (k : ℕ) → ((t : List ℕ) → one_text (found_of m) name ≡ Some t → ReadsOne G t (Some k))
       → (least ≤ k → k ≤ greatest → ⊥) → LacksNumber name least greatest (rows_of (found_of m))
   other_number k value outside n h =
-      let p = only h.text (Ok k) (value h.text (one_text-rows (found_of m) name ∙ h.found)) in
+      let p = only h.text (Ok k) (value h.text (one_text-rows (found_of m) name ∙ h.text_is)) in
       let same : n ≡ k = h.value ∙ sym p.1 in
       outside (subst (λ x. least ≤ x) same h.least_is) (subst (λ x. x ≤ greatest) same h.greatest_is)
 
@@ -87,16 +87,6 @@ usage_told words fault (usage.Help text) is among = ⊎_elim
 usage_told words fault (usage.Wrong text) is among =
     ⊎_elim (λ e. absurd (is.2 e)) (λ a. inl (fault, a, is.0, is.1, is.3)) among
 usage_told words fault usage.OutOfMemory is among = tt
-
--- the usage for a word that is no argument is one for an error of that kind
-pub hinted : (fault : ErrorKind) (why : Usage) → fault ≡ kind.UnknownArgument → IsHint why → IsUsageOf fault why
-hinted fault (usage.Help text) is hint = absurd hint
-hinted fault (usage.Wrong text) is hint = (
-  λ e. let bad : kind.UnknownArgument ≡ kind.DisplayHelp = sym is ∙ e in absurd cc,
-  λ e. let bad : kind.UnknownArgument ≡ kind.DisplayVersion = sym is ∙ e in absurd cc,
-  λ e. let bad : kind.UnknownArgument ≡ kind.OutOfMemory = sym is ∙ e in absurd cc,
-  λ e. hint,
-)
 hinted fault usage.OutOfMemory is hint = tt
 
 -- where the words are taken, a subcommand was found, and a value of it is wrong, the words ask for no job

@@ -23,7 +23,7 @@ use Rattle.job_command.specs.declared.arguments.Usage.TheVariants as usage
 -- or of its default
 pub record HasNumber (name : Text) (least greatest : ℕ) (rows : List Row) (n : ℕ) : Type 0 where
   pub text : Text
-  pub found : one_of name rows ≡ Some text
+  pub text_is : one_of name rows ≡ Some text
   pub numeral : IsNumeral 10 (without_leading_plus text)
   pub value : n ≡ digits_value 10 (without_leading_plus text)
   pub least_is : least ≤ n

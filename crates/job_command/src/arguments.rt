@@ -121,7 +121,7 @@ is not true, false or pairs of hexadecimal digits.
 ";
 
 // The message for an unexpected word. If the word is no option, it ends with how a file is read.
-fn unexpected(text: String) -> Usage
+fn unknown_argument(text: String) -> Usage
     ensures { IsHint result }
 {
     if text.as_bytes().starts_with(OPTION) {
@@ -144,7 +144,7 @@ fn usage_of(alloc: Global, error: &Error) -> Usage
     match error.kind() {
         ErrorKind::DisplayHelp | ErrorKind::DisplayVersion => Usage::Help(text),
         ErrorKind::OutOfMemory => Usage::OutOfMemory,
-        ErrorKind::UnknownArgument => unexpected(text),
+        ErrorKind::UnknownArgument => unknown_argument(text),
         _ => Usage::Wrong(text),
     }
 }
@@ -225,7 +225,7 @@ fn read_limit(alloc: Global, options: &ArgMatches<'_>) -> Result<Option<u64>, Us
     };
     match number_option(options, "limit", 0, u64::MAX) {
         Some(count) => Ok(Some(count)),
-        None => Err(wrong(alloc, "error: --limit is no number of 64 bits\n")),
+        None => Err(wrong(alloc, "error: --limit is no number below 2^64\n")),
     }
 }
 
@@ -250,7 +250,7 @@ fn read_dialect(alloc: Global, options: &ArgMatches<'_>) -> Result<CsvDialect, U
         return Err(wrong(alloc, "error: no delimiter\n"));
     };
     let Some(null) = options.get_str("null") else {
-        return Err(wrong(alloc, "error: no text of null\n"));
+        return Err(wrong(alloc, "error: --null has no value\n"));
     };
     let Some(byte) = only_byte(delimiter) else {
         return Err(wrong(alloc, "error: --delimiter takes one ASCII character\n"));
@@ -304,7 +304,7 @@ fn read_from_csv(alloc: Global, options: &ArgMatches<'_>) -> Result<Job, Usage>
         return Err(wrong(alloc, "error: no schema\n"));
     };
     let Some(batch) = number_option(options, "batch", 1, MAX_ROWS) else {
-        return Err(wrong(alloc, "error: a batch of no size\n"));
+        return Err(wrong(alloc, "error: --batch is from 1 to 2147483647\n"));
     };
     Ok(Job::FromCsv {
         schema: String::from_str(alloc, path)?,
@@ -377,7 +377,7 @@ fn invocation_of(alloc: Global, words: &ArgMatches<'_>) -> Result<Invocation, Us
     }
 }
 
-// What words ask for that the command line outlives.
+// Parses the words of a command line, which outlive the command of `clap`.
 fn read<'a>(alloc: Global, words: &'a [String]) -> Result<Invocation, Usage>
     ensures asked { IfOk result (Asks (map string_bytes words.entry.now)) }
     ensures refused { IfErr result (AsksNoJob (map string_bytes words.entry.now)) }

@@ -193,7 +193,12 @@ fn limit<'a>(alloc: Global) -> Arg<'a>
 }
 
 // A subcommand with this help and no options.
-fn described<'a>(alloc: Global, name: &'a str, about: &'a str, examples: &'a str) -> Command<'a>
+fn command_with_help<'a>(
+    alloc: Global,
+    name: &'a str,
+    about: &'a str,
+    examples: &'a str,
+) -> Command<'a>
     ensures { IsCommand (new_app name.entry.now) result }
 {
     let job = Command::new(alloc, name);
@@ -205,7 +210,7 @@ fn check<'a>(alloc: Global) -> Result<Command<'a>, AllocError>
     ensures { IfOk result (IsCommand line.check) }
 {
     let about = "Reads an Arrow IPC stream to its end, and prints its schema and counts";
-    let check = described(alloc, "check", about, CHECK_EXAMPLES);
+    let check = command_with_help(alloc, "check", about, CHECK_EXAMPLES);
     let help = "Print the schema alone, and read nothing after its message";
     with_stream(alloc, check.arg(flag(alloc, "schema", help))?)
 }
@@ -215,7 +220,7 @@ fn show<'a>(alloc: Global) -> Result<Command<'a>, AllocError>
     ensures { IfOk result (IsCommand line.show) }
 {
     let about = "Prints each row of an Arrow IPC stream as a JSON array on a line of its own";
-    let show = described(alloc, "show", about, SHOW_EXAMPLES);
+    let show = command_with_help(alloc, "show", about, SHOW_EXAMPLES);
     let help = "Print each row as a JSON object with the columns' names as keys";
     let show = show.arg(flag(alloc, "objects", help))?;
     let help = "Print the pairs of key and value of each batch on a line before its rows";
@@ -250,7 +255,7 @@ fn to_csv<'a>(alloc: Global) -> Result<Command<'a>, AllocError>
     ensures { IfOk result (IsCommand line.to_csv) }
 {
     let about = "Prints an Arrow IPC stream as CSV with a header";
-    let to_csv = described(alloc, "to-csv", about, TO_CSV_EXAMPLES);
+    let to_csv = command_with_help(alloc, "to-csv", about, TO_CSV_EXAMPLES);
     let to_csv = with_dialect(alloc, to_csv)?;
     with_stream(alloc, to_csv.arg(limit(alloc))?)
 }
@@ -278,7 +283,7 @@ fn from_csv<'a>(alloc: Global) -> Result<Command<'a>, AllocError>
     ensures { IfOk result (IsCommand line.from_csv) }
 {
     let about = "Converts CSV to an Arrow IPC stream";
-    let from_csv = described(alloc, "from-csv", about, FROM_CSV_EXAMPLES);
+    let from_csv = command_with_help(alloc, "from-csv", about, FROM_CSV_EXAMPLES);
     let from_csv = from_csv.arg(schema(alloc))?.arg(batch(alloc))?;
     with_dialect(alloc, from_csv)?.arg(explain(alloc))
 }
@@ -288,7 +293,10 @@ fn rewrite<'a>(alloc: Global) -> Result<Command<'a>, AllocError>
     ensures { IfOk result (IsCommand line.rewrite) }
 {
     let about = "Rewrites an Arrow IPC stream in canonical layout, batch by batch";
-    with_stream(alloc, described(alloc, "rewrite", about, REWRITE_EXAMPLES))
+    with_stream(
+        alloc,
+        command_with_help(alloc, "rewrite", about, REWRITE_EXAMPLES),
+    )
 }
 
 // The program's words without its subcommands.
@@ -296,7 +304,7 @@ fn program<'a>(alloc: Global) -> Command<'a>
     ensures { IsCommand line.program result }
 {
     let about = "Reads and writes Apache Arrow IPC streams";
-    let program = described(alloc, "arrowstream", about, EXAMPLES);
+    let program = command_with_help(alloc, "arrowstream", about, EXAMPLES);
     program.version("0.1.0").subcommand_required(true)
 }
 

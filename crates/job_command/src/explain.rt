@@ -125,7 +125,7 @@ fn column_at(columns: &[Field], place: usize) -> Option<&Field>
 /// number of the input's line. At X4 it has the beginning of the field, and the column's name and
 /// type; at X5 the numbers of fields and columns. For another fault the result is empty.
 ///
-/// `refused` is the record, as `job_from_csv::FromCsvStop::Record` returns it. The line's number is
+/// `fields` is the record, as `job_from_csv::FromCsvStop::Record` returns it. The line's number is
 /// that of its position, which no contract states.
 ///
 /// Errors: `OutOfMemory` only.
@@ -133,26 +133,26 @@ pub(crate) fn explain_record(
     alloc: Global,
     fault: &TextFault,
     schema: &Schema,
-    refused: &ByteRecord,
+    fields: &ByteRecord,
 ) -> Result<Vec<u8>, TextFault>
     ensures explains { IfOk result (λ out. ExplainsRecord fault.now schema.now.fields
-        (fields_of refused.now) out.items) }
+        (fields_of fields.now) out.items) }
 {
-    let line = match refused.position() {
+    let line = match fields.position() {
         Some(position) => position.line(),
         None => 1,
     };
     let columns = schema.fields.as_slice();
     match fault {
         TextFault::WrongFieldCount { .. } => {
-            explain_count(alloc, line, refused.len() as u64, columns.len() as u64)
+            explain_count(alloc, line, fields.len() as u64, columns.len() as u64)
         }
         TextFault::BadField {
             record: number,
             column,
         } => {
             let place = *column as usize;
-            let Some(field) = refused.get(place) else {
+            let Some(field) = fields.get(place) else {
                 return Ok(Vec::new(alloc));
             };
             let Some(column) = column_at(columns, place) else {

@@ -30,7 +30,7 @@ fn member_name(part: FieldPart) -> &'static [u8]
 }
 
 // What is expected in the place of an entry, or as the value of its member.
-fn expected(part: FieldPart) -> &'static [u8]
+fn expected_words(part: FieldPart) -> &'static [u8]
     ensures { result.now ≡ expected_words part }
 {
     match part {
@@ -76,7 +76,7 @@ fn push_entry(out: &mut Vec<u8>, entry: u64, part: FieldPart) -> Result<(), Text
     push_words(out, b"]")?;
     push_words(out, member_name(part))?;
     push_words(out, b": expected ")?;
-    push_words(out, expected(part))
+    push_words(out, expected_words(part))
 }
 
 // Appends the number and the name of a fault of the reader.

@@ -6,10 +6,10 @@ mod command_line;
 mod csv_dialect;
 mod explain;
 mod explain_schema;
-mod line;
 mod running;
 mod schema_file;
 mod stop;
+mod stop_line;
 
 pub use arguments::{Invocation, Job, Usage, read_words};
 pub use csv_dialect::CsvDialect;

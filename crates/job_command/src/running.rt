@@ -14,9 +14,9 @@ ghost use Rattle.job_command.specs.declared.stop.Stop.{Stop};
 use crate::arguments::{Invocation, Job};
 use crate::explain::explain_record;
 use crate::explain_schema::explain_schema;
-use crate::line::send_bytes;
 use crate::schema_file::read_schema;
 use crate::stop::Stop;
+use crate::stop_line::send_bytes;
 use ipc_model::{Limits, Schema};
 use ipc_stream::{Failed, Progress, Seed, Sink, Source};
 use ipc_text_csv::Dialect;
@@ -245,9 +245,9 @@ fn lines_of<S: Source>(alloc: Global, stop: &Stop, input: &Recorder<S>) -> Optio
         Stop::Rows { fault, schema } => explain_write(alloc, schema, fault).ok(),
         Stop::Record {
             fault,
-            refused,
+            fields,
             schema,
-        } => explain_record(alloc, fault, schema, refused).ok(),
+        } => explain_record(alloc, fault, schema, fields).ok(),
         Stop::SchemaText(text) => explain_schema(alloc, text.as_slice()).ok(),
         _ => None,
     }
@@ -273,7 +273,7 @@ fn explanation_of<S: Source>(
 
 // Prints the line of a job that stopped, and the lines that explain it.
 fn write_stop<E: Sink>(messages: &mut E, stop: &Stop, lines: &[u8]) -> Result<(), Failed>
-    ensures told { OnOk result (Appends (E.written messages.old) (E.written messages.new)
+    ensures prints { OnOk result (Appends (E.written messages.old) (E.written messages.new)
         (stop_text stop.now ++ 10 ∷ lines.now)) }
     ensures failures { CountsFailures (E.failures messages.old) (E.failures messages.new) result }
 {
@@ -290,7 +290,7 @@ fn report<S: Source, E: Sink>(
     messages: &mut E,
 ) -> u8
     ensures status { result ≡ exit_status outcome.now }
-    ensures told { PrintsStopLines explain (E.written messages.old) (E.written messages.new)
+    ensures prints { PrintsStopLines explain (E.written messages.old) (E.written messages.new)
         (E.failures messages.new) outcome.now }
 {
     match outcome {
@@ -322,22 +322,22 @@ fn report<S: Source, E: Sink>(
 pub fn run<P: Source, S: Source, W: Sink, N: Progress, E: Sink>(
     alloc: Global,
     seed: Seed,
-    asked: Invocation,
+    invocation: Invocation,
     schema: Option<P>,
     input: S,
     sink: W,
     progress: &mut N,
     messages: &mut E,
 ) -> (u8, S, W, Option<P>)
-    requires { HasGoodSize asked.job }
+    requires { HasGoodSize invocation.job }
     // The status is that of an answer, which says what was read, what went out and which device
     // failed. Exactly its line was printed, and with `explain` the lines that explain it; at
     // success nothing.
     ensures answers { (r : Result ⊤ Stop) × (result.0 ≡ exit_status r)
-        × Answers asked.job (file_bytes P.remaining schema) (failures_of P.failures result.3)
+        × Answers invocation.job (file_bytes P.remaining schema) (failures_of P.failures result.3)
         (S.remaining input) (S.remaining result.1) (W.written sink) (W.written result.2)
         (S.failures input) (S.failures result.1) (W.failures sink) (W.failures result.2) r
-        × PrintsStopLines asked.explain (E.written messages.old) (E.written messages.new)
+        × PrintsStopLines invocation.explain (E.written messages.old) (E.written messages.new)
         (E.failures messages.new) r }
     // Where all was done the sink holds nothing back.
     ensures handed_on { result.0 ≡ 0 → W.held_back result.2 ≡ Some [] }
@@ -352,7 +352,7 @@ pub fn run<P: Source, S: Source, W: Sink, N: Progress, E: Sink>(
         job,
         explain,
         progress: _,
-    } = asked;
+    } = invocation;
     let input = record(alloc, &job, explain, input);
     let (result, input, sink, schema) = do_job(alloc, seed, job, schema, input, sink, progress);
     let status = report(alloc, explain, &result, &input, messages);

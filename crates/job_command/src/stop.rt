@@ -5,7 +5,9 @@ ghost use Rattle.job_command.specs.Jobs.{stop_of_csv, stop_of_print, stop_of_rew
 ghost use Rattle.job_command.specs.Lines.{SendsPart, stop_text};
 ghost use Rattle.ipc_stream.specs.Failures.{CountsFailures};
 
-use crate::line::{end_line, send, send_fault, send_read_fault, send_text_fault, send_write_fault};
+use crate::stop_line::{
+    end_line, send, send_fault, send_read_fault, send_text_fault, send_write_fault,
+};
 use csv::ByteRecord;
 use ipc_model::{Fault, Schema, WriteFault};
 use ipc_stream::{Failed, Sink};
@@ -37,8 +39,8 @@ pub enum Stop {
     Record {
         /// X4 or X5.
         fault: TextFault,
-        /// The record that was refused.
-        refused: ByteRecord,
+        /// The refused record, with all its fields.
+        fields: ByteRecord,
         /// The schema.
         schema: Schema,
     },
@@ -87,9 +89,9 @@ impl Stop {
             job_from_csv::FromCsvStop::Input => Stop::Input,
             job_from_csv::FromCsvStop::Write(fault) => Stop::Rows { fault, schema },
             job_from_csv::FromCsvStop::Text(fault) => Stop::Text(fault),
-            job_from_csv::FromCsvStop::Record { fault, refused } => Stop::Record {
+            job_from_csv::FromCsvStop::Record { fault, fields } => Stop::Record {
                 fault,
-                refused,
+                fields,
                 schema,
             },
         }

@@ -54,23 +54,24 @@ dictionary_words id = codes "dictionary " ++ signed_decimal id ++ codes ": "
 -- the line for a later message than the first, by what is in force and what is kept: a record batch
 -- has the columns of the schema, and a dictionary batch the one column of its values
 abbrev pub ExplainsLater : Option StreamContext → Option Framed → Fault → List ℕ → Type 0
-ExplainsLater (Some known) (Some (f.Message meta (h.Batch head pairs) body)) fault out =
-    ExplainsBatch known.limits fault (values_in (in_force known).dictionaries)
-    known.schema.fields head body.items [] out
-ExplainsLater (Some known) (Some (f.Message meta (h.Dictionary id head) body)) fault out =
-    MatchOption (columns_for (dictionary_columns known.schema.fields) id) (out ≡ [])
-    (λ fields. ExplainsBatch known.limits fault [] fields head body.items (dictionary_words id) out)
-ExplainsLater known last fault out = out ≡ []
+ExplainsLater (Some context) (Some (f.Message meta (h.Batch head pairs) body)) fault out =
+    ExplainsBatch context.limits fault (values_in (in_force context).dictionaries)
+    context.schema.fields head body.items [] out
+ExplainsLater (Some context) (Some (f.Message meta (h.Dictionary id head) body)) fault out =
+    MatchOption (columns_for (dictionary_columns context.schema.fields) id) (out ≡ [])
+    (λ fields. ExplainsBatch context.limits fault [] fields head body.items (dictionary_words id)
+    out)
+ExplainsLater context last fault out = out ≡ []
 
 -- the lines for a refusal at the message with this number; none if nothing is kept
 abbrev pub Explains : Option MessageRecord → Fault → ℕ → List ℕ → Type 0
 Explains (Some kept) fault zero out = ExplainsFirst kept.limits kept.front.items fault out
-Explains (Some kept) fault (suc message) out = ExplainsLater kept.known kept.last fault out
+Explains (Some kept) fault (suc message) out = ExplainsLater kept.context kept.last fault out
 Explains None fault message out = out ≡ []
 
 -- the lines that explain a fault of the writer of the stream's rows, by the schema that is known;
 -- none if none is
 abbrev pub ExplainsUnwritten : Option MessageRecord → WriteFault → List ℕ → Type 0
 ExplainsUnwritten (Some kept) fault out =
-    MatchOption kept.known (out ≡ []) (λ known. ExplainsWrite known.schema.fields fault out)
+    MatchOption kept.context (out ≡ []) (λ context. ExplainsWrite context.schema.fields fault out)
 ExplainsUnwritten None fault out = out ≡ []

@@ -9,10 +9,11 @@ use Rattle.job_explain.specs.StreamContexts.{UpdatesContext}
 -- a recorder that is on keeps messages from the beginning of a stream on; one that is off keeps
 -- nothing
 abbrev pub StartsRecorder : Limits → Bool → Option MessageRecord → Type 0
-StartsRecorder limits true (Some recorded) = (recorded.limits ≡ limits)
-    × (recorded.frames.progress ≡ taking []) × (recorded.last ≡ None) × (recorded.known ≡ None)
+StartsRecorder limits true (Some message_record) = (message_record.limits ≡ limits)
+    × (message_record.frames.progress ≡ taking []) × (message_record.last ≡ None)
+    × (message_record.context ≡ None)
 StartsRecorder limits true None = ⊥
-StartsRecorder limits false recorded = recorded ≡ None
+StartsRecorder limits false message_record = message_record ≡ None
 
 -- what was kept, and is kept after a piece of the stream; nothing is kept any more after memory ran
 -- out
@@ -20,6 +21,6 @@ abbrev pub Follows : Option MessageRecord → List ℕ → Option MessageRecord 
 Follows (Some old) piece (Some new) = (new.limits ≡ old.limits)
     × Keeps old.limits old.frames.progress old.front.items piece new.frames.progress
     new.front.items new.last
-    × UpdatesContext old.limits old.known old.last new.known
+    × UpdatesContext old.limits old.context old.last new.context
 Follows (Some old) piece None = Unit {0}
 Follows None piece new = new ≡ None

@@ -13,9 +13,9 @@ use Rattle.job_explain.specs.declared.stream_context.StreamContext.{StreamContex
 
 -- what is in force, from what is stored
 abbrev pub in_force : StreamContext → InForce
-in_force known = record {
-  schema = known.schema;
-  dictionaries = dictionaries_of known.dictionaries.current;
+in_force context = record {
+  schema = context.schema;
+  dictionaries = dictionaries_of context.dictionaries.current;
 }
 
 -- the message of a dictionary with this head and body changes what is in force

@@ -112,7 +112,7 @@ pub(crate) fn first_alone<'a>(
 ) -> Result<Option<ColumnPart<'a>>, Fault>
     requires dictionaries { AreDictionaries dictionaries.now }
     requires few { length (entries fields.now) ≤ limits.now.fields }
-    ensures found { IfOk result (λ o. MatchOption o
+    ensures finds { IfOk result (λ o. MatchOption o
         (NoneAlone limits.now fault.now (dictionaries_in dictionaries.now) fields.now head.now
         body.now)
         (λ part. FirstAlone limits.now fault.now (dictionaries_in dictionaries.now) fields.now

@@ -19,8 +19,8 @@ use std::collections::BTreeMap;
 impl StreamContext {
     // What a schema puts in force: no dictionary yet.
     fn new(alloc: Global, limits: Limits, schema: Schema) -> Result<StreamContext, Fault>
-        ensures begun { IfOk result (λ known. in_force known ≡ initial_state schema) }
-        ensures limits { IfOk result (λ known. known.limits ≡ limits) }
+        ensures begins { IfOk result (λ context. in_force context ≡ initial_state schema) }
+        ensures limits { IfOk result (λ context. context.limits ≡ limits) }
     {
         schema.check(alloc, &limits)?;
         let dictionaries = Dictionaries::new(alloc, &schema)?;
@@ -82,22 +82,22 @@ impl StreamContext {
 fn after_message(
     alloc: Global,
     limits: Limits,
-    known: Option<StreamContext>,
+    context: Option<StreamContext>,
     head: Head,
     body: Vec<u8>,
 ) -> Result<Option<StreamContext>, Fault>
-    ensures { IfOk result (UpdatesContextByMessage limits known head body.items) }
+    ensures { IfOk result (UpdatesContextByMessage limits context head body.items) }
 {
     match head {
         Head::Schema(schema) => Ok(Some(StreamContext::new(alloc, limits, schema)?)),
         Head::Dictionary(id, head) => {
-            let Some(mut known) = known else {
+            let Some(mut context) = context else {
                 return Ok(None);
             };
-            known.set(alloc, id, head, body)?;
-            Ok(Some(known))
+            context.set(alloc, id, head, body)?;
+            Ok(Some(context))
         }
-        Head::Batch(_, _) => Ok(known),
+        Head::Batch(_, _) => Ok(context),
     }
 }
 
@@ -107,20 +107,20 @@ fn after_message(
 pub(crate) fn context_after(
     alloc: Global,
     limits: Limits,
-    known: Option<StreamContext>,
+    context: Option<StreamContext>,
     frame: Option<Frame>,
 ) -> Result<Option<StreamContext>, Fault>
-    ensures { IfOk result (UpdatesContext limits known frame) }
+    ensures { IfOk result (UpdatesContext limits context frame) }
 {
     let Some(frame) = frame else {
-        return Ok(known);
+        return Ok(context);
     };
     match frame {
         Frame::Message {
             meta: _,
             head,
             body,
-        } => after_message(alloc, limits, known, head, body),
-        Frame::End => Ok(known),
+        } => after_message(alloc, limits, context, head, body),
+        Frame::End => Ok(context),
     }
 }

@@ -53,14 +53,14 @@ impl MessageRecord {
     /// Errors: `OutOfMemory` only.
     pub(crate) fn explain_later(&self, alloc: Global, fault: &Fault) -> Result<Vec<u8>, Fault>
         ensures line { IfOk result
-            (λ line. ExplainsLater self.now.known self.now.last fault.now line.items) }
+            (λ line. ExplainsLater self.now.context self.now.last fault.now line.items) }
         ensures refused { IfErr result (λ f. f ≡ Fault.OutOfMemory) }
     {
-        match (&self.known, &self.last) {
-            (Some(known), Some(Frame::Message { head, body, .. })) => match head {
-                Head::Batch(head, _) => explain_rows(alloc, known, fault, head, body),
+        match (&self.context, &self.last) {
+            (Some(context), Some(Frame::Message { head, body, .. })) => match head {
+                Head::Batch(head, _) => explain_rows(alloc, context, fault, head, body),
                 Head::Dictionary(id, head) => {
-                    explain_values(alloc, known, fault, *id, head, body)
+                    explain_values(alloc, context, fault, *id, head, body)
                 }
                 Head::Schema(_) => Ok(Vec::new(alloc)),
             },
@@ -72,24 +72,25 @@ impl MessageRecord {
 // The line for a record batch.
 fn explain_rows(
     alloc: Global,
-    known: &StreamContext,
+    context: &StreamContext,
     fault: &Fault,
     head: &BatchHead,
     body: &[u8],
 ) -> Result<Vec<u8>, Fault>
-    ensures line { IfOk result (λ line. ExplainsBatch known.now.limits fault.now
-        (values_in (in_force known.now).dictionaries) known.now.schema.fields head.now body.now []
+    ensures line { IfOk result (λ line. ExplainsBatch context.now.limits fault.now
+        (values_in (in_force context.now).dictionaries) context.now.schema.fields head.now body.now
+        []
         line.items) }
     ensures refused { IfErr result (λ f. f ≡ Fault.OutOfMemory) }
 {
     explain_batch(
         alloc,
-        &known.limits,
+        &context.limits,
         fault,
-        known.schema.fields.as_slice(),
+        context.schema.fields.as_slice(),
         head,
         body,
-        known.dictionaries.current(),
+        context.dictionaries.current(),
         Vec::new(alloc),
     )
 }
@@ -109,27 +110,27 @@ fn dictionary_words(alloc: Global, id: i64) -> Result<Vec<u8>, Fault>
 // The line for the values of a dictionary.
 fn explain_values(
     alloc: Global,
-    known: &StreamContext,
+    context: &StreamContext,
     fault: &Fault,
     id: i64,
     head: &BatchHead,
     body: &[u8],
 ) -> Result<Vec<u8>, Fault>
     ensures line { IfOk result
-        (λ line. MatchOption (columns_for (dictionary_columns known.now.schema.fields) id)
+        (λ line. MatchOption (columns_for (dictionary_columns context.now.schema.fields) id)
         (line.items ≡ [])
-        (λ fields. ExplainsBatch known.now.limits fault.now [] fields head.now body.now
+        (λ fields. ExplainsBatch context.now.limits fault.now [] fields head.now body.now
         (spec.dictionary_words id) line.items)) }
     ensures refused { IfErr result (λ f. f ≡ Fault.OutOfMemory) }
 {
-    let Some(fields) = known.values_column(id) else {
+    let Some(fields) = context.values_column(id) else {
         return Ok(Vec::new(alloc));
     };
     let front = dictionary_words(alloc, id)?;
     let none = BTreeMap::new(alloc);
     explain_batch(
         alloc,
-        &known.limits,
+        &context.limits,
         fault,
         fields,
         head,
@@ -170,8 +171,8 @@ fn explain_batch(
             Ok(line)
         }
         28..=34 => {
-            let found = first_alone(alloc, limits, fault, fields, head, body, dictionaries)?;
-            let Some(column) = found else {
+            let column = first_alone(alloc, limits, fault, fields, head, body, dictionaries)?;
+            let Some(column) = column else {
                 return Ok(Vec::new(alloc));
             };
             push_column(alloc, &mut line, head.length, body.len(), &column)?;

@@ -18,16 +18,16 @@ use ipc_text_json::string_json;
 use std::alloc::Global;
 
 // Whether a fault has the number of another one. Errors: `OutOfMemory` only.
-fn is_same(found: Option<Fault>, fault: &Fault) -> Result<bool, Fault>
+fn is_same(answer: Option<Fault>, fault: &Fault) -> Result<bool, Fault>
     ensures same { IfOk result (λ b. IsTrue b
-        ↔ MatchOption found ⊥ (λ f. fault_number f ≡ fault_number fault.now)) }
-    ensures memory { OnOk result (found ≡ Some Fault.OutOfMemory → ⊥) }
+        ↔ MatchOption answer ⊥ (λ f. fault_number f ≡ fault_number fault.now)) }
+    ensures memory { OnOk result (answer ≡ Some Fault.OutOfMemory → ⊥) }
     ensures refused { IfErr result (λ f. f ≡ Fault.OutOfMemory) }
 {
-    match found {
+    match answer {
         None => Ok(false),
         Some(Fault::OutOfMemory) => Err(Fault::OutOfMemory),
-        Some(found) => Ok(found.number() == fault.number()),
+        Some(answer) => Ok(answer.number() == fault.number()),
     }
 }
 
@@ -38,7 +38,7 @@ fn has_alone(
     fault: &Fault,
     table: &TableRef<'_>,
 ) -> Result<bool, Fault>
-    ensures found { IfOk result (λ b. IsTrue b ↔ RefusedAs fault.now
+    ensures answer { IfOk result (λ b. IsTrue b ↔ RefusedAs fault.now
         (field_alone limits.now table.now)) }
     ensures refused { IfErr result (λ f. f ≡ Fault.OutOfMemory) }
 {
@@ -80,7 +80,7 @@ fn first_with<'a>(
     table: &TableRef<'a>,
     slot: u16,
 ) -> Result<Option<(usize, TableRef<'a>)>, Fault>
-    ensures found { IfOk result (λ o. MatchOption o (NoneWith limits.now fault.now table.now slot)
+    ensures answer { IfOk result (λ o. MatchOption o (NoneWith limits.now fault.now table.now slot)
         (λ f. FirstWith limits.now fault.now table.now slot f.0 f.1)) }
     ensures refused { IfErr result (λ f. f ≡ Fault.OutOfMemory) }
 {

@@ -19,7 +19,7 @@ pub(crate) struct MessageRecord {
     pub(crate) frames: Frames,
     pub(crate) front: Vec<u8>,
     pub(crate) last: Option<Frame>,
-    pub(crate) known: Option<StreamContext>,
+    pub(crate) context: Option<StreamContext>,
     pub(crate) ghost same_limits: { frames.limits ≡ limits },
     pub(crate) ghost front_kept: { front.items ≡ kept_of limits frames.progress front.items },
 }
@@ -42,13 +42,13 @@ fn kept_after(
     limits: &Limits,
     front: Vec<u8>,
     piece: &[u8],
-    fed: Result<(usize, Option<Frame>), Fault>,
+    outcome: Result<(usize, Option<Frame>), Fault>,
 ) -> Option<(Vec<u8>, Option<Frame>)>
-    requires { IfOk fed (λ taken. taken.0 ≤ length piece.now) }
+    requires { IfOk outcome (λ taken. taken.0 ≤ length piece.now) }
     ensures { IfSome result
-        (λ kept. KeepsFed limits.now front.items piece.now kept.0.items kept.1 fed) }
+        (λ kept. KeepsFed limits.now front.items piece.now kept.0.items kept.1 outcome) }
 {
-    match fed {
+    match outcome {
         Ok((_, Some(frame))) => {
             let mut front = front;
             front.clear();
@@ -67,14 +67,14 @@ impl MessageRecord {
         ensures limits { result.limits ≡ limits }
         ensures progress { result.frames.progress ≡ taking [] }
         ensures last { result.last ≡ None }
-        ensures known { result.known ≡ None }
+        ensures context { result.context ≡ None }
     {
         MessageRecord {
             limits,
             frames: Frames::new(alloc, limits),
             front: Vec::new(alloc),
             last: None,
-            known: None,
+            context: None,
         }
     }
 
@@ -85,24 +85,24 @@ impl MessageRecord {
         ensures keeps { IfSome result (λ next. Keeps self.limits self.frames.progress
             self.front.items piece.now next.frames.progress next.front.items next.last) }
         ensures learns { IfSome result
-            (λ next. UpdatesContext self.limits self.known self.last next.known) }
+            (λ next. UpdatesContext self.limits self.context self.last next.context) }
     {
         let MessageRecord {
             limits,
             mut frames,
             front,
             last,
-            known,
+            context,
         } = self;
-        let known = context_after(*front.allocator(), limits, known, last).ok()?;
-        let fed = frames.feed(piece);
-        let (front, last) = kept_after(&limits, front, piece, fed)?;
+        let context = context_after(*front.allocator(), limits, context, last).ok()?;
+        let outcome = frames.feed(piece);
+        let (front, last) = kept_after(&limits, front, piece, outcome)?;
         Some(MessageRecord {
             limits,
             frames,
             front,
             last,
-            known,
+            context,
         })
     }
 }

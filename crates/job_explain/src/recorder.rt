@@ -17,7 +17,7 @@ use std::mem::replace;
 #[derive(Drop)]
 pub struct Recorder<R> {
     source: R,
-    recorded: Option<MessageRecord>,
+    message_record: Option<MessageRecord>,
 }
 
 impl<R: Source> Recorder<R> {
@@ -25,14 +25,17 @@ impl<R: Source> Recorder<R> {
     /// and until memory for them runs out; it passes bytes on in any case.
     pub fn new(alloc: Global, limits: Limits, source: R, on: bool) -> Recorder<R>
         ensures source { result.source ≡ source }
-        ensures starts { StartsRecorder limits on result.recorded }
+        ensures starts { StartsRecorder limits on result.message_record }
     {
-        let recorded = if on {
+        let message_record = if on {
             Some(MessageRecord::new(alloc, limits))
         } else {
             None
         };
-        Recorder { source, recorded }
+        Recorder {
+            source,
+            message_record,
+        }
     }
 
     /// Returns lines that explain why the stream is refused, each with a line feed: `fault`, at the
@@ -54,12 +57,12 @@ impl<R: Source> Recorder<R> {
     /// Errors: `OutOfMemory` only.
     pub fn explain(&self, alloc: Global, fault: &Fault, message: u64) -> Result<Vec<u8>, Fault>
         ensures lines { IfOk result
-            (λ lines. Explains self.now.recorded fault.now message lines.items) }
+            (λ lines. Explains self.now.message_record fault.now message lines.items) }
         ensures refused { IfErr result (λ f. f ≡ Fault.OutOfMemory) }
     {
-        match (&self.recorded, message) {
-            (Some(recorded), 0) => recorded.explain(alloc, fault),
-            (Some(recorded), _) => recorded.explain_later(alloc, fault),
+        match (&self.message_record, message) {
+            (Some(message_record), 0) => message_record.explain(alloc, fault),
+            (Some(message_record), _) => message_record.explain_later(alloc, fault),
             (None, _) => Ok(Vec::new(alloc)),
         }
     }
@@ -71,19 +74,19 @@ impl<R: Source> Recorder<R> {
     /// Errors: `OutOfMemory` only.
     pub fn explain_write(&self, alloc: Global, fault: &WriteFault) -> Result<Vec<u8>, Fault>
         ensures lines { IfOk result
-            (λ lines. ExplainsUnwritten self.now.recorded fault.now lines.items) }
+            (λ lines. ExplainsUnwritten self.now.message_record fault.now lines.items) }
         ensures refused { IfErr result (λ f. f ≡ Fault.OutOfMemory) }
     {
         let Some(
             MessageRecord {
-                known: Some(known),
+                context: Some(context),
                 ..
             },
-        ) = &self.recorded
+        ) = &self.message_record
         else {
             return Ok(Vec::new(alloc));
         };
-        explain_write(alloc, &known.schema, fault)
+        explain_write(alloc, &context.schema, fault)
     }
 
     /// Returns the source.
@@ -92,7 +95,7 @@ impl<R: Source> Recorder<R> {
     {
         let Recorder {
             source,
-            recorded: _,
+            message_record: _,
         } = self;
         source
     }
@@ -104,8 +107,8 @@ impl<R> Recorder<R> {
         ensures few { result ≤ len }
         ensures some { 0 < len → 0 < result }
     {
-        match &self.recorded {
-            Some(recorded) => match recorded.frames.wants() {
+        match &self.message_record {
+            Some(message_record) => match message_record.frames.wants() {
                 0 => len,
                 wants => wants.min(len),
             },
@@ -115,11 +118,11 @@ impl<R> Recorder<R> {
 
     // Keeps the bytes that were read.
     fn record(&mut self, piece: &[u8])
-        ensures kept { Follows self.old.recorded piece.now self.new.recorded }
+        ensures kept { Follows self.old.message_record piece.now self.new.message_record }
         ensures source { self.new.source ≡ self.old.source }
     {
-        if let Some(recorded) = replace(&mut self.recorded, None) {
-            self.recorded = recorded.record(piece);
+        if let Some(message_record) = replace(&mut self.message_record, None) {
+            self.message_record = message_record.record(piece);
         }
     }
 }
@@ -140,8 +143,10 @@ impl<R: Source> Source for Recorder<R> {
             (R.failures self.new.source) result }
         // The bytes of the message that is being read are kept.
         ensures kept { IfOk result
-            (λ k. 0 < k → Follows self.old.recorded (take k into.new) self.new.recorded) }
-        ensures kept_at_end { IfOk result (λ k. k ≡ 0 → self.new.recorded ≡ self.old.recorded) }
+            (λ k. 0 < k → Follows self.old.message_record (take k into.new)
+            self.new.message_record) }
+        ensures kept_at_end { IfOk result (λ k. k ≡ 0 → self.new.message_record
+            ≡ self.old.message_record) }
     {
         let room = self.room(into.len());
         let count = self.source.read(&mut into[..room])?;

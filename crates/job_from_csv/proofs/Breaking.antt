@@ -162,8 +162,8 @@ module _ (d : Dialect) {R : Type 0} (remaining : R → Option (List ℕ)) (input
       sent = record {
         x = came.out.sent.x;
         whole =
-            let told = table_tells writer.limits (table_of_batches s came.batches) came.out.sent.x came.out.sent.whole in
-            (Some told.0, told.1.1);
+            let report = table_tells writer.limits (table_of_batches s came.batches) came.out.sent.x came.out.sent.whole in
+            (Some report.0, report.1.1);
         bytes = came.out.sent.bytes;
         worked = came.out.sent.worked;
         works = came.out.sent.works;

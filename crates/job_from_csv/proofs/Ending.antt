@@ -136,9 +136,9 @@ module _ (d : Dialect) (input : Option (List ℕ)) (s : Schema) (size : ℕ) (ol
       whole = (
         sends.out.sent.x,
         ap (λ y. sends.out.sent.x ++ y) finishes.sent.whole,
-        (let told = table_tells writer.limits (table_of_batches s (sends.batches ++ last_batch sends.left)) sends.out.sent.x
+        (let report = table_tells writer.limits (table_of_batches s (sends.batches ++ last_batch sends.left)) sends.out.sent.x
             sends.out.sent.whole in
-            (Some told.0, told.1.1)),
+            (Some report.0, report.1.1)),
       );
       bytes = Appends-trans old writer.written new sends.out.sent.x finishes.sent.x sends.out.sent.bytes finishes.sent.bytes;
       worked = sends.out.sent.worked;

@@ -3,17 +3,13 @@ use Rattle.std.proofs.Common.{◌≡◌, sym, subst, refl, ap, ℕ, ◌+◌, Lis
 use Rattle.std.specs.Prelude.{true, ⊤, IfErr, OnOk}
 use Rattle.std.specs.Io.KnownBytes.{Keeps}
 use Rattle.std.proofs.lemmas.List.{length_push}
-use Rattle.csv.specs.Records.{Row}
 use Rattle.csv.specs.declared.reader.Reader.{Reader}
 use Rattle.ipc_model.specs.declared.schema.Schema.{Schema}
 use Rattle.ipc_model.specs.declared.value.Value.{Value}
 use Rattle.ipc_text_csv.specs.CsvRows.{RecordReadsAs}
-use Rattle.ipc_text_csv.specs.RowCsv.{flat_fault, names, unless_fault}
-use Rattle.ipc_text_temporal.specs.declared.fault.TextFault.{TextFault}
+use Rattle.ipc_text_csv.specs.RowCsv.{flat_fault, names}
 use Rattle.ipc_text_temporal.specs.declared.fault.TextFault.TheVariants as x
 use Rattle.job_from_csv.specs.Conversion.{AnswersConversion, Converts, StopsFor}
-use Rattle.job_from_csv.specs.Stops.{CountsInputFailure, CountsNextFailure, stop_of}
-use Rattle.job_from_csv.specs.declared.stop.RecordFault.{RecordFault}
 use Rattle.job_from_csv.specs.declared.stop.RecordFault.TheVariants as none
 use Rattle.job_from_csv.specs.declared.stop.FromCsvStop.{FromCsvStop}
 use Rattle.job_from_csv.specs.declared.stop.FromCsvStop.TheVariants as stop
@@ -58,19 +54,6 @@ stands_kept d remaining None input reader same stands = tt
 stands_kept d remaining (Some xs) None reader same stands = absurd same
 stands_kept d remaining (Some xs) (Some ys) reader same stands = subst (λ bytes. HasReadRecords d remaining (Some bytes) [] reader) same
     stands
-
--- why no row is read tells of the source what the stop does
-pub told_next : (failures : ℕ) (why : RecordFault) (refused : Row) → CountsNextFailure failures
-    (let r : Result ⊤ RecordFault = Err why in r)
-    → CountsInputFailure failures (let r : Result ⊤ FromCsvStop = Err (stop_of why refused) in r)
-told_next failures none.Input refused tells = tells
-told_next failures (none.Text x.OutOfMemory) refused tells = tells
-told_next failures (none.Text x.NotFlat) refused tells = tells
-told_next failures (none.Text x.NoColumns) refused tells = tells
-told_next failures (none.Text (x.NoTextForm column)) refused tells = tells
-told_next failures (none.Text (x.BadField number column)) refused tells = tells
-told_next failures (none.Text (x.WrongFieldCount number)) refused tells = tells
-told_next failures (none.Text x.BadSchemaJson) refused tells = tells
 
 -- what is answered of the whole conversion, at Ok and at a refusal
 pub answers_ok : (d : Dialect) (input : Option (List ℕ)) (s : Schema) (size : ℕ) (old new : Option (List ℕ)) (f0 f1 : ℕ)

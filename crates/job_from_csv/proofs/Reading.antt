@@ -52,9 +52,3 @@ pub found_one : (d : Dialect) {R : Type 0} (remaining : R → Option (List ℕ))
     (reader : Reader R) (found : Bool) (fields : List (List ℕ)) → found ≡ true → FindsRecord d remaining input records reader found fields
     → HasReadRecords d remaining input (records ++ fields ∷ []) reader
 found_one d remaining input records reader found fields is finds = rw is at finds
-
--- where no record was found the first are all
-pub found_none : (d : Dialect) {R : Type 0} (remaining : R → Option (List ℕ)) (input : Option (List ℕ)) (records : List (List (List ℕ)))
-    (reader : Reader R) (found : Bool) (fields : List (List ℕ)) → found ≡ false → FindsRecord d remaining input records reader found fields
-    → AreRecordsOf d input records
-found_none d remaining input records reader found fields is finds = rw is at finds

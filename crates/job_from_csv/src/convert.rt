@@ -53,11 +53,11 @@ fn push_rows<R: Read + ReportsFailure, W: Sink>(
 {
     batch.push(rows.row.as_slice())?;
     for _ in 1..size {
-        let found = match rows.next(alloc, dialect, schema) {
-            Ok(found) => found,
+        let has_row = match rows.next(alloc, dialect, schema) {
+            Ok(has_row) => has_row,
             Err(why) => return Err(why.at_record(rows.take_record(alloc))),
         };
-        if !found {
+        if !has_row {
             return Ok(false);
         }
         batch.push(rows.row.as_slice())?;
@@ -112,11 +112,11 @@ fn send_records<R: Read + ReportsFailure, W: Sink>(
         → SendsRecords dialect.entry input schema.now size old failures stream.new result }
 {
     loop {
-        let found = match rows.next(alloc, dialect, schema) {
-            Ok(found) => found,
+        let has_row = match rows.next(alloc, dialect, schema) {
+            Ok(has_row) => has_row,
             Err(why) => return Err(why.at_record(rows.take_record(alloc))),
         };
-        if !found {
+        if !has_row {
             return Ok(());
         }
         if !send_batch(alloc, dialect, rows, stream, schema, size)? {

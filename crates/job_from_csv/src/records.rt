@@ -40,21 +40,21 @@ pub fn next_record<R: Read + ReportsFailure>(
     fields: &mut ByteRecord,
 ) -> Result<bool, RecordFault>
     ensures set_up { (d : Dialect) → IsSetUp d reader.old → OnOk result (IsSetUp d reader.new) }
-    ensures finds { (d : Dialect) → IsSetUp d reader.old → IfOk result (λ found.
+    ensures finds { (d : Dialect) → IsSetUp d reader.old → IfOk result (λ has_record.
         (input : Option (List ℕ)) (records : List (List (List ℕ)))
         → HasReadRecords d R.remaining input records reader.old
-        → FindsRecord d R.remaining input records reader.new found (fields_of fields.new)) }
+        → FindsRecord d R.remaining input records reader.new has_record (fields_of fields.new)) }
     ensures stopped { IfErr result (λ why. (why ≡ none.Input) ⊎ (why ≡ none.Text OutOfMemory)) }
     ensures device { CountsNextFailure (R.failures (reader_source reader.new)) result }
 {
-    let found = reader.read_byte_record(fields);
+    let has_record = reader.read_byte_record(fields);
     if reader.get_ref().has_failed() {
         return Err(RecordFault::Input);
     }
-    let Ok(found) = found else {
+    let Ok(has_record) = has_record else {
         return Err(RecordFault::Text(TextFault::OutOfMemory));
     };
-    Ok(found)
+    Ok(has_record)
 }
 
 // Reads the header and checks it. Returns the record, for those after it to be read into.
@@ -71,18 +71,15 @@ pub fn read_header<R: Read + ReportsFailure>(
         → AnswersHeader d R.remaining input schema.now.fields reader.new result }
 {
     let mut fields = ByteRecord::new(alloc);
-    let found = match next_record(reader, &mut fields) {
-        Ok(found) => found,
+    let has_record = match next_record(reader, &mut fields) {
+        Ok(has_record) => has_record,
         Err(why) => return Err(why.at_record(fields)),
     };
-    if !found {
+    if !has_record {
         return Err(FromCsvStop::Text(TextFault::WrongFieldCount { record: 0 }));
     }
     match check_header(schema, &fields) {
         Ok(()) => Ok(fields),
-        Err(fault) => Err(FromCsvStop::Record {
-            fault,
-            refused: fields,
-        }),
+        Err(fault) => Err(FromCsvStop::Record { fault, fields }),
     }
 }

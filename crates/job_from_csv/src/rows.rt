@@ -52,18 +52,19 @@ impl<R: Read + ReportsFailure> RowReader<R> {
     ) -> Result<bool, RecordFault>
         requires set_up { IsSetUp dialect self.old.reader }
         ensures set_up { OnOk result (IsSetUp dialect.entry self.new.reader) }
-        ensures finds { IfOk result (λ found. (input : Option (List ℕ))
+        ensures finds { IfOk result (λ has_row. (input : Option (List ℕ))
             (records : List (List (List ℕ))) (rows : List (List Value))
             → HasRead dialect.entry R.remaining input schema.now records rows self.old
-            → FindsRow dialect.entry R.remaining input schema.now records rows self.new found) }
+            → FindsRow dialect.entry R.remaining input schema.now records rows self.new has_row) }
         ensures refused { IfErr result (λ why. (input : Option (List ℕ))
             (records : List (List (List ℕ))) (rows : List (List Value))
             → HasRead dialect.entry R.remaining input schema.now records rows self.old
             → FindsNoRow dialect.entry input schema.now records
             (fields_of self.new.fields) why) }
-        ensures counted { IfOk result (λ found. found ≡ true
+        ensures counted { IfOk result (λ has_row. has_row ≡ true
             → (self.new.count ≡ self.old.count + 1) × (self.new.count < 2 ^ 64)) }
-        ensures stayed { IfOk result (λ found. found ≡ false → self.new.count ≡ self.old.count) }
+        ensures stayed { IfOk result
+            (λ has_row. has_row ≡ false → self.new.count ≡ self.old.count) }
         ensures device { CountsNextFailure (R.failures (reader_source self.new.reader)) result }
     {
         if !next_record(&mut self.reader, &mut self.fields)? {

@@ -26,7 +26,7 @@ pub enum FromCsvStop {
         fault: TextFault,
         /// The record, with all its fields. Its position is the one that the crate `csv` notes when
         /// it begins to read the record; no contract states it.
-        refused: ByteRecord,
+        fields: ByteRecord,
     },
 }
 
@@ -42,13 +42,13 @@ pub(crate) enum RecordFault {
 
 impl RecordFault {
     /// The reason why the conversion stops at this record.
-    pub(crate) fn at_record(self, refused: ByteRecord) -> FromCsvStop
-        ensures { result ≡ stop_of self refused }
+    pub(crate) fn at_record(self, fields: ByteRecord) -> FromCsvStop
+        ensures { result ≡ stop_of self fields }
     {
         match self {
             RecordFault::Input => FromCsvStop::Input,
             RecordFault::Text(TextFault::OutOfMemory) => FromCsvStop::Text(TextFault::OutOfMemory),
-            RecordFault::Text(fault) => FromCsvStop::Record { fault, refused },
+            RecordFault::Text(fault) => FromCsvStop::Record { fault, fields },
         }
     }
 }

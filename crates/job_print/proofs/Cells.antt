@@ -38,9 +38,10 @@ first_appended d [] cs r f values value i out o1 o2 wanted some many same have i
 first_appended d (g ∷ gs) [] r f values value i out o1 o2 wanted some many same have is at held before comma put =
     absurd (omega (arith, many))
 first_appended d (g ∷ gs) (w ∷ ws) r f values value i out o1 o2 wanted some many same have is at held before comma put =
-    let told : Appended d.delimiter o1 (csv_text d (out-Field g).kind (slice_index_or w r v.Null)) o2 = rw (is, held, at) at put in
+    let report : Appended d.delimiter o1 (csv_text d (out-Field g).kind (slice_index_or w r v.Null)) o2 = rw (is, held, at) at put in
     let more =
-    field_more d.delimiter i out o1 o2 (csv_text d (out-Field g).kind (slice_index_or w r v.Null)) (each_text d gs (row_at ws r)) comma told
+    field_more d.delimiter i out o1 o2 (csv_text d (out-Field g).kind (slice_index_or w r v.Null)) (each_text d gs (row_at ws r)) comma
+    report
     ∙ before in
     record {
       columns = rw (take_rest (w ∷ ws) 1, take_rest (g ∷ gs) 1) (omega (arith, same));

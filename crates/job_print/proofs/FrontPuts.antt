@@ -5,8 +5,8 @@ use Rattle.std.proofs.Common.{Result, Ok, Err, append-nil, length-append, arith}
 use Rattle.std.proofs.KnownBytes.{Consumes-nil}
 use Rattle.ipc_stream_read.specs.Reader.{Reader, in_force_of}
 use Rattle.ipc_stream_read.specs.Stream.{done}
-use Rattle.job_print.specs.declared.rows.PrintFault.{PrintFault}
-use Rattle.job_print.specs.declared.rows.PrintFault.TheVariants.{Write, OutOfMemory}
+use Rattle.job_print.specs.declared.line_buffer.PrintFault.{PrintFault}
+use Rattle.job_print.specs.declared.line_buffer.PrintFault.TheVariants.{Write, OutOfMemory}
 use Rattle.job_print.specs.declared.form.PrintOptions.{PrintOptions}
 use Rattle.job_print.specs.FirstRows.{within}
 use Rattle.job_print.specs.Forms.{batch_heading, line_of}

@@ -1,18 +1,13 @@
 -- Rows of columns that a batch lends.
 use Rattle.std.proofs.Common.{◌≡◌, ◌∙◌, sym, ap, refl, subst, ℕ, zero, suc, ◌<◌, List, [], ◌∷◌, ◌++◌, length, get_or, arith, Some}
 use Rattle.std.proofs.Common.{inl, inr, length-append}
-use Rattle.std.proofs.lemmas.Bool.{cases_lt}
-use Rattle.std.proofs.Math.ListN.{get_or-append}
-use Rattle.std.proofs.Math.Seq.{get_or-append_seam}
 use Rattle.std.specs.Prelude.{slice_get, slice_index_or}
 use Rattle.std.specs.List.{AllByRecursion}
-use Rattle.std.proofs.lemmas.Option.{get_or_from_slice_get, slice_get-get_or}
+use Rattle.std.proofs.lemmas.Option.{get_or_from_slice_get}
 use Rattle.ipc_model.specs.declared.value.Value.{Value}
 use Rattle.ipc_model.specs.declared.value.Value.TheVariants as v
 use Rattle.ipc_column.specs.Lent.{AreOfColumn}
-use Rattle.ipc_column.specs.Nested.{Nested, slot_values}
 use Rattle.job_print.specs.LentRows.{row_at, HaveRow, AreColumnsOfRows}
-use Rattle.job_print.specs.LentSlots.{slot_value}
 
 -- a column has a value in a row that each has one in
 pub has_value : (columns : List (List Value)) (i j : ℕ) (values : List Value) → j < length columns → values ≡ get_or columns j values
@@ -28,15 +23,6 @@ row_value [] i j values x l e h = absurd (omega arith)
 row_value (c ∷ columns) i zero values x l e h =
     ap (λ (y : Value). Some y) (ap (λ (u : List Value). slice_index_or u i v.Null) (sym e) ∙ get_or_from_slice_get values i x v.Null h)
 row_value (c ∷ columns) i (suc j) values x l e h = row_value columns i j values x (omega arith) e h
-
--- the value of a row in a column whose slots were found is that of the slot
-pub tree_value : (columns : List (List Value)) (i j : ℕ) (values : List Value) (n : Nested) → j < length columns
-    → values ≡ get_or columns j values → HaveRow columns i → slot_values n ≡ values
-    → slice_get (row_at columns i) j ≡ Some (slot_value n i)
-tree_value columns i j values n l e h same =
-    row_value columns i j values (slot_value n i) l e
-    (slice_get-get_or values i v.Null (has_value columns i j values l e h)
-    ∙ ap (λ (vs : List Value). Some (slice_index_or vs i v.Null)) (sym same))
 
 -- a row has a value for each column
 pub row_length : (columns : List (List Value)) (i : ℕ) → length (row_at columns i) ≡ length columns
@@ -72,16 +58,3 @@ columns_found rows columns width each = record {
   have = λ i l. have_row columns i (λ j m. let size = (each j m).size in omega (arith, l, size));
   same = λ i l. same_row columns (slice_index_or rows i []) i (row_width rows (length columns) i width l) (λ j m. (each j m).each i l);
 }
-
--- one column more
-pub found_more : (rows columns : List (List Value)) (values : List Value)
-    → ((k : ℕ) → k < length columns → AreOfColumn rows k (slice_index_or columns k [])) → AreOfColumn rows (length columns) values
-    → (k : ℕ) → k < length (columns ++ values ∷ []) → AreOfColumn rows k (slice_index_or (columns ++ values ∷ []) k [])
-found_more rows columns values each last k l =
-    elim (cases_lt k (length columns)) as (λ _. AreOfColumn rows k (slice_index_or (columns ++ values ∷ []) k [])) [
-      | inl m ↦ subst (λ (vs : List Value). AreOfColumn rows k vs) (sym (get_or-append columns (values ∷ []) [] k m)) (each k m)
-      | inr m ↦
-          let size = length-append columns (values ∷ []) in
-          let at : k ≡ length columns = omega (arith, l, m, size) in
-          rw (at, get_or-append_seam columns values [] []) last
-    ]

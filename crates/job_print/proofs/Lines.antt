@@ -3,7 +3,7 @@ use Rattle.std.proofs.Common.{◌≡◌, ap, subst, ℕ, ◌+◌, ◌<◌, ◌�
 use Rattle.std.specs.Prelude.{slice_index_or}
 use Rattle.std.proofs.lemmas.List.{take_all}
 use Rattle.ipc_model.specs.declared.value.Value.{Value}
-use Rattle.job_print.specs.declared.rows.PrintFault.{PrintFault}
+use Rattle.job_print.specs.declared.line_buffer.PrintFault.{PrintFault}
 use Rattle.job_print.specs.Output.{Output, Puts, PutFails}
 use Rattle.job_print.specs.Rows.{lines}
 use Rattle.job_print.proofs.Puts.{puts_then, puts_not_then, puts_not_front}

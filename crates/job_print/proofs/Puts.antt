@@ -2,10 +2,9 @@
 use Rattle.std.proofs.Common.{◌≡◌, ◌∙◌, refl, sym, ap, subst, ℕ, ◌+◌, ◌≤◌, List, [], ◌++◌, length, take, drop, Option, Some, None}
 use Rattle.std.proofs.Common.{append_assoc, append-nil, take-append-drop, arith, length-append, length-drop}
 use Rattle.std.specs.Io.KnownBytes.{Appends, Keeps}
-use Rattle.std.proofs.lemmas.List.{drop_all}
 use Rattle.ipc_stream.proofs.SentBytes.{SentSome}
-use Rattle.job_print.specs.declared.rows.PrintFault.{PrintFault}
-use Rattle.job_print.specs.declared.rows.PrintFault.TheVariants.{Write, OutOfMemory}
+use Rattle.job_print.specs.declared.line_buffer.PrintFault.{PrintFault}
+use Rattle.job_print.specs.declared.line_buffer.PrintFault.TheVariants.{Write, OutOfMemory}
 use Rattle.job_print.specs.Output.{Output, output, AppendsText, Puts, PutFails}
 
 grows_none : (w : Option (List ℕ)) (kept : List ℕ) → AppendsText w kept w kept []
@@ -41,10 +40,6 @@ puts_then a b c t u p q = record {
   few = omega (arith, p.few, q.few, length-append a.kept t, length-append b.kept u, length-append t u, length-append a.kept (t ++ u));
   stayed = q.stayed ∙ p.stayed;
 }
-
--- nothing, and then a text
-pub puts_behind : (a b c : Output) (t : List ℕ) → Puts a b [] → Puts b c t → Puts a c t
-puts_behind a b c t p q = puts_then a b c [] t p q
 
 -- a text was put, and a second one was not
 pub puts_not_then : (a b : Output) (w : Option (List ℕ)) (n : ℕ) (t u : List ℕ) (e : PrintFault) → Puts a b t → PutFails b w n u e
@@ -121,57 +116,6 @@ sent_cut old now new f0 f1 f2 bytes sent i kept failed = record {
   few = omega (arith, length-drop sent bytes, length-append bytes []);
   failed = λ is. failed;
   stayed = λ other. absurd (other refl);
-}
-
--- all of the bytes went out
-pub sent_all : (old now : Option (List ℕ)) (f0 f1 : ℕ) (bytes : List ℕ) (sent : ℕ) → SentSome old now f0 f1 bytes sent → length bytes ≤ sent
-    → Puts (output old f0 bytes) (output now f1 []) []
-sent_all old now f0 f1 bytes sent i all = record {
-  bytes = subst (λ (k : List ℕ). AppendsText old bytes now k []) (drop_all sent bytes all) (grows_sent old now bytes sent i.appended);
-  few = omega arith;
-  stayed = i.same;
-}
-
--- the sink failed at the flush
-pub flush_cut : (a : Output) (now new : Option (List ℕ)) (n m : ℕ) → Puts a (output now n []) [] → Keeps now new → m ≡ 1
-    → PutFails a new m [] Write
-flush_cut a now new n m p kept failed = record {
-  behind = [];
-  bytes = grows_same a.written now new a.kept [] [] p.bytes kept;
-  few = omega arith;
-  failed = λ is. failed;
-  stayed = λ other. absurd (other refl);
-}
-
--- all of what was kept went out, and the flush succeeded
-pub flush_done : (a : Output) (now new : Option (List ℕ)) (n m : ℕ) → Puts a (output now n []) [] → Keeps now new → (n ≡ 0) × (m ≡ 0)
-    → Puts a (output new m []) []
-flush_done a now new n m p kept works = record {
-  bytes = grows_same a.written now new a.kept [] [] p.bytes kept;
-  few = omega arith;
-  stayed = works.1 ∙ (sym works.0 ∙ p.stayed);
-}
-
-grows_whole : (a b : Option (List ℕ)) (word behind : List ℕ) → AppendsText a word b behind [] → AppendsText a [] b behind word
-grows_whole None b word behind p = tt
-grows_whole (Some xs) None word behind p = absurd p
-grows_whole (Some xs) (Some ys) word behind p =
-    p ∙ (append-nil (xs ++ word) ∙ ap (λ (l : List ℕ). l ++ word) (sym (append-nil xs)))
-
--- a text that was sent by itself was put
-pub puts_sent : (w v : Option (List ℕ)) (n m : ℕ) (word : List ℕ) → Puts (output w n word) (output v m []) []
-    → Puts (output w n []) (output v m []) word
-puts_sent w v n m word p = record { bytes = grows_whole w v word [] p.bytes; few = omega arith; stayed = p.stayed }
-
--- a text that was sent by itself and not whole was not put
-pub puts_not_sent : (w v : Option (List ℕ)) (n m : ℕ) (word : List ℕ) (e : PrintFault) → PutFails (output w n word) v m [] e
-    → PutFails (output w n []) v m word e
-puts_not_sent w v n m word e q = record {
-  behind = q.behind;
-  bytes = grows_whole w v word q.behind q.bytes;
-  few = omega (arith, q.few, length-append word []);
-  failed = q.failed;
-  stayed = q.stayed;
 }
 
 -- ---- how much of a text that was not put is not written

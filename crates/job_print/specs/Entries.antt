@@ -6,8 +6,8 @@ use Rattle.ipc_model.specs.declared.layout.Layout.TheVariants as l
 use Rattle.ipc_model.specs.declared.schema.IntBits.{IntBits}
 use Rattle.ipc_model.specs.declared.value.Value.TheVariants as v
 use Rattle.ipc_column.specs.Nested.{Nested, slot_values}
-use Rattle.job_print.specs.declared.tree.Entry.{Entry}
-use Rattle.job_print.specs.declared.tree.Entry.TheVariants as entry
+use Rattle.job_print.specs.declared.column_tree.Entry.{Entry}
+use Rattle.job_print.specs.declared.column_tree.Entry.TheVariants as entry
 
 -- slots of this layout are indices into the values of a dictionary
 pub record AreIndices (layout : Layout) : Type 0 where

@@ -1,8 +1,8 @@
 -- How printing changes the sink and the text that is kept for it.
 use Rattle.std.specs.Prelude.{◌≡◌, ◌≢◌, ◌≤◌, ℕ, List, ◌++◌, length, take, Option, Some, None}
 use Rattle.std.specs.Prelude.{Result, Ok, Err, ⊤}
-use Rattle.job_print.specs.declared.rows.PrintFault.{PrintFault}
-use Rattle.job_print.specs.declared.rows.PrintFault.TheVariants.{Write}
+use Rattle.job_print.specs.declared.line_buffer.PrintFault.{PrintFault}
+use Rattle.job_print.specs.declared.line_buffer.PrintFault.TheVariants.{Write}
 
 -- the content of a sink, the count of its failures, and the text that is kept and not yet written
 -- to it

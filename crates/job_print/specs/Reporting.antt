@@ -2,7 +2,7 @@
 use Rattle.std.specs.Prelude.{ℕ, List, Option, Result, Ok, Err, ⊤}
 use Rattle.ipc_model.specs.declared.limits.Limits.{Limits}
 use Rattle.ipc_stream.specs.Progress.{Report, ReportsAll, ReportsBefore, ReportsSome}
-use Rattle.job_print.specs.declared.rows.PrintFault.{PrintFault}
+use Rattle.job_print.specs.declared.line_buffer.PrintFault.{PrintFault}
 use Rattle.job_print.specs.declared.stop.Outcome.{Outcome}
 use Rattle.job_print.specs.declared.stop.Outcome.TheVariants as o
 use Rattle.job_print.specs.declared.stop.PrintStop.{PrintStop}
@@ -13,25 +13,25 @@ use Rattle.job_print.specs.declared.stop.PrintStop.TheVariants as stop
 -- read may have no report
 abbrev pub ReportsPrintedBatches : Limits → Option (List ℕ) → Option (List ℕ) → Option (List Report)
     → Option (List Report) → Result ⊤ PrintStop → Type 0
-ReportsPrintedBatches limits old new told_old told_new (Ok done) =
-    ReportsAll limits old new told_old told_new
-ReportsPrintedBatches limits old new told_old told_new (Err (stop.Read fault message)) =
-    ReportsBefore limits old new told_old told_new fault
-ReportsPrintedBatches limits old new told_old told_new (Err (stop.Write fault)) =
-    ReportsSome limits old new told_old told_new
-ReportsPrintedBatches limits old new told_old told_new (Err (stop.Text fault)) =
-    ReportsSome limits old new told_old told_new
+ReportsPrintedBatches limits old new reports_old reports_new (Ok done) =
+    ReportsAll limits old new reports_old reports_new
+ReportsPrintedBatches limits old new reports_old reports_new (Err (stop.Read fault message)) =
+    ReportsBefore limits old new reports_old reports_new fault
+ReportsPrintedBatches limits old new reports_old reports_new (Err (stop.Write fault)) =
+    ReportsSome limits old new reports_old reports_new
+ReportsPrintedBatches limits old new reports_old reports_new (Err (stop.Text fault)) =
+    ReportsSome limits old new reports_old reports_new
 
 -- what the outcome of printing rows states about the reports, as `ReportsPrintedBatches`
 abbrev pub ReportsOutcome : Limits → Option (List ℕ) → Option (List ℕ) → Option (List Report)
     → Option (List Report) → Result Outcome PrintFault → Type 0
-ReportsOutcome limits old new told_old told_new (Ok (o.Refused fault)) =
-    ReportsSome limits old new told_old told_new
-ReportsOutcome limits old new told_old told_new (Ok (o.Broken fault)) =
-    ReportsBefore limits old new told_old told_new fault
-ReportsOutcome limits old new told_old told_new (Ok (o.Whole end tally)) =
-    ReportsAll limits old new told_old told_new
-ReportsOutcome limits old new told_old told_new (Ok o.Limited) =
-    ReportsAll limits old new told_old told_new
-ReportsOutcome limits old new told_old told_new (Err fault) =
-    ReportsSome limits old new told_old told_new
+ReportsOutcome limits old new reports_old reports_new (Ok (o.Refused fault)) =
+    ReportsSome limits old new reports_old reports_new
+ReportsOutcome limits old new reports_old reports_new (Ok (o.Broken fault)) =
+    ReportsBefore limits old new reports_old reports_new fault
+ReportsOutcome limits old new reports_old reports_new (Ok (o.Whole end tally)) =
+    ReportsAll limits old new reports_old reports_new
+ReportsOutcome limits old new reports_old reports_new (Ok o.Limited) =
+    ReportsAll limits old new reports_old reports_new
+ReportsOutcome limits old new reports_old reports_new (Err fault) =
+    ReportsSome limits old new reports_old reports_new

@@ -4,8 +4,8 @@ use Rattle.std.specs.Prelude.{◌≡◌, true, ⊤}
 use Rattle.ipc_model.specs.declared.layout.Layout.{Layout}
 use Rattle.ipc_model.specs.declared.layout.Layout.TheVariants as l
 use Rattle.ipc_model.specs.declared.schema.IntBits.TheVariants.{B32, B64}
-use Rattle.job_print.specs.declared.tree.SlotReader.{SlotReader}
-use Rattle.job_print.specs.declared.tree.SlotReader.TheVariants as kind
+use Rattle.job_print.specs.declared.column_tree.SlotReader.{SlotReader}
+use Rattle.job_print.specs.declared.column_tree.SlotReader.TheVariants as kind
 
 -- the layout is of this kind; nothing is stated for `Others`
 abbrev pub IsReaderOf : SlotReader → Layout → Type 0

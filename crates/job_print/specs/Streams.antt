@@ -28,8 +28,8 @@ use Rattle.ipc_text_temporal.specs.declared.fault.TextFault.{TextFault}
 use Rattle.ipc_text_temporal.specs.declared.fault.TextFault.TheVariants as x
 use Rattle.job_print.specs.declared.form.Form.{Form}
 use Rattle.job_print.specs.declared.form.PrintOptions.{PrintOptions}
-use Rattle.job_print.specs.declared.rows.PrintFault.{PrintFault}
-use Rattle.job_print.specs.declared.rows.PrintFault.TheVariants as p
+use Rattle.job_print.specs.declared.line_buffer.PrintFault.{PrintFault}
+use Rattle.job_print.specs.declared.line_buffer.PrintFault.TheVariants as p
 use Rattle.job_print.specs.declared.stop.PrintStop.{PrintStop}
 use Rattle.job_print.specs.declared.stop.PrintStop.TheVariants as stop
 use Rattle.job_print.specs.declared.stop.Outcome.{Outcome}

@@ -8,11 +8,11 @@ ghost use Rattle.job_print.specs.Forms.{form_fault, batch_heading, pairs_line};
 ghost use Rattle.job_print.specs.Streams.{PutsRows};
 ghost use Rattle.job_print.specs.Output.{PrintsAs, output};
 
+use crate::column_tree::ColumnReader;
 use crate::form::Form;
-use crate::line::{INITIAL_LINE_LEN, fitted_line_of};
+use crate::line::{INITIAL_LINE_LEN, write_growing_line};
+use crate::line_buffer::{LineBuffer, PrintFault};
 use crate::number_rows::{NumberForm, are_numbers, numbers_of};
-use crate::rows::{LineBuffer, PrintFault};
-use crate::tree::ColumnReader;
 use ipc_column::Batch;
 use ipc_model::{Field, Text};
 use ipc_stream::Sink;
@@ -55,7 +55,7 @@ fn print_lines<W: Sink>(
         if lines.put_line(form, fields, &columns, row) {
             continue;
         }
-        let end = match fitted_line_of(form, &mut text, fields, &columns, row) {
+        let end = match write_growing_line(form, &mut text, fields, &columns, row) {
             Ok(end) => end,
             Err(TextFault::OutOfMemory) => return Err(PrintFault::OutOfMemory),
             Err(fault) => return Ok(Some(fault)),
@@ -76,7 +76,7 @@ fn prints_no_rows(form: Form<'_>) -> bool
 fn number_form(form: Form<'_>, fields: &[Field]) -> Option<NumberForm>
     ensures form { IfSome result (λ numbers. spec.number_form form.entry ≡ Some numbers) }
     ensures apart { IfSome result IsApart }
-    ensures shown { IsSome result → AreNumberColumns fields.now }
+    ensures shows { IsSome result → AreNumberColumns fields.now }
 {
     if !are_numbers(fields) {
         return None;
@@ -116,7 +116,7 @@ fn print_numbers<W: Sink>(
     requires fits { form_fault form fields.now ≡ None }
     requires chosen { spec.number_form form ≡ Some numbers }
     requires apart { IsApart numbers }
-    requires shown { AreNumberColumns fields.now }
+    requires shows { AreNumberColumns fields.now }
     ensures { PutsRows form.entry fields.now [] batch.now.rows
         (output (W.written sink.old) (W.failures sink.old) lines.old) (W.written sink.new)
         (W.failures sink.new) lines.new result }

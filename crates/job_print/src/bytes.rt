@@ -1,4 +1,4 @@
-//! Bytes that are written at a place of a kept buffer.
+//! Writes bytes at a place of a buffer.
 //!
 //! An array is written at once, where a copy between slices first checks whether they overlap. A
 //! short word is two copies of a fixed size that overlap.

@@ -18,17 +18,17 @@ ghost use Rattle.ipc_text_csv.specs.RowCsv.{with_field};
 
 use crate::bool_words::put_bool_word;
 use crate::bytes::{put, reserve};
-use crate::fields::{
+use crate::column_tree::{ColumnReader, ColumnTree, Entry, SlotReader};
+use crate::csv_fields::{
     put_bytes_field, put_end, put_front_field, put_null, put_signed_field, put_text_field,
     put_unsigned_field,
 };
-use crate::tree::{ColumnReader, ColumnTree, Entry, SlotReader};
 use ipc_column::Slot;
 use ipc_model::{DataType, Field, IntBits, Layout};
 use ipc_text_csv::Dialect;
 use ipc_text_temporal::TextFault;
 
-// More than a delimiter and any value but null, a text or bytes take.
+// An upper bound for a delimiter and a value, except null, a text and bytes.
 const MAX_VALUE_LEN: usize = 64;
 
 // The delimiter in front of the column with this number, of which the first has none.
@@ -100,7 +100,8 @@ fn put_bool(text: &mut [u8], at: usize, truth: bool) -> usize
     put_bool_word(text, at, truth)
 }
 
-// What a slot holds, which is this, in a column of this type.
+// Writes what a slot holds, which is `value`, in a column of this type. Where a call names the
+// layout, only the arms of that layout are compiled for it.
 #[inline(always)]
 fn put_slot_text(
     text: &mut [u8],
@@ -110,19 +111,19 @@ fn put_slot_text(
     kind: &DataType,
     tree: &ColumnTree<'_>,
     slot: usize,
-    held: Slot<'_>,
+    value: Slot<'_>,
 ) -> Result<usize, TextFault>
     requires room { at + 32 ≤ length text.old }
     requires slot { slot < length (slot_values tree.now) }
-    requires held { slice_get (slot_values tree.now) slot
-        ≡ Some (value_in_slot (row (child_columns tree.now)) slot held) }
+    requires value { slice_get (slot_values tree.now) slot
+        ≡ Some (value_in_slot (row (child_columns tree.now)) slot value) }
     ensures inside { IfOk result (λ end. end ≤ length text.new) }
     ensures ok { IfOk result (λ end. Appended dialect.now.delimiter (take at text.old)
         (csv_text dialect.now kind.now (slot_value tree.now slot)) (take end text.new)) }
     ensures refused { IfErr result
         (RefusesValue column (csv_text dialect.now kind.now (slot_value tree.now slot))) }
 {
-    match held {
+    match value {
         Slot::Null => Ok(put_null(text, at, dialect)?),
         Slot::Bool(truth) => Ok(put_bool(text, at, truth)),
         Slot::Int(number) => put_int(text, at, column, kind, number),
@@ -159,38 +160,6 @@ fn put_other(
         Entry::Text(bytes, len) => put_front_field(text, at, dialect, column, bytes, len),
         Entry::Null => Ok(put_null(text, at, dialect)?),
         Entry::Others => put_slot_text(text, at, dialect, column, kind, tree, slot, tree.at(slot)),
-    }
-}
-
-// Writes what a slot holds, which is this, in a column of numbers, truth values or fixed-size
-// binary. Each call names a layout, so only the arms of that layout are compiled for it.
-#[inline(always)]
-fn put_leaf(
-    text: &mut [u8],
-    at: usize,
-    dialect: &Dialect<'_>,
-    column: u64,
-    kind: &DataType,
-    tree: &ColumnTree<'_>,
-    slot: usize,
-    held: Slot<'_>,
-) -> Result<usize, TextFault>
-    requires room { at + 32 ≤ length text.old }
-    requires slot { slot < length (slot_values tree.now) }
-    requires held { slice_get (slot_values tree.now) slot
-        ≡ Some (value_in_slot (row (child_columns tree.now)) slot held) }
-    ensures inside { IfOk result (λ end. end ≤ length text.new) }
-    ensures ok { IfOk result (λ end. Appended dialect.now.delimiter (take at text.old)
-        (csv_text dialect.now kind.now (slot_value tree.now slot)) (take end text.new)) }
-    ensures refused { IfErr result
-        (RefusesValue column (csv_text dialect.now kind.now (slot_value tree.now slot))) }
-{
-    match held {
-        Slot::Int(number) => put_int(text, at, column, kind, number),
-        Slot::Bool(truth) => Ok(put_bool(text, at, truth)),
-        Slot::Bytes(bytes) => put_bytes_field(text, at, dialect, column, bytes),
-        Slot::Null => Ok(put_null(text, at, dialect)?),
-        _ => put_other(text, at, dialect, column, kind, tree, slot),
     }
 }
 
@@ -241,33 +210,33 @@ fn put_cell(
 {
     match tree.kind() {
         SlotReader::Int64 => {
-            let held = tree.at_layout(
+            let value = tree.at_layout(
                 Layout::Numbers {
                     bits: IntBits::B64,
                     signed: true,
                 },
                 slot,
             );
-            put_leaf(text, at, dialect, column, kind, tree, slot, held)
+            put_slot_text(text, at, dialect, column, kind, tree, slot, value)
         }
         SlotReader::Int32 => {
-            let held = tree.at_layout(
+            let value = tree.at_layout(
                 Layout::Numbers {
                     bits: IntBits::B32,
                     signed: true,
                 },
                 slot,
             );
-            put_leaf(text, at, dialect, column, kind, tree, slot, held)
+            put_slot_text(text, at, dialect, column, kind, tree, slot, value)
         }
         SlotReader::Bool => {
-            let held = tree.at_layout(Layout::Bits, slot);
-            put_leaf(text, at, dialect, column, kind, tree, slot, held)
+            let value = tree.at_layout(Layout::Bits, slot);
+            put_slot_text(text, at, dialect, column, kind, tree, slot, value)
         }
         SlotReader::Utf8 => put_text_slot(text, at, dialect, column, tree, slot),
         SlotReader::Bytes(width) => {
-            let held = tree.at_layout(Layout::FixedBytes(width), slot);
-            put_leaf(text, at, dialect, column, kind, tree, slot, held)
+            let value = tree.at_layout(Layout::FixedBytes(width), slot);
+            put_slot_text(text, at, dialect, column, kind, tree, slot, value)
         }
         SlotReader::Others => put_other(text, at, dialect, column, kind, tree, slot),
     }

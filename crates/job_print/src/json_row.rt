@@ -23,17 +23,17 @@ ghost use Rattle.ipc_text_json.specs.declared.row.RowShape.{RowShape};
 
 use crate::bool_words::put_bool_word;
 use crate::bytes::{put, reserve};
+use crate::column_tree::{ColumnReader, ColumnTree, Entry, SlotReader};
 use crate::digits::{put_i64, put_u64};
 use crate::hexadecimal::put_hexadecimal;
-use crate::strings::{put_front, put_string};
-use crate::tree::{ColumnReader, ColumnTree, Entry, SlotReader};
+use crate::json_strings::{put_front, put_string};
 use ipc_column::Slot;
 use ipc_model::{DataType, Field, IntBits, Layout};
 use ipc_text_json::RowShape;
 use ipc_text_temporal::put_temporal;
 use std::alloc::AllocError;
 
-// More than a comma and any value but a text or bytes take.
+// An upper bound for a comma and a value, except a text and bytes.
 const MAX_VALUE_LEN: usize = 64;
 
 // Writes a comma, unless the item is the first.
@@ -390,17 +390,17 @@ fn put_leaf(
     field: &Field,
     column: &ColumnTree<'_>,
     slot: usize,
-    held: Slot<'_>,
+    value: Slot<'_>,
 ) -> Result<usize, AllocError>
     requires room { at + 34 ≤ length text.old }
     requires slot { slot < length (slot_values column.now) }
-    requires held { slice_get (slot_values column.now) slot
-        ≡ Some (value_in_slot (row (child_columns column.now)) slot held) }
+    requires value { slice_get (slot_values column.now) slot
+        ≡ Some (value_in_slot (row (child_columns column.now)) slot value) }
     ensures inside { IfOk result (λ end. end ≤ length text.new) }
     ensures text { IfOk result (λ end. take end text.new ≡ take at text.old
         ++ compact_text (cell_json shape field.now (slot_value column.now slot))) }
 {
-    match held {
+    match value {
         Slot::Int(number) => Ok(put_int(text, at, &field.kind, number)),
         Slot::Bool(truth) => Ok(put_bool(text, at, truth)),
         Slot::Bytes(bytes) => put_bytes(text, at, bytes),
@@ -449,33 +449,33 @@ fn put_cell(
 {
     match column.kind() {
         SlotReader::Int64 => {
-            let held = column.at_layout(
+            let value = column.at_layout(
                 Layout::Numbers {
                     bits: IntBits::B64,
                     signed: true,
                 },
                 slot,
             );
-            put_leaf(text, at, shape, field, column, slot, held)
+            put_leaf(text, at, shape, field, column, slot, value)
         }
         SlotReader::Int32 => {
-            let held = column.at_layout(
+            let value = column.at_layout(
                 Layout::Numbers {
                     bits: IntBits::B32,
                     signed: true,
                 },
                 slot,
             );
-            put_leaf(text, at, shape, field, column, slot, held)
+            put_leaf(text, at, shape, field, column, slot, value)
         }
         SlotReader::Bool => {
-            let held = column.at_layout(Layout::Bits, slot);
-            put_leaf(text, at, shape, field, column, slot, held)
+            let value = column.at_layout(Layout::Bits, slot);
+            put_leaf(text, at, shape, field, column, slot, value)
         }
         SlotReader::Utf8 => put_text_slot(text, at, column, slot),
         SlotReader::Bytes(width) => {
-            let held = column.at_layout(Layout::FixedBytes(width), slot);
-            put_leaf(text, at, shape, field, column, slot, held)
+            let value = column.at_layout(Layout::FixedBytes(width), slot);
+            put_leaf(text, at, shape, field, column, slot, value)
         }
         SlotReader::Others => put_other(text, at, shape, field, column, slot),
     }

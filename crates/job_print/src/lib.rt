@@ -4,22 +4,22 @@
 mod batch_text;
 mod bool_words;
 mod bytes;
+mod column_tree;
+mod csv_fields;
 mod csv_row;
+mod csv_unquoted;
 mod digits;
-mod fields;
 mod form;
 mod hexadecimal;
+mod json_plain;
 mod json_row;
+mod json_strings;
 mod line;
+mod line_buffer;
 mod number_rows;
-mod plain;
 mod printing;
-mod rows;
 mod schema;
 mod stop;
-mod strings;
-mod tree;
-mod unquoted;
 
 pub use digits::{put_i64, put_u64};
 pub use form::{Form, PrintOptions};

@@ -5,10 +5,10 @@ ghost use Rattle.job_print.specs.Forms as spec;
 ghost use Rattle.job_print.specs.Forms.{HasLine, LacksRecord, form_fault};
 ghost use Rattle.job_print.specs.LentRows.{HaveRow, row_at};
 
+use crate::column_tree::ColumnReader;
 use crate::csv_row::csv_line;
 use crate::form::Form;
 use crate::json_row::json_line;
-use crate::tree::ColumnReader;
 use ipc_model::Field;
 use ipc_text_temporal::TextFault;
 use std::alloc::AllocError;
@@ -18,7 +18,7 @@ pub(crate) const INITIAL_LINE_LEN: usize = 1 << 12;
 
 // Writes the line of a row to the front of a buffer, and returns where it ends. `OutOfMemory` where
 // the buffer is too short.
-fn line_of(
+fn write_line(
     form: Form<'_>,
     text: &mut [u8],
     fields: &[Field],
@@ -53,10 +53,10 @@ fn double(text: &mut Vec<u8>) -> Result<(), AllocError> {
 // How often a buffer can be doubled at most.
 const DOUBLINGS: usize = 64;
 
-// Writes the line of a row as `line_of`, in a buffer that grows until the line fits.
+// Writes the line of a row as `write_line`, in a buffer that grows until the line fits.
 #[cold]
 #[inline(never)]
-fn growing_line_of(
+fn write_line_by_doubling(
     form: Form<'_>,
     text: &mut Vec<u8>,
     fields: &[Field],
@@ -75,7 +75,7 @@ fn growing_line_of(
 {
     for _ in 0..DOUBLINGS {
         double(text)?;
-        match line_of(form, text.as_mut_slice(), fields, columns, row) {
+        match write_line(form, text.as_mut_slice(), fields, columns, row) {
             Err(TextFault::OutOfMemory) => {}
             written => return written,
         }
@@ -83,8 +83,8 @@ fn growing_line_of(
     Err(TextFault::OutOfMemory)
 }
 
-/// Writes the line of a row as `line_of`, and grows the buffer if the line does not fit.
-pub(crate) fn fitted_line_of(
+/// Writes the line of a row as `write_line`, and grows the buffer if the line does not fit.
+pub(crate) fn write_growing_line(
     form: Form<'_>,
     text: &mut Vec<u8>,
     fields: &[Field],
@@ -101,8 +101,8 @@ pub(crate) fn fitted_line_of(
     ensures refused { IfErr result (λ fault. fault ≢ OutOfMemory
         → LacksRecord form.entry fields.now (row_at columns.now row) fault) }
 {
-    match line_of(form, text.as_mut_slice(), fields, columns, row) {
-        Err(TextFault::OutOfMemory) => growing_line_of(form, text, fields, columns, row),
+    match write_line(form, text.as_mut_slice(), fields, columns, row) {
+        Err(TextFault::OutOfMemory) => write_line_by_doubling(form, text, fields, columns, row),
         written => written,
     }
 }
@@ -127,6 +127,6 @@ pub(crate) fn add_line(
         ≡ take at text.old ++ spec.line_of form.entry fields.now (row_at columns.now row)) }
     ensures ok { IfOk result (λ end. HasLine form.entry fields.now (row_at columns.now row)) }
 {
-    let end = line_of(form, &mut text[at..], fields, columns, row)?;
+    let end = write_line(form, &mut text[at..], fields, columns, row)?;
     Ok(at + end)
 }

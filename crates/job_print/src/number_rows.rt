@@ -14,7 +14,7 @@ ghost use Rattle.job_print.specs.Rows.{lines};
 
 use crate::bytes::{put_array, put_byte, put_word};
 use crate::digits::put_i64;
-use crate::rows::{PrintFault, send};
+use crate::line_buffer::{PrintFault, send};
 use ipc_column::{Batch, Numbers};
 use ipc_model::{DataType, Field, IntBits};
 use ipc_stream::Sink;

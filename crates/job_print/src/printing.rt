@@ -21,7 +21,7 @@ ghost use Rattle.job_print.specs.Streams.{exit_status, outcome_tail, write_fault
 
 use crate::batch_text::print_batch;
 use crate::form::{Form, PrintOptions, count_wanted, has_reached};
-use crate::rows::{LineBuffer, PrintFault};
+use crate::line_buffer::{LineBuffer, PrintFault};
 use crate::stop::{Outcome, PrintCounts, PrintStop};
 use ipc_model::{Fault, Limits, Schema, WriteFault};
 use ipc_stream::{End, Progress, Sink, Source, StreamReader};

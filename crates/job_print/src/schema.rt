@@ -7,8 +7,8 @@ ghost use Rattle.job_print.specs.Streams.{AnswersSchema, PrintsSchema, CountsPri
 ghost use Rattle.job_print.specs.Streams.{schema_line};
 
 use crate::form::Form;
+use crate::line_buffer::{LineBuffer, PrintFault};
 use crate::printing::{print_front, write_fault_of};
-use crate::rows::{LineBuffer, PrintFault};
 use crate::stop::PrintStop;
 use ipc_model::{Limits, Schema};
 use ipc_stream::{Sink, Source, StreamReader};

@@ -28,7 +28,7 @@ pub struct PrintCounts {
 }
 
 impl PrintCounts {
-    /// Of nothing.
+    /// Counts with no batch and no row.
     pub fn none() -> PrintCounts
         ensures { result ≡ record { batches = 0; rows = 0 } }
     {
@@ -38,7 +38,7 @@ impl PrintCounts {
         }
     }
 
-    /// With one batch more, of `rows` rows.
+    /// Returns these counts with one batch more, of `rows` rows.
     pub fn with_batch(self, rows: usize) -> PrintCounts
         ensures batches { result.batches ≡ count_up self.batches 1 }
         ensures rows { result.rows ≡ count_up self.rows rows }

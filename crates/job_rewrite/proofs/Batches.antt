@@ -121,9 +121,9 @@ Counted limits σ x es τ n = (r : Run limits σ x es τ) × (messages_in r ≡ 
 told_counted : {limits : Limits} → (σ τ : State) (x : List ℕ) (e : Event) (t : ReportsLastEvent limits σ x e τ)
     → Counted limits σ x (e ∷ []) τ (suc (messages_in t.run))
 told_counted {limits} σ τ x e t =
-    let last = run_one t.told.frame t.told.step in
+    let last = run_one t.report.frame t.report.step in
     let all = messages_then σ t.between τ t.silent t.message [] (e ∷ []) t.run last in
-    let one = messages_one t.told.frame t.told.step in
+    let one = messages_one t.report.frame t.report.step in
     subst (λ y. Counted limits σ y (e ∷ []) τ (suc (messages_in t.run))) (sym t.joined)
     (run_then σ t.between τ t.silent t.message [] (e ∷ []) t.run last, omega (arith, all, one))
 

@@ -119,7 +119,7 @@ module _ {limits : Limits} (start : Option (List ℕ)) (s t : Reader) (before : 
       let h = taken_denotes start t.remaining (Ok (table_with r.batches, end))
       (record { x = o.x ++ r.x; bytes = taken after (Ok end) r; gives = reads after (Ok end) r }) in
       let sent = all_sent r.batches after.written after.failures r.sent in
-      let told = table_tells (at_least_standard limits) (table_with r.batches) sent.x sent.whole in
+      let report = table_tells (at_least_standard limits) (table_with r.batches) sent.x sent.whole in
       record {
         x = h.0;
         table = table_with r.batches;
@@ -131,7 +131,7 @@ module _ {limits : Limits} (start : Option (List ℕ)) (s t : Reader) (before : 
         accepts = all_accepted r.batches r.accepts;
         sent = record {
           x = sent.x ++ mark.x;
-          whole = (sent.x, ap (λ y. sent.x ++ y) mark.whole, (Some told.0, told.1.1));
+          whole = (sent.x, ap (λ y. sent.x ++ y) mark.whole, (Some report.0, report.1.1));
           bytes = Appends-trans w0 after.written w1 sent.x mark.x sent.bytes mark.bytes;
           worked = sent.worked;
           works = mark.works;

@@ -9,9 +9,9 @@ use Rattle.job_rewrite.specs.declared.stop.RewriteStop.TheVariants as stop
 -- read was reported, in order. Where writing failed, the last one that was read may have no report
 abbrev pub ReportsSentBatches : Limits → Option (List ℕ) → Option (List ℕ) → Option (List Report)
     → Option (List Report) → Result ⊤ RewriteStop → Type 0
-ReportsSentBatches limits old new told_old told_new (Ok done) =
-    ReportsAll limits old new told_old told_new
-ReportsSentBatches limits old new told_old told_new (Err (stop.Read fault message)) =
-    ReportsBefore limits old new told_old told_new fault
-ReportsSentBatches limits old new told_old told_new (Err (stop.Write fault)) =
-    ReportsSome limits old new told_old told_new
+ReportsSentBatches limits old new reports_old reports_new (Ok done) =
+    ReportsAll limits old new reports_old reports_new
+ReportsSentBatches limits old new reports_old reports_new (Err (stop.Read fault message)) =
+    ReportsBefore limits old new reports_old reports_new fault
+ReportsSentBatches limits old new reports_old reports_new (Err (stop.Write fault)) =
+    ReportsSome limits old new reports_old reports_new

@@ -18,7 +18,7 @@ use Rattle.ipc_column.specs.Dictionaries.{Dictionaries}
 use Rattle.ipc_column.specs.Lending.{AreNumbers, layouts_of, lent_number}
 use Rattle.ipc_column.specs.Lent.{AreFound, AreOfColumn, HoldSlots, without_null_count, values_in}
 use Rattle.ipc_column.specs.Nested.{Nested, only_column, found_columns, slot_values, with_children}
-use Rattle.ipc_column.specs.checks.Rules.{SpellsTexts}
+use Rattle.ipc_column.specs.checks.Rules.{HasUtf8Texts}
 use Rattle.ipc_column.specs.Shapes.{shape_of, assigned_columns, field_layout, field_children, node_count, buffer_count}
 use Rattle.ipc_column.specs.Slots.{nested}
 use Rattle.ipc_column.specs.Values.{own_value, row, rows_of, value_of}
@@ -94,7 +94,7 @@ module _ (body : List ℕ) (ps : List ColumnRanges) (n j : ℕ) (p : ColumnRange
       subst (λ (cs : Columns). AreOfColumn (rows_of (part_columns body ps) n) j (values_in (without_null_count (column_of body p)) cs))
       (children_out body p) (column_rows body ps n j p inside is holds)
 
-  pub slots_texts : (i : ℕ) → i < length (slot_values (nested body p)) → SpellsTexts (only_column (nested body p)) i
+  pub slots_texts : (i : ℕ) → i < length (slot_values (nested body p)) → HasUtf8Texts (only_column (nested body p)) i
   slots_texts =
       slots_spell (without_null_count (column_of body p)) body (out-ColumnRanges p).children.items (nested body p)
       (slot_values (nested body p)) refl refl refl

@@ -17,14 +17,14 @@ use Rattle.ipc_column.specs.Columns.{Column, Columns, none, column, EachTop, eve
 use Rattle.ipc_column.specs.Values.{is_valid, own_value, offset_position, row, value_of}
 use Rattle.ipc_column.specs.checks.Checks.{are_ascending, children_have_slots, have_slots, holds_offsets, in_order, passes}
 use Rattle.ipc_column.specs.checks.Checks.{good, good_slot}
-use Rattle.ipc_column.specs.checks.Rules.{SpellsTexts}
-use Rattle.ipc_column.specs.Lent.{HoldSlots, AreFound, column_of_buffers, without_null_count, values_in}
+use Rattle.ipc_column.specs.checks.Rules.{HasUtf8Texts}
+use Rattle.ipc_column.specs.Lent.{HoldSlots, AreFound, column_of_buffers, values_in}
 use Rattle.ipc_column.specs.Nested.{Nested, only_column, slot_values}
 use Rattle.ipc_column.specs.Slots.{is_null, nested}
 use Rattle.ipc_column.specs.Views.{part_columns, column_of, children_of}
 use Rattle.ipc_column.specs.Spans.{span_bytes}
 use Rattle.ipc_column.proofs.Found.{found_is, items_first}
-use Rattle.ipc_column.proofs.Parts.{column_is, every_at}
+use Rattle.ipc_column.proofs.Parts.{every_at}
 use Rattle.ipc_column.proofs.lending.FixedLists.{slots_any}
 use Rattle.ipc_column.proofs.visited.Goods.{fewer_slots, good_one, slots_from}
 use Rattle.ipc_column.proofs.Rules.{of_have_slots}
@@ -176,13 +176,6 @@ found_again body p v o w d ev eo ew ed h = found_is body p v o w d ev eo ew ed A
   sound = h.sound;
 })
 
--- the column that was found
-pub found_column : (body : List ℕ) (p : ColumnRanges) (v o w : List ℕ) (d : List Value) → v ≡ span_bytes body (out-ColumnRanges p).validity
-    → o ≡ span_bytes body (out-ColumnRanges p).offsets → w ≡ span_bytes body (out-ColumnRanges p).values
-    → d ≡ (out-ColumnRanges p).dictionary
-    → column_of_buffers (out-ColumnRanges p).layout (out-ColumnRanges p).slots v o w d ≡ without_null_count (column_of body p)
-found_column body p v o w d ev eo ew ed = rw (ev, eo, ew, ed) (sym (ap without_null_count (column_is body p)))
-
 -- buffers whose slots are good have what these need
 pub found_from : (c : Column) (cs : Columns) → HoldSlots c cs → AreFound c cs
 found_from c cs h = record {
@@ -210,7 +203,7 @@ slot_shows c body ps n i e m =
     ∙ items_first (value_of (row (part_columns body ps)) c) c.slots i (slot_inside c body ps n i e m)
 
 -- the texts that the slots of a column lead to are UTF-8
-texts_of : (c : Column) (cs : Columns) → HoldSlots c cs → (i : ℕ) → i < c.slots → SpellsTexts (column c cs none) i
+texts_of : (c : Column) (cs : Columns) → HoldSlots c cs → (i : ℕ) → i < c.slots → HasUtf8Texts (column c cs none) i
 texts_of c cs h i m =
     (of_good (column c cs none) 0 c.slots).0
     (good_one cause.ValueNotUtf8 c cs 0 c.slots ∙ slots_from (good_slot cause.ValueNotUtf8 (good cause.ValueNotUtf8 cs) c) 0 c.slots
@@ -218,11 +211,11 @@ texts_of c cs h i m =
 
 pub slots_spell : (c : Column) (body : List ℕ) (ps : List ColumnRanges) (n : Nested) (vs : List Value) → n.column ≡ c → n.body ≡ body
     → n.children ≡ ps → HoldSlots c (part_columns body ps) → values_in c (part_columns body ps) ≡ vs → (i : ℕ) → i < length vs
-    → SpellsTexts (only_column n) i
+    → HasUtf8Texts (only_column n) i
 slots_spell c body ps n vs ec eb ep h e i m =
     let inside : i < c.slots = subst (λ (k : ℕ). i < k)
     (ap (λ (xs : List Value). length xs) (sym e) ∙ items_length (value_of (row (part_columns body ps)) c) 0 c.slots) m in
-    subst (λ (d : Column). SpellsTexts (column d (part_columns n.body n.children) none) i) (sym ec)
-    (subst (λ (b : List ℕ). SpellsTexts (column c (part_columns b n.children) none) i) (sym eb)
-    (subst (λ (q : List ColumnRanges). SpellsTexts (column c (part_columns body q) none) i) (sym ep)
+    subst (λ (d : Column). HasUtf8Texts (column d (part_columns n.body n.children) none) i) (sym ec)
+    (subst (λ (b : List ℕ). HasUtf8Texts (column c (part_columns b n.children) none) i) (sym eb)
+    (subst (λ (q : List ColumnRanges). HasUtf8Texts (column c (part_columns body q) none) i) (sym ep)
     (texts_of c (part_columns body ps) h i inside)))

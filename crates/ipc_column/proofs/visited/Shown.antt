@@ -12,7 +12,7 @@ use Rattle.ipc_model.specs.declared.value.Value.{Value}
 use Rattle.ipc_column.specs.declared.cause.Cause.TheVariants as cause
 use Rattle.ipc_column.specs.checks.Checks.{all_slots, good, good_below, good_slot}
 use Rattle.ipc_column.specs.Columns.{Column, Columns, none, column}
-use Rattle.ipc_column.specs.checks.Rules.{HasIndex, HoldsIndices, IsIndex, IsText, SpellsTexts}
+use Rattle.ipc_column.specs.checks.Rules.{HasIndex, HoldsIndices, IsIndex, IsText, HasUtf8Texts}
 use Rattle.ipc_column.specs.Values.{is_valid, number_in, offset_position, place_below}
 use Rattle.ipc_column.proofs.visited.Goods.{slots_at, slots_from}
 
@@ -45,15 +45,15 @@ of_text _ _ below P d o w i = (λ e. tt, λ h. refl)
 
 -- the test of a range of slots decides whether what is visible in each is UTF-8
 pub of_good : (cs : Columns) (a b : ℕ)
-    → Decides (good cause.ValueNotUtf8 cs a b) ((i : ℕ) → a ≤ i → i < b → SpellsTexts cs i)
+    → Decides (good cause.ValueNotUtf8 cs a b) ((i : ℕ) → a ≤ i → i < b → HasUtf8Texts cs i)
 of_good none a b = (λ e i l m. tt, λ h. refl)
 of_good (column c children rest) a b =
     Decides-like _ (λ h i l m. (h.0 i l m, h.1 i l m)) (λ h. (λ i l m. (h i l m).0, λ i l m. (h i l m).1))
     (Decides-and _ _
     (decides_slots (good_slot cause.ValueNotUtf8 (good cause.ValueNotUtf8 children) c) (λ i. is_valid c.validity i ≡ true
-    → IsText c.layout (SpellsTexts children) c.offsets c.values i)
+    → IsText c.layout (HasUtf8Texts children) c.offsets c.values i)
     (λ i. of_when (is_valid c.validity i) _ (λ e. e, λ e. e)
-    (of_text c.layout c.dictionary (good cause.ValueNotUtf8 children) (SpellsTexts children) (of_good children) c.offsets c.values i)) a b)
+    (of_text c.layout c.dictionary (good cause.ValueNotUtf8 children) (HasUtf8Texts children) (of_good children) c.offsets c.values i)) a b)
     (of_good rest a b))
 
 -- ---- indices

@@ -1,5 +1,5 @@
 -- The values that slots of a layout can have (Arrow Columnar Format, "Physical Memory Layout").
-use Rattle.std.specs.Prelude.{◌≡◌, ℕ, ◌+◌, true, false, List, [], ◌∷◌, length, ⊤}
+use Rattle.std.specs.Prelude.{◌≡◌, true, false, length, ⊤}
 use Rattle.ipc_model.specs.Ranges.{width, IsSignedWithin, IsUnsignedWithin}
 use Rattle.ipc_model.specs.declared.layout.Layout.{Layout}
 use Rattle.ipc_model.specs.declared.layout.Layout.TheVariants as l
@@ -31,14 +31,3 @@ IsShownBy (l.VariableBytes utf8) v.Null = ⊤
 IsShownBy (l.VariableBytes true) (v.Text text) = ⊤
 IsShownBy (l.VariableBytes false) (v.Bytes bytes) = ⊤
 IsShownBy (l.VariableBytes utf8) value = ⊥
-
--- the bytes of a text or of binary; none of another value
-abbrev pub text_bytes : Value → List ℕ
-text_bytes (v.Bytes bytes) = bytes
-text_bytes (v.Text text) = text
-text_bytes _ = []
-
--- how many bytes the texts and binary values have together
-abbrev pub text_bytes_len : List Value → ℕ
-text_bytes_len [] = 0
-text_bytes_len (value ∷ values) = length (text_bytes value) + text_bytes_len values

@@ -172,15 +172,15 @@ IsText (l.Indices bits signed id) below offsets values i = ⊤
 
 -- slot i of each column, if it is valid, holds only texts in UTF-8; a null slot and what is below
 -- it are not read
-abbrev pub SpellsTexts : Columns → ℕ → Type 0
-SpellsTexts none i = ⊤
-SpellsTexts (column c children rest) i = (is_valid c.validity i ≡ true
-    → IsText c.layout (SpellsTexts children) c.offsets c.values i) × SpellsTexts rest i
+abbrev pub HasUtf8Texts : Columns → ℕ → Type 0
+HasUtf8Texts none i = ⊤
+HasUtf8Texts (column c children rest) i = (is_valid c.validity i ≡ true
+    → IsText c.layout (HasUtf8Texts children) c.offsets c.values i) × HasUtf8Texts rest i
 
 -- the texts of each row are UTF-8
 abbrev pub HasTexts : Dictionaries → List Field → BatchHead → List ℕ → Type 0
 HasTexts m fields head body = (i : ℕ) → i < unsigned_abs head.length
-    → SpellsTexts (field_columns m fields head body) i
+    → HasUtf8Texts (field_columns m fields head body) i
 
 -- an index is at least 0 and below the number of the dictionary's values (Arrow Columnar Format,
 -- "Dictionary-encoded Layout")

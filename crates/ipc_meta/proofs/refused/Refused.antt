@@ -17,7 +17,7 @@ use Rattle.ipc_meta.specs.Heads.{numbers_at}
 use Rattle.ipc_meta.specs.Reading.{batch_read, when_plain}
 use Rattle.ipc_meta.specs.Reached.{TableKind, record_batch, number, table, text, tables, structs, ReadsField, compression, length, nodes}
 use Rattle.ipc_meta.specs.Reached.{buffers}
-use Rattle.ipc_meta.specs.Reached.{HasTable, IsIllFormed, HasIllFormed, at_field, HasOtherText, at_text}
+use Rattle.ipc_meta.specs.Reached.{HasTable, IsIllFormed, HasIllFormed, at_field, HasInvalidUtf8, at_text}
 use Rattle.ipc_meta.specs.Causes.{Cause}
 use Rattle.ipc_meta.proofs.Texts.{no_slot, no_table_in, no_tables_in, no_structs_in}
 use Rattle.ipc_model.specs.declared.limits.Limits.{Limits}
@@ -31,7 +31,7 @@ step (Err d) next e h here there = let same : d ≡ e = cc in here (ap Err same)
 
 -- a FlatBuffer's fault is that of a text, or that something is ill-formed
 pub illegible : (limits : Limits) → {A : Type 0} (b : List ℕ) (r : Result A FlatFault) (e : Fault) → map_fault r ≡ Err e
-    → (r ≡ Err flat.NotUtf8 → HasOtherText b)
+    → (r ≡ Err flat.NotUtf8 → HasInvalidUtf8 b)
     → (IsIllFormed r → HasIllFormed b) → Cause limits b e
 illegible limits b (Ok x) e h other ill = absurd (cc)
 illegible limits b (Err flat.NotUtf8) e h other ill = let same : f.NameNotUtf8 ≡ e = cc in subst (Cause limits b) same (other refl)

@@ -16,7 +16,8 @@ use Rattle.ipc_meta.specs.Reading.{each, text_read, pair_read, pairs_read, type_
 use Rattle.ipc_meta.specs.Reached as r
 use Rattle.ipc_meta.specs.Reached.{TableKind, schema, batch_message, column, key_value, text, tables, ReadsField, HasTable, Element, IsDeep}
 use Rattle.ipc_meta.specs.Reached.{at_field}
-use Rattle.ipc_meta.specs.Totals.{or_zero, sum_tables, count_in, sum_in, text_len_at, pair_text_in, own_text, tree, total_fields}
+use Rattle.ipc_meta.specs.Totals.{or_zero, sum_tables, count_in, sum_in, text_len_at, pair_text_in, own_text, tree_sum}
+use Rattle.ipc_meta.specs.Totals.{total_fields}
 use Rattle.ipc_meta.specs.Totals.{total_text}
 use Rattle.ipc_meta.specs.Totals.{total_pairs}
 use Rattle.ipc_meta.specs.Totals.{message_pairs}
@@ -222,16 +223,17 @@ fields_refused {limits} g wa wb wc b s kind t k left e hs takes room has look ba
 -- where a Field table, or one below it, can't be read with what is left, the fault's cause is true of the metadata
 pub field_refused : {limits : Limits} → (b : List ℕ) (s : TableView) (depth n : ℕ) (t : TableView) (left : Budget) (e : Fault)
     → HasTable b schema s
-    → Room limits (by_schema limits s) left (tree children_in depth t) (tree own_text depth t) (tree pairs_in depth t) → IsDeep s n t
+    → Room limits (by_schema limits s) left (tree_sum children_in depth t) (tree_sum own_text depth t) (tree_sum pairs_in depth t)
+    → IsDeep s n t
     → depth + n ≡ limits.depth + 1
     → HasTable b column t → field_read depth t left ≡ Err e → Cause limits b e
-unfolding field_read tree
+unfolding field_read tree_sum
 field_refused {limits} b s zero n t left e hs room deep is has h = let same : f.TooDeep ≡ e =
     cc in subst (Cause limits b) same (s, hs, (t, n, omega arith, deep))
 field_refused {limits} b s (suc depth) n t left e hs room deep is has h =
-    let wa = sum_in (tree children_in depth) t 5 in
-    let wb = sum_in (tree own_text depth) t 5 in
-    let wc = sum_in (tree pairs_in depth) t 5 in
+    let wa = sum_in (tree_sum children_in depth) t 5 in
+    let wb = sum_in (tree_sum own_text depth) t 5 in
+    let wc = sum_in (tree_sum pairs_in depth) t 5 in
     let zone = or_zero kind_text (type_at t) in
     let words = sum_in pair_text_in t 6 in
     step (text_read t 0 left) _ e h (text_refused limits b (by_schema limits s) column t 0 left e (schema_tells b s hs) (omega (
@@ -253,7 +255,8 @@ field_refused {limits} b s (suc depth) n t left e hs room deep is has h =
     later (by_schema limits s) κ.1 ps.1 0 words (count_in t 6) _ _ _ _ _ _ two (pairs_spent t 6 κ.1 ps k) (omega arith) (omega arith)
     (omega arith) in
     step (fields_read (field_read depth) t 5 ps.1) _ e h
-    (fields_refused (field_read depth) (tree children_in depth) (tree own_text depth) (tree pairs_in depth) b s column t 5 ps.1 e hs
+    (fields_refused (field_read depth) (tree_sum children_in depth) (tree_sum own_text depth) (tree_sum pairs_in depth) b s column t 5 ps.1
+    e hs
     (field_spent depth) three has r.children
     (λ u l at room h. field_refused b s depth (n + 1) u l e hs room (r.one_deeper deep at) (omega arith) (r.of_child has at) h))
     (λ cs i h. absurd (cc)))))))
@@ -276,7 +279,8 @@ pub columns_refused : (limits : Limits) (b : List ℕ) (s : TableView) (x : List
     → pairs_read s 2 (whole limits) ≡ Ok x → fields_read (field_read limits.depth) s 1 x.1 ≡ Err e → Cause limits b e
 columns_refused limits b s x e hs p h =
     let spent = pairs_spent s 2 (whole limits) x p in
-    fields_refused {limits = limits} (field_read limits.depth) (tree children_in limits.depth) (tree own_text limits.depth) (tree pairs_in
+    fields_refused {limits = limits} (field_read limits.depth) (tree_sum children_in limits.depth) (tree_sum own_text limits.depth)
+    (tree_sum pairs_in
     limits.depth) b s schema s 1 x.1 e hs (field_spent limits.depth)
     (record { fields = omega (arith, spent.fields); text = omega (arith, spent.text); pairs = omega (arith, spent.pairs) }) hs r.fields
     (λ u l at room h. field_refused b s limits.depth 1 u l e hs room (r.at_top at) refl (r.of_column hs at) h) h

@@ -24,7 +24,7 @@ use Rattle.ipc_meta.specs.Fields.{VectorAt, FieldAt}
 use Rattle.ipc_meta.specs.Reached.{schema, HasTable}
 use Rattle.ipc_meta.specs.Causes.{HasDictionaryColumn, Cause, in_schema}
 use Rattle.ipc_meta.proofs.GoodTypes.{good_type}
-use Rattle.ipc_meta.proofs.Entries.{Told, entries_told}
+use Rattle.ipc_meta.proofs.Entries.{ReturnedEvent, entries_told}
 use Rattle.ipc_meta.proofs.Totals.{Totals, schema_totals}
 use Rattle.ipc_meta.proofs.Sound.{fields_sound, field_sound}
 use Rattle.ipc_meta.specs.declared.budget.Budget.{Budget}
@@ -61,10 +61,11 @@ leaf_test _ h leaf = cc
 abbrev AreEncoded : List ℕ → (ℤ → Option DataType) → Type 0
 AreEncoded b kinds = (id : ℤ) (κ : DataType) → kinds id ≡ Some κ → HasDictionaryColumn b id κ
 
-encoded : (b : List ℕ) (s : TableView) (e : Entry) (d : Dictionary) → Told b s e → e.dictionary ≡ Some d → HasDictionaryColumn b d.id e.kind
+encoded : (b : List ℕ) (s : TableView) (e : Entry) (d : Dictionary) → ReturnedEvent b s e → e.dictionary ≡ Some d
+    → HasDictionaryColumn b d.id e.kind
 encoded b s e d h is = (h.table, h.has, (h.kind, (d, h.dictionary ∙ ap Ok is, refl)))
 
-encoded_after : (b : List ℕ) (s : TableView) (kinds : ℤ → Option DataType) (e : Entry) → Told b s e → AreEncoded b kinds
+encoded_after : (b : List ℕ) (s : TableView) (kinds : ℤ → Option DataType) (e : Entry) → ReturnedEvent b s e → AreEncoded b kinds
     → AreEncoded b (with_kind kinds e.dictionary e.kind)
 encoded_after b s kinds e h all = go e.dictionary refl
   where
@@ -77,7 +78,8 @@ encoded_after b s kinds e h all = go e.dictionary refl
         (subst (HasDictionaryColumn b d.id) type (encoded b s e d h is)))
         (λ other k. all id κ k)
 
-conflict : (limits : Limits) (b : List ℕ) (s : TableView) (kinds : ℤ → Option DataType) (e : Entry) → Told b s e → AreEncoded b kinds
+conflict : (limits : Limits) (b : List ℕ) (s : TableView) (kinds : ℤ → Option DataType) (e : Entry) → ReturnedEvent b s e
+    → AreEncoded b kinds
     → has_conflict kinds e.dictionary e.kind ≡ true → Cause limits b (reader_fault (check.DictionaryConflict 0))
 conflict limits b s kinds e h all = go e.dictionary refl
   where
@@ -99,7 +101,7 @@ conflict limits b s kinds e h all = go e.dictionary refl
               same_itself first in cc,
         )
 
-nested : (limits : Limits) (b : List ℕ) (s : TableView) (e : Entry) → Told b s e → has_leaf_dictionary e ≡ false
+nested : (limits : Limits) (b : List ℕ) (s : TableView) (e : Entry) → ReturnedEvent b s e → has_leaf_dictionary e ≡ false
     → Cause limits b (reader_fault (check.NestedDictionary 0))
 nested limits b s e h = go e.dictionary refl
   where
@@ -142,7 +144,7 @@ text_refused {limits} b s a hs w h = in_schema (
 )
 
 entry_refused : {limits : Limits} → (b : List ℕ) (s : TableView) (a : Before) (e : Entry) (x : SchemaFault) → HasTable b schema s
-    → Told b s e
+    → ReturnedEvent b s e
     → AreEncoded b a.kinds → Within limits s (after a e) [] → fault_at limits a e ≡ Some x → Cause limits b (reader_fault x)
 entry_refused {limits} b s a e x hs h all w k =
     choose (not (has_good_type e.kind)) _ _ _ k
@@ -150,31 +152,31 @@ entry_refused {limits} b s a e x hs h all w k =
     choose (not (has_fitting_children e.kind e.children)) _ _ _ k
     (λ i k. let same : check.BadChildren (a.fields + 1) ≡ x = cc in
     let fits : has_fitting_children e.kind h.elements.len ≡ false = rw h.many (is_false _ i) in
-    told same (h.table, h.has, (e.kind, h.elements, h.kind, h.vector, fitting_test e.kind h.elements.len fits))) (λ i k.
+    report same (h.table, h.has, (e.kind, h.elements, h.kind, h.vector, fitting_test e.kind h.elements.len fits))) (λ i k.
     choose (not (nat_le (a.fields + 1) limits.fields)) _ _ _ k
     (λ i k. let same : check.TooManyFields (a.fields + 1) ≡ x = cc in
     let few : nat_le (a.fields + 1) limits.fields ≡ false = is_false _ i in
     let more : limits.fields < a.fields + 1 = grind (arith, nat_tests) in
     let all = w.fields in
-    told same (s, hs, omega (arith, more, all))) (λ i k.
+    report same (s, hs, omega (arith, more, all))) (λ i k.
     choose (not (nat_le e.depth limits.depth)) _ _ _ k
     (λ i k. let same : check.TooDeep (a.fields + 1) ≡ x = cc in
     let shallow : nat_le e.depth limits.depth ≡ false = is_false _ i in
     let deeper : limits.depth < e.depth = grind (arith, nat_tests) in
-    told same (s, hs, (h.table, e.depth, deeper, h.deep))) (λ i k.
+    report same (s, hs, (h.table, e.depth, deeper, h.deep))) (λ i k.
     choose (not (is_little_text limits (after a e))) _ _ _ k
-    (λ i k. let same : check.TooMuchText (a.fields + 1) ≡ x = cc in told same (text_refused b s (after a e) hs w (is_false _ i))) (λ i k.
+    (λ i k. let same : check.TooMuchText (a.fields + 1) ≡ x = cc in report same (text_refused b s (after a e) hs w (is_false _ i))) (λ i k.
     choose (has_conflict a.kinds e.dictionary e.kind) _ _ _ k
-    (λ i k. let same : check.DictionaryConflict (a.fields + 1) ≡ x = cc in told same (conflict limits b s a.kinds e h all i)) (λ i k.
+    (λ i k. let same : check.DictionaryConflict (a.fields + 1) ≡ x = cc in report same (conflict limits b s a.kinds e h all i)) (λ i k.
     choose (not (has_leaf_dictionary e)) _ _ _ k
-    (λ i k. let same : check.NestedDictionary (a.fields + 1) ≡ x = cc in told same (nested limits b s e h (is_false _ i)))
+    (λ i k. let same : check.NestedDictionary (a.fields + 1) ≡ x = cc in report same (nested limits b s e h (is_false _ i)))
     (λ i k. absurd (cc))))))))
   where
-    told : {y : SchemaFault} → y ≡ x → Cause limits b (reader_fault y) → Cause limits b (reader_fault x)
-    told same cause = subst (λ y. Cause limits b (reader_fault y)) same cause
+    report : {y : SchemaFault} → y ≡ x → Cause limits b (reader_fault y) → Cause limits b (reader_fault x)
+    report same cause = subst (λ y. Cause limits b (reader_fault y)) same cause
 
 scan_refused : {limits : Limits} → (b : List ℕ) (s : TableView) (es : List Entry) (a : Before) (x : SchemaFault) → HasTable b schema s
-    → AllByRecursion (Told b s) es → AreEncoded b a.kinds → Within limits s a es → scan limits a es ≡ Err x
+    → AllByRecursion (ReturnedEvent b s) es → AreEncoded b a.kinds → Within limits s a es → scan limits a es ≡ Err x
     → Cause limits b (reader_fault x)
 scan_refused {limits} b s [] a x hs h all w k = absurd (cc)
 scan_refused {limits} b s (e ∷ es) a x hs h all w k =

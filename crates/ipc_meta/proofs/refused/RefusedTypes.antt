@@ -20,7 +20,8 @@ use Rattle.ipc_meta.specs.Reached as r
 use Rattle.ipc_meta.specs.Reached.{TableKind, schema, column, type_value, dictionary_encoding, index_type, number, tables, ReadsField}
 use Rattle.ipc_meta.specs.Reached.{HasTable}
 use Rattle.ipc_meta.specs.Reached.{Element}
-use Rattle.ipc_meta.specs.Causes.{Cause, IsNoType, other_width, other_date_unit, other_time_unit, negative_width, no_table, no_type}
+use Rattle.ipc_meta.specs.Causes.{Cause, IsInvalidTypeTable, other_width, other_date_unit, other_time_unit, negative_width, no_table}
+use Rattle.ipc_meta.specs.Causes.{no_type}
 use Rattle.ipc_meta.specs.Causes.{negative_size, other_time_of_day_unit, other_time_of_day_width, other_duration_unit}
 use Rattle.ipc_meta.proofs.refused.Refused.{step, bad_number, bad_flag, bad_table, bad_value, bad_text}
 use Rattle.ipc_model.specs.declared.limits.Limits.{Limits}
@@ -57,7 +58,7 @@ fixed_list_refused (pos n) e h = absurd (cc)
 fixed_list_refused (negsuc n) e h = (cc, refl)
 
 timestamp_refused : (limits : Limits) (b : List ℕ) (t : TableView) (e : Fault) → HasTable b (type_value 10) t → timestamp_at t ≡ Err e
-    → (f.BadType ≡ e → IsNoType 10 t → Cause limits b e) → Cause limits b e
+    → (f.BadType ≡ e → IsInvalidTypeTable 10 t → Cause limits b e) → Cause limits b e
 timestamp_refused limits b t e has h bad =
     step (map_fault (scalar t 0 2 int16 (pos 0))) _ e h (bad_number limits b (type_value 10) t 0 2 int16 (pos 0) e has r.time_unit)
     (λ w i h.
@@ -73,7 +74,7 @@ time_in_refused unit w e h =
     choose (int_eq w bits) _ _ _ h (λ i h. absurd (cc)) (λ i h. (cc, λ same. let is = (Decides-int_eq w bits).1 same in cc))
 
 time_refused : (limits : Limits) (b : List ℕ) (t : TableView) (e : Fault) → HasTable b (type_value 9) t → time_at t ≡ Err e
-    → (f.BadType ≡ e → IsNoType 9 t → Cause limits b e) → Cause limits b e
+    → (f.BadType ≡ e → IsInvalidTypeTable 9 t → Cause limits b e) → Cause limits b e
 time_refused limits b t e has h bad =
     step (map_fault (scalar t 0 2 int16 (pos 1))) _ e h (bad_number limits b (type_value 9) t 0 2 int16 (pos 1) e has r.time_of_day_unit)
     (λ n i
@@ -89,7 +90,7 @@ time_refused limits b t e has h bad =
     (w, lift_ok (scalar t 1 4 int32 (pos 32)) w k, p.1)))))
 
 duration_refused : (limits : Limits) (b : List ℕ) (t : TableView) (e : Fault) → HasTable b (type_value 18) t → duration_at t ≡ Err e
-    → (f.BadType ≡ e → IsNoType 18 t → Cause limits b e) → Cause limits b e
+    → (f.BadType ≡ e → IsInvalidTypeTable 18 t → Cause limits b e) → Cause limits b e
 duration_refused limits b t e has h bad =
     step (map_fault (scalar t 0 2 int16 (pos 1))) _ e h (bad_number limits b (type_value 18) t 0 2 int16 (pos 1) e has r.duration_unit)
     (λ n i h.
@@ -139,7 +140,7 @@ type_of_refused limits b code t e known has h =
     at : (n : ℕ) → (code == n) ≡ true → HasTable b (type_value n) t
     at n i = let same : code ≡ n = eqb-true code n i in subst (λ k. HasTable b (type_value k) t) same has
 
-    bad : (n : ℕ) → (code == n) ≡ true → f.BadType ≡ e → IsNoType n t → Cause limits b e
+    bad : (n : ℕ) → (code == n) ≡ true → f.BadType ≡ e → IsInvalidTypeTable n t → Cause limits b e
     bad n i same none = subst (Cause limits b) same (no_type (t, at n i, none))
 
 bad_code : (limits : Limits) (b : List ℕ) (t : TableView) (e : Fault) → HasTable b column t → code_at t ≡ Err e → Cause limits b e

@@ -78,10 +78,6 @@ marked x = x - 3400270702189752368
 digits_are : (n x : ℕ) → x < 2 ^ 64 → to_le_bytes w64 x ≡ last_digits 8 n → x ≡ from_le_bytes w64 (last_digits 8 n)
 digits_are n x s e = sym (from_le_bytes-to_le_bytes_8 x s) ∙ ap (from_le_bytes w64) e
 
--- eight digits read as one number are large enough for what is taken from it
-pub no_wrap : (n x : ℕ) → x < 2 ^ 64 → to_le_bytes w64 x ≡ last_digits 8 n → 3400270702189752368 ≤ x
-no_wrap n x s e = omega (arith, digits_are n x s e)
-
 front_7 : (n x : ℕ) → x < 2 ^ 64 → to_le_bytes w64 x ≡ last_digits 8 n → 0 ≤ n → n < 10 → count 64 (marked x) / 8 ≡ 7
 front_7 n x s e low high =
     let is = digits_are n x s e in

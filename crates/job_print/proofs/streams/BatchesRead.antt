@@ -14,8 +14,8 @@ use Rattle.ipc_stream_read.specs.declared.stream_phase.StreamPhase.TheVariants.{
 use Rattle.ipc_stream_read.specs.Failures.{CountsFault}
 use Rattle.ipc_stream_read.specs.Reader.{EndsBehind, Reader, in_force_of, NextCall, end_of}
 use Rattle.ipc_stream_read.specs.Stream.{batch, Run, done}
-use Rattle.job_print.specs.declared.rows.PrintFault.{PrintFault}
-use Rattle.job_print.specs.declared.rows.PrintFault.TheVariants.{Write}
+use Rattle.job_print.specs.declared.line_buffer.PrintFault.{PrintFault}
+use Rattle.job_print.specs.declared.line_buffer.PrintFault.TheVariants.{Write}
 use Rattle.ipc_model.specs.declared.schema.Field.{Field}
 use Rattle.ipc_model.specs.declared.schema.Schema.{Schema}
 use Rattle.ipc_text_temporal.specs.declared.fault.TextFault.{TextFault}

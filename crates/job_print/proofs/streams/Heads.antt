@@ -4,7 +4,7 @@ use Rattle.ipc_model.specs.declared.schema.Field.{Field}
 use Rattle.ipc_model.specs.declared.value.Value.{Value}
 use Rattle.ipc_text_temporal.specs.declared.fault.TextFault.{TextFault}
 use Rattle.job_print.specs.declared.form.Form.{Form}
-use Rattle.job_print.specs.declared.rows.PrintFault.{PrintFault}
+use Rattle.job_print.specs.declared.line_buffer.PrintFault.{PrintFault}
 use Rattle.job_print.specs.Output.{Output, output, Puts}
 use Rattle.job_print.specs.Streams.{PutsRows}
 use Rattle.job_print.proofs.Puts.{puts_then, puts_not_then}

@@ -90,7 +90,7 @@ last_shortest {limits} σ τ υ x y es e run t = λ u v ω is other.
     let on = run_on t.message v (e ∷ []) front other refl (λ none. absurd (cc)) all in
     let left : t.message ≡ on.rest ++ v = append_cancel_left (x ++ t.silent) t.message (on.rest ++ v)
     (all ∙ (ap (λ l. l ++ v) on.joined ∙ append_assoc (x ++ t.silent) on.rest v)) in
-    let last = message_on [] v [] t.told (λ none. absurd (cc)) on.run (sym (append-nil (e ∷ []))) (append-nil t.message ∙ left) in
+    let last = message_on [] v [] t.report (λ none. absurd (cc)) on.run (sym (append-nil (e ∷ []))) (append-nil t.message ∙ left) in
     nothing_after t.message last.rest v (append-nil t.message ∙ (left ∙ ap (λ l. l ++ v) last.joined))
 
 -- a dictionary that was set stays in force

@@ -48,11 +48,6 @@ pub backslash_quoted : (c : ℕ) (text field : List ℕ) → (needs_quotes (writ
 backslash_quoted c text field needs =
     rw (either_needs c field, needs, escaped_alike c (92 ∷ field), backslash_between field) (simp append_assoc refl)
 
--- and one that needs none
-pub backslash_plain : (c : ℕ) (text field : List ℕ) → (needs_quotes (writer c) (92 ∷ []) || needs_quotes (writer c) field) ≡ false
-    → (text ++ 92 ∷ []) ++ field ≡ with_field c text (92 ∷ field)
-backslash_plain c text field needs = rw (either_needs c field, needs) (append_assoc text (92 ∷ []) field)
-
 -- a field that needs quotes, between them
 pub field_quoted : (c : ℕ) (text field : List ℕ) → needs_quotes (writer c) field ≡ true
     → text ++ (34 ∷ []) ++ escaped default_writer field ++ 34 ∷ [] ≡ with_field c text field

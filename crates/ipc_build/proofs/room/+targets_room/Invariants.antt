@@ -7,14 +7,14 @@ use Rattle.ipc_build.proofs.room.+targets_room.Given as goal
 
 abbrev pub invariant-targets_room-loop-slot : goal.invariant-targets_room-loop-slot
 invariant-targets_room-loop-slot l = record {
-  sum : l.sum + targets_room (fields_view (drop l.slot-index l.slots)) ≡ l.taken + targets_room (fields_view l.slots);
+  sum : l.sum + targets_room (fields_view (drop l.slot-index l.slots)) ≡ l.size + targets_room (fields_view l.slots);
   small : l.sum ≤ l.greatest;
   fine : InRange (fields_view (drop l.slot-index l.slots)) → InRange (fields_view l.slots);
 }
 
 abbrev pub invariant-elements_room-loop-tree : goal.invariant-elements_room-loop-tree
 invariant-elements_room-loop-tree l = record {
-  sum : l.sum + targets_room (tables_view (drop l.tree-index l.trees)) ≡ l.taken + targets_room (tables_view l.trees);
+  sum : l.sum + targets_room (tables_view (drop l.tree-index l.trees)) ≡ l.size + targets_room (tables_view l.trees);
   small : l.sum ≤ l.greatest;
   fine : InRange (tables_view (drop l.tree-index l.trees)) → InRange (tables_view l.trees);
 }

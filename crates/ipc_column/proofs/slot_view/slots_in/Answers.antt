@@ -3,7 +3,7 @@ use Rattle.std.specs.Prelude.{slice_get}
 use Rattle.ipc_model.specs.declared.layout.Layout.{Layout}
 use Rattle.ipc_column.specs.Lent.{AreOfColumn}
 use Rattle.ipc_column.specs.Nested.{Nested, only_column, slot_values}
-use Rattle.ipc_column.specs.checks.Rules.{SpellsTexts}
+use Rattle.ipc_column.specs.checks.Rules.{HasUtf8Texts}
 use Rattle.ipc_column.specs.Values.{rows_of}
 use Rattle.ipc_column.specs.Views.{part_columns}
 use Rattle.ipc_column.proofs.visited.Leads.{nested_at}
@@ -35,6 +35,6 @@ returns-clause-values c =
 
 pub returns-clause-texts : goal.returns-clause-texts
 returns-clause-texts c =
-    subst (λ (n : Nested). (i : ℕ) → i < length (slot_values n) → SpellsTexts (only_column n) i) (sym c.slots_of.ensures)
+    subst (λ (n : Nested). (i : ℕ) → i < length (slot_values n) → HasUtf8Texts (only_column n) i) (sym c.slots_of.ensures)
     (slots_texts c.args.body.now c.args.parts.now c.args.rows c.args.column c.index-parts-column.result c.requires.column
     c.index-parts-column.is c.requires.holds)

@@ -25,7 +25,7 @@ returns-in-Some-clause-kept c = λ kept.
     let inside : c.args.slot < length c.args.batch.now.rows = omega (arith, size, c.requires.slot) in
     let value = get_or vs c.args.slot Null in
     let shown = slice_get-get_or vs c.args.slot Null c.requires.slot in
-    c.note_entry.ensures.kept c.args.slots.now.column.dictionary value kept (c.in-Some.ensures.shown ∙ shown)
+    c.note_entry.ensures.kept c.args.slots.now.column.dictionary value kept (c.in-Some.ensures.shows ∙ shown)
     (c.requires.slots.each c.args.slot inside ∙ shown)
 
 pub returns-in-None-clause-full : goal.returns-in-None-clause-full
@@ -38,5 +38,5 @@ pub returns-in-Some-clause-full : goal.returns-in-Some-clause-full
 returns-in-Some-clause-full c = λ value shown.
     let size = c.requires.slots.size in
     let inside : c.args.slot < length c.args.batch.now.rows = omega (arith, size, c.requires.slot) in
-    c.note_entry.ensures.full c.args.slots.now.column.dictionary value (c.in-Some.ensures.shown ∙ shown)
+    c.note_entry.ensures.full c.args.slots.now.column.dictionary value (c.in-Some.ensures.shows ∙ shown)
     (c.requires.slots.each c.args.slot inside ∙ shown)

@@ -32,7 +32,7 @@ returns-in_err-place-clause-full c =
     let p = err_from_is_err_and c.from_residual.result c.from_residual.ensures.1 in
     rw (p.1, p.2) (λ e. let q = c.in_err-place.ensures.full e in
     subst IsIndexOverflow (became c.args.entries.now c.args.id _ c.args.value.now c.in-Some.at c.index-entries-at.result
-    c.note_in.new.entry (to_z-of_z w64 c.args.id c.ranges.id) c.in-Some.ensures.within c.in-Some.ensures.found c.in-Some.ensures.before
+    c.note_in.new.entry (to_z-of_z w64 c.args.id c.ranges.id) c.in-Some.ensures.within c.in-Some.ensures.finds c.in-Some.ensures.before
     c.index-entries-at.is q.0)
     (full-set c.args.entries.now c.in-Some.at c.note_in.new.entry c.in-Some.ensures.within q.1))
 
@@ -45,7 +45,7 @@ returns-in_err-place-clause-grows c =
 pub returns-clause-noted : goal.returns-clause-noted
 returns-clause-noted c =
     became c.args.entries.now c.args.id _ c.args.value.now c.in-Some.at c.index-entries-at.result
-    c.note_in.new.entry (to_z-of_z w64 c.args.id c.ranges.id) c.in-Some.ensures.within c.in-Some.ensures.found c.in-Some.ensures.before
+    c.note_in.new.entry (to_z-of_z w64 c.args.id c.ranges.id) c.in-Some.ensures.within c.in-Some.ensures.finds c.in-Some.ensures.before
     c.index-entries-at.is c.in_ok-place.ensures.noted
 
 pub returns-clause-fits : goal.returns-clause-fits

@@ -22,6 +22,6 @@ returns c =
     let same = to_z-of_z w64 c.args.id c.ranges.id in
     c.place_of.ensures ∙ ap (λ (y : TallyEntry). first_index v y.values) (sym c.index-entries-i.is)
     ∙ place-at c.args.id v t i x c.in_ok-i.ensures.within
-    (ap (λ z. int_eq (get_or t i x).id z) (sym same) ∙ c.in_ok-i.ensures.found x c.in_ok-i.ensures.within)
+    (ap (λ z. int_eq (get_or t i x).id z) (sym same) ∙ c.in_ok-i.ensures.finds x c.in_ok-i.ensures.within)
     (λ k h. ap (λ z. int_eq (get_or t k x).id z) (sym same) ∙ c.in_ok-i.ensures.before k x h)
     c.index-entries-i.is

@@ -4,4 +4,4 @@ use Rattle.ipc_dict.proofs.schema_ids.+collect.Given as goal
 
 abbrev pub invariant-collect-loop-field : goal.invariant-collect-loop-field
 invariant-collect-loop-field l =
-    l.found.items ++ of_fields (drop l.field-index l.fields) ≡ l.initial.found.items ++ of_fields l.fields
+    l.dictionaries.items ++ of_fields (drop l.field-index l.fields) ≡ l.initial.dictionaries.items ++ of_fields l.fields

@@ -24,6 +24,6 @@ returns c =
     let same = to_z-of_z w64 c.args.id c.ranges.id in
     c.sent_index_of.ensures ∙ (λ j. number_at (first_index v (sym c.index-entries-i.is j).values) o)
     ∙ index-at c.args.id v t os i n o c.requires c.in_ok-i.ensures.within
-    (ap (λ z. int_eq (get_or t i n).id z) (sym same) ∙ c.in_ok-i.ensures.found n c.in_ok-i.ensures.within)
+    (ap (λ z. int_eq (get_or t i n).id z) (sym same) ∙ c.in_ok-i.ensures.finds n c.in_ok-i.ensures.within)
     (λ k h. ap (λ z. int_eq (get_or t k n).id z) (sym same) ∙ c.in_ok-i.ensures.before k n h)
     c.index-entries-i.is c.index-numbers-i.is

@@ -22,6 +22,6 @@ returns c =
     let any : TallyEntry = record { id = c.args.id; limit = 0; values = [] } in
     c.kept_number.ensures
     ∙ number-at c.args.id c.args.from t os i any o c.requires c.in_ok-i.ensures.within
-    (ap (λ z. int_eq (get_or t i any).id z) (sym same) ∙ c.in_ok-i.ensures.found any c.in_ok-i.ensures.within)
+    (ap (λ z. int_eq (get_or t i any).id z) (sym same) ∙ c.in_ok-i.ensures.finds any c.in_ok-i.ensures.within)
     (λ k h. ap (λ z. int_eq (get_or t k any).id z) (sym same) ∙ c.in_ok-i.ensures.before k any h)
     c.index-numbers-i.is

@@ -26,10 +26,10 @@ returns-in_err-count-clause-full c =
     let fault = write_fault c.in_err-count.field-0.0 in
     let old = up_to_marks c.args.fields.now c.args.marks.now c.args.entries.now c.note_each.new.entries c.args.columns.now
     c.requires.marks c.note_each.ensures.grows c.requires.columns in
-    let told = c.in_err-count.ensures.refused c.args.fields.now old in
+    let report = c.in_err-count.ensures.refused c.args.fields.now old in
     let p = err_from_is_err_and c.from_residual-in_err-count.result c.from_residual-in_err-count.ensures.1 in
     rw (p.1, p.2) (λ full.
-    absurd (limits_not_full fault (says_limits limits c.args.fields.now c.note_each.new.entries fault told) full))
+    absurd (limits_not_full fault (says_limits limits c.args.fields.now c.note_each.new.entries fault report) full))
 
 pub returns-in_err-count-clause-over : goal.returns-in_err-count-clause-over
 returns-in_err-count-clause-over c =
@@ -37,10 +37,10 @@ returns-in_err-count-clause-over c =
     let fault = write_fault c.in_err-count.field-0.0 in
     let old = up_to_marks c.args.fields.now c.args.marks.now c.args.entries.now c.note_each.new.entries c.args.columns.now
     c.requires.marks c.note_each.ensures.grows c.requires.columns in
-    let told = c.in_err-count.ensures.refused c.args.fields.now old in
+    let report = c.in_err-count.ensures.refused c.args.fields.now old in
     let p = err_from_is_err_and c.from_residual-in_err-count.result c.from_residual-in_err-count.ensures.1 in
     rw (p.1, p.2) (λ one.
-    subst (λ (es : List TallyEntry). IsOverLimit limits c.args.fields.now es fault) c.in_ok-note_each.ensures.noted told)
+    subst (λ (es : List TallyEntry). IsOverLimit limits c.args.fields.now es fault) c.in_ok-note_each.ensures.noted report)
 
 pub returns-in_err-count-clause-memory : goal.returns-in_err-count-clause-memory
 returns-in_err-count-clause-memory c =
@@ -48,9 +48,9 @@ returns-in_err-count-clause-memory c =
     let fault = write_fault c.in_err-count.field-0.0 in
     let old = up_to_marks c.args.fields.now c.args.marks.now c.args.entries.now c.note_each.new.entries c.args.columns.now
     c.requires.marks c.note_each.ensures.grows c.requires.columns in
-    let told = c.in_err-count.ensures.refused c.args.fields.now old in
+    let report = c.in_err-count.ensures.refused c.args.fields.now old in
     let p = err_from_is_err_and c.from_residual-in_err-count.result c.from_residual-in_err-count.ensures.1 in
-    rw (p.1, p.2) (inl (inr (says_limits limits c.args.fields.now c.note_each.new.entries fault told)))
+    rw (p.1, p.2) (inl (inr (says_limits limits c.args.fields.now c.note_each.new.entries fault report)))
 
 pub returns-in_ok-count-clause-counted : goal.returns-in_ok-count-clause-counted
 returns-in_ok-count-clause-counted c =

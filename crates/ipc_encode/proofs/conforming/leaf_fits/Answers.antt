@@ -10,7 +10,7 @@ returns-then-shows_type c = λ yes i m may.
     let kind = (out-Field c.args.field.now).kind in
     let vs = slot_values c.args.view.now in
     shown_slot c.args.field.now (type_layout kind) _ (plain_shows kind (c.shows_type.ensures.plain c.if-shows_type.true)) c.requires may
-    (all_at (IsShownBy (type_layout kind)) vs i m (c.shows_type.ensures.shown c.if-shows_type.true))
+    (all_at (IsShownBy (type_layout kind)) vs i m (c.shows_type.ensures.shows c.if-shows_type.true))
 
 pub returns : goal.returns
 returns c = λ yes i m may. own_slot c.args.field.now _ c.requires may (c.are_own_numbers.ensures yes i m)

@@ -8,13 +8,13 @@ use Rattle.ipc_column.specs.checks.Plain.{IsShownBy}
 use Rattle.ipc_encode.proofs.FittingColumns.{indexed_shown}
 use Rattle.ipc_encode.proofs.conforming.shows_type.Goals as goal
 
-pub returns-then-are_equal_layouts-clause-shown : goal.returns-then-are_equal_layouts-clause-shown
-returns-then-are_equal_layouts-clause-shown c = λ yes.
+pub returns-then-are_equal_layouts-clause-shows : goal.returns-then-are_equal_layouts-clause-shows
+returns-then-are_equal_layouts-clause-shows c = λ yes.
     subst (λ (l : Layout). AllByRecursion (IsShownBy l) (slot_values c.args.view.now))
     (c.are_equal_layouts.ensures c.if-are_equal_layouts.true ∙ c.layout_of-layout.ensures) c.layout.ensures.values
 
-pub returns-in-Some-clause-shown : goal.returns-in-Some-clause-shown
-returns-in-Some-clause-shown c = λ alike.
+pub returns-in-Some-clause-shows : goal.returns-in-Some-clause-shows
+returns-in-Some-clause-shows c = λ alike.
     let laid = c.is_indexed.ensures c.if-not-is_indexed.false in
     let same = c.are_equal_layouts-in-Some.ensures alike ∙ c.layout_of-layout.ensures in
     let own = subst (λ (l : Layout). AllByRecursion (IsShownBy l) c.args.view.now.column.dictionary) same

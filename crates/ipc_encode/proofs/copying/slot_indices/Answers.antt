@@ -23,11 +23,11 @@ loop-slot-preserved g c =
     let slot = c.loop-slot.slot in
     let inside : slot < length vs = omega (arith, c.loop-slot-test.true, c.loop-slot.auto.slot-end, c.len-slot-end.ensures) in
     record {
-      kept = c.slot_index.ensures.kept c.loop-slot.invariant.kept;
+      cache = c.slot_index.ensures.cache c.loop-slot.invariant.cache;
       pushed = c.in_ok-push.ensures.items
           ∙ (ap (λ (ws : List (Option ℕ)). ws ++ c.in_ok-index.index ∷ []) c.loop-slot.invariant.pushed
           ∙ next f vs slot c.in_ok-index.index inside
-          (c.in_ok-index.ensures.index (get_or vs slot Null) c.loop-slot.invariant.kept (slice_get-get_or vs slot Null inside)));
+          (c.in_ok-index.ensures.index (get_or vs slot Null) c.loop-slot.invariant.cache (slice_get-get_or vs slot Null inside)));
     }
 
 pub returns : goal.returns

@@ -7,6 +7,7 @@ use Rattle.ipc_encode.proofs.copying.slot_indices.Given as goal
 -- the indices of the first slots
 abbrev pub invariant-loop-slot : goal.invariant-loop-slot
 invariant-loop-slot g l = record {
-  kept : AreKept (column_index (index_or_zero (g.I.IndexOf.index l.indices)) l.layout) l.slots.column.dictionary l.kept.items;
-  pushed : l.taken.items ≡ map (column_index (index_or_zero (g.I.IndexOf.index l.indices)) l.layout) (take l.slot (slot_values l.slots));
+  cache : AreKept (column_index (index_or_zero (g.I.IndexOf.index l.indices)) l.layout) l.slots.column.dictionary l.cache.items;
+  pushed : l.column_indices.items ≡ map (column_index (index_or_zero (g.I.IndexOf.index l.indices)) l.layout)
+      (take l.slot (slot_values l.slots));
 }

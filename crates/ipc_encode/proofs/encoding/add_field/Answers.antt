@@ -2,7 +2,7 @@ use Rattle.std.proofs.Common.{◌∙◌, sym, subst, ℕ, ◌<◌, List, [], len
 use Rattle.std.proofs.lemmas.Result.{on_ok_weaker, IfErr-weaker}
 use Rattle.ipc_model.specs.declared.value.Value.{Value}
 use Rattle.ipc_column.specs.Nested.{only_column, slot_values}
-use Rattle.ipc_column.specs.checks.Rules.{SpellsTexts}
+use Rattle.ipc_column.specs.checks.Rules.{HasUtf8Texts}
 use Rattle.ipc_column.specs.Shapes.{bare, field, field_children, field_layout}
 use Rattle.ipc_encode.specs.Numbers.{new_indices, index_or_zero}
 use Rattle.ipc_encode.specs.Segments.{AddsColumns, AreRefusedAfter}
@@ -14,7 +14,7 @@ add_whole-requires-clause-whole g c =
     let known = index_or_zero (g.I.IndexOf.index c.args.indices.now) in
     let limits = c.args.limits.now in
     let view = c.slots-view.result in
-    let spelled : (i : ℕ) → i < length (slot_values view) → SpellsTexts (only_column view) i = λ i m.
+    let spelled : (i : ℕ) → i < length (slot_values view) → HasUtf8Texts (only_column view) i = λ i m.
     c.slots-view.ensures.texts i (subst (λ (vs : List Value). i < length vs) c.slots-view.ensures.values m) in
     c.has_node_layout.ensures c.if-has_node_layout.true known limits (field_layout c.args.field.now) (field_children c.args.field.now) []
     (c.in_ok-node.ensures known limits) spelled

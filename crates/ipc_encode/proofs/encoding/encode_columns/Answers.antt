@@ -46,7 +46,7 @@ returns-clause-rows g c = λ m fine fits finds.
     let within = columns_within c.args.limits.now known fields rows _ draft (λ i. 0)
     (omega (arith, c.rows.ensures, c.if-rows-limits.false)) adds in
     rows_of_parts m known fields rows c.from_vec.result c.from_vec-2.result (bytes_of_segments draft.segments.items)
-    fine fits within adds.stored finds
+    fine fits within adds.stores finds
     (c.from_vec.ensures ∙ (adds.nodes ∙ ap (λ (ns : List (ℤ × ℤ)). ns ++ row_nodes fields rows) c.new.ensures.items))
     (c.from_vec-2.ensures ∙ (adds.buffers.buffers ∙ ap (λ (rs : List (ℤ × ℤ)). rs ++ ranges_from 0 bs) c.new-2.ensures.items))
     (adds.buffers.body ∙ ap (λ (ss : List Segment). bytes_of_segments ss ++ padded_bytes bs) c.new-3.ensures.items)

@@ -14,11 +14,11 @@ returns-in-Indices-clause-adds g c = λ known values h.
     let held = c.in-Indices.column in
     let number = g.N.Renumber.number c.args.numbers.now in
     let read : to_z w64 (of_z w64 held.id) ≡ held.id = search rules in
-    let told = subst (λ (id : ℤ). OnOk c.add_indices.result (Adds c.args.draft.now c.add_indices.new.draft
+    let report = subst (λ (id : ℤ). OnOk c.add_indices.result (Adds c.args.draft.now c.add_indices.new.draft
     (slots (Number held.bits) (map as_number (map (new_index (number id)) c.deref-in-Indices.result.now)) ∷ []))) read
     c.add_indices.ensures.adds in
     let same = rw c.in-Indices.is at h in
     rw c.in-Indices.is (on_ok_weaker c.add_indices.result
     (adds_as _ _ _ _ (index_data number known held.bits held.signed held.id values _
     (c.deref-in-Indices.ensures.value ∙ same)))
-    told)
+    report)

@@ -20,4 +20,4 @@ returns-in-List c = λ under i.
 
 pub returns-in_default : goal.returns-in_default
 returns-in_default c = λ under i.
-    sym (ap (λ (vs : List Value). length vs) (no_items under i c.args.held.now c.in_default.not-List))
+    sym (ap (λ (vs : List Value). length vs) (no_items under i c.args.value.now c.in_default.not-List))

@@ -45,7 +45,8 @@ loop-slot-preserved c = λ none.
     let inside : slot < length view = omega (arith, c.loop-slot-test.true, c.loop-slot.auto.slot-end, c.len-slot-end.ensures) in
     let front = length-take-le slot view (omega (arith, inside)) in
     let count = flags_length True (take slot view) in
-    let value = get_or_from_slice_get view slot _ Null c.at-shown.ensures.value in
+    let value = get_or_from_slice_get view slot _ Null c.at-value.ensures.value in
     c.in_ok-push_bit.ensures (flags True (take slot view)) (omega (arith, front, count)) (c.loop-slot.invariant none)
-    ∙ ap bitmap (flags_next True view slot c.is_true.result inside (c.is_true.ensures (row (child_columns c.args.view.now)) slot ∙ ap
+    ∙ ap bitmap (flags_next True view slot c.is_true_slot.result inside
+    (c.is_true_slot.ensures (row (child_columns c.args.view.now)) slot ∙ ap
     (is_set True) (sym value)))

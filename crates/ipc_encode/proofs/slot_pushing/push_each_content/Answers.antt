@@ -17,13 +17,14 @@ loop-slot-preserved c =
     let view = slot_values c.args.view.now in
     let old = c.args.values.now.items in
     let inside : slot < length view = omega (arith, c.loop-slot-test.true, c.loop-slot.auto.slot-end, c.len-slot-end.ensures) in
-    let value = get_or_from_slice_get view slot _ Null c.at-shown.ensures.value in
-    let bytes : c.content.result.now ≡ content (get_or view slot Null) = c.content.ensures (row (child_columns c.args.view.now)) slot
+    let value = get_or_from_slice_get view slot _ Null c.at-value.ensures.value in
+    let bytes : c.slot_content.result.now ≡ content (get_or view slot Null) = c.slot_content.ensures (row (child_columns c.args.view.now))
+    slot
     ∙ ap content
     (sym value) in
     let values : c.extend_from_slice.new.self.items ≡ old ++ slots Content (take (slot + 1) view) =
     c.in_ok-extend_from_slice.ensures.items
-    ∙ (ap (λ (bs : List ℕ). bs ++ c.content.result.now) c.loop-slot.invariant.values
+    ∙ (ap (λ (bs : List ℕ). bs ++ c.slot_content.result.now) c.loop-slot.invariant.values
     ∙ (ap (λ (bs : List ℕ). (old ++ slots Content (take slot view)) ++ bs) bytes
     ∙ (append_assoc old (slots Content (take slot view)) (content (get_or view slot Null))
     ∙ ap (λ (bs : List ℕ). old ++ bs) (slots_next Content view slot inside)))) in

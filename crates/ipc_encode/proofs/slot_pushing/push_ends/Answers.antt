@@ -12,9 +12,9 @@ loop-slot-preserved c = λ values size each.
     let old = c.args.offsets.now.items in
     let end = c.saturating_sub.result in
     let run = content_extents (take (slot + 1) values) in
-    let told = each slot (omega (arith, c.loop-slot-test.true)) in
+    let report = each slot (omega (arith, c.loop-slot-test.true)) in
     let same : end ≡ 0 + extents Bytes (take (slot + 1) values) =
-    omega (arith, told, run, c.offset_at-end.ensures, c.saturating_sub.ensures) in
+    omega (arith, report, run, c.offset_at-end.ensures, c.saturating_sub.ensures) in
     c.in_ok-push_offset.ensures
     ∙ (ap (λ (bs : List ℕ). bs ++ bytes_low_first 0 4 end) (c.loop-slot.invariant values size each)
     ∙ (append_assoc old (ends Bytes 0 (take slot values)) (bytes_low_first 0 4 end)

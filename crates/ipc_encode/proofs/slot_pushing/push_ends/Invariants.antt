@@ -8,5 +8,5 @@ use Rattle.ipc_encode.proofs.slot_pushing.push_ends.Given as goal
 -- the ends of the first slots are after the offsets that were there
 abbrev pub invariant-loop-slot : goal.invariant-loop-slot
 invariant-loop-slot l = (values : List Value) → length values ≡ l.count
-    → ((i : ℕ) → i < l.count → num l.lent.ends.now (4 * i) 4 ≡ l.lent.start + length (slots Content (take (i + 1) values)))
+    → ((i : ℕ) → i < l.count → num l.contents.ends.now (4 * i) 4 ≡ l.contents.start + length (slots Content (take (i + 1) values)))
     → l.offsets.items ≡ l.fn.offsets.items ++ ends Bytes 0 (take l.slot values)

@@ -15,8 +15,8 @@ loop-slot-preserved c =
     let view = slot_values c.args.view.now in
     let old = c.args.values.now.items in
     let inside : slot < length view = omega (arith, c.loop-slot-test.true, c.loop-slot.auto.slot-end, c.len-slot-end.ensures) in
-    let value = get_or_from_slice_get view slot _ Null c.at-shown.ensures.value in
-    c.in_ok-push_fixed.ensures (row (child_columns c.args.view.now)) slot
+    let value = get_or_from_slice_get view slot _ Null c.at-value.ensures.value in
+    c.in_ok-push_fixed_slot.ensures (row (child_columns c.args.view.now)) slot
     ∙ (ap (λ (bs : List ℕ). c.loop-slot.values.items ++ bs) (ap (slot_bytes which) (sym value))
     ∙ (ap (λ (bs : List ℕ). bs ++ slot_bytes which (get_or view slot Null)) c.loop-slot.invariant
     ∙ (append_assoc old (slots which (take slot view)) (slot_bytes which (get_or view slot Null))

@@ -26,10 +26,10 @@ returns-in_err-end-clause-refused c =
     c.item_count.ensures (row (child_columns c.args.view.now)) slot ∙ ap (λ (v : Value). length (items v)) (sym value) in
     let next = items_next view slot inside in
     let front = data_front Lists (slot + 1) view in
-    let told = c.in_err-end.ensures.refused in
-    let long : max_data < data_in Lists view = omega (arith, told.1, c.loop-slot.invariant.end, count, next, front) in
+    let report = c.in_err-end.ensures.refused in
+    let long : max_data < data_in Lists view = omega (arith, report.1, c.loop-slot.invariant.end, count, next, front) in
     let p = err_from_is_err_and c.from_residual.result c.from_residual.ensures.1 in
-    rw (p.1, p.2) (inr (told.0, long))
+    rw (p.1, p.2) (inr (report.0, long))
 
 pub loop-slot-preserved : goal.loop-slot-preserved
 loop-slot-preserved c =

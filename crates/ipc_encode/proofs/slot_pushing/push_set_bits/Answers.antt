@@ -11,19 +11,19 @@ use Rattle.ipc_encode.proofs.Bits.{bit_in_front, both_more, bytes_more, front_sm
 use Rattle.ipc_encode.proofs.slot_pushing.push_set_bits.Goals as goal
 
 pub loop-i-preserved : goal.loop-i-preserved
-loop-i-preserved c = λ more size told none_yet.
+loop-i-preserved c = λ more size report none_yet.
     let ys = c.args.marks.now in
     let some : length ys ≡ 0 → ⊥ = eqb-false _ _ (sym c.is_empty.ensures ∙ c.if-is_empty.false) in
     c.in_ok-push.ensures.items
     ∙ (ap (λ (bs : List ℕ). bs ++ bit_and (get_or c.args.truths.now c.loop-i.i 0) (get_or ys c.loop-i.i 0) ∷ [])
-    (c.loop-i.invariant more size told none_yet)
+    (c.loop-i.invariant more size report none_yet)
     ∙ both_more [] more c.args.truths.now ys _ _ c.loop-i.i refl (omega (arith, size, c.loop-i-test.true))
-    (λ i m. told i m ∙ ap (λ (f : Bool). bit c.args.truths.now i && f) (let marked : is_valid ys i ≡ bit ys i =
+    (λ i m. report i m ∙ ap (λ (f : Bool). bit c.args.truths.now i && f) (let marked : is_valid ys i ≡ bit ys i =
     rw (ne_eqb (length ys) 0 some) refl in marked))
     refl refl (omega (arith, c.type_inv.truths c.loop-i.i)))
 
 pub returns-then-is_empty : goal.returns-then-is_empty
-returns-then-is_empty c = λ more size told none_yet.
+returns-then-is_empty c = λ more size report none_yet.
     let bs = c.args.truths.now in
     let n = c.args.count in
     let none : length c.args.marks.now ≡ 0 = eqb-true _ _ (sym c.is_empty.ensures ∙ c.if-is_empty.true) in
@@ -35,7 +35,7 @@ returns-then-is_empty c = λ more size told none_yet.
     (λ i m.
     let valid : is_valid c.args.marks.now i ≡ true = rw none refl in
     bit_in_front n bs i (omega (arith, m, size))
-    ∙ sym (told i m ∙ (ap (λ (f : Bool). bit bs i && f) valid ∙ and_true (bit bs i))))))
+    ∙ sym (report i m ∙ (ap (λ (f : Bool). bit bs i && f) valid ∙ and_true (bit bs i))))))
     (grown c.extend_from_slice.result c.extend_from_slice.new.self.items _ _ c.extend_from_slice.ensures.items)
   where
     and_true : (f : Bool) → (f && true) ≡ f
@@ -43,6 +43,6 @@ returns-then-is_empty c = λ more size told none_yet.
     and_true false = refl
 
 pub returns : goal.returns
-returns c = λ more size told none_yet.
-    c.loop-i.invariant more size told none_yet
+returns c = λ more size report none_yet.
+    c.loop-i.invariant more size report none_yet
     ∙ ap (λ (fs : List Bool). bitmap fs) (take_all (8 * c.loop-i.i) more (omega (arith, size, c.loop-i-test.false)))

@@ -101,7 +101,7 @@ add_children-add_whole-requires t c =
     let whole = whole_at c.loop-i.i (shape_of c.args.fields.now) (nested_in c.args.view.now) _ (field_layout of) (field_children of) child
     (shape_in c.args.fields.now c.loop-i.i of (omega (arith, c.loop-i-test.true)) c.index-fields-i.is)
     c.child-child.ensures c.requires.whole in
-    let own = subst (λ (vs : List Value). IsFullColumn (field_layout of) (field_children of) child vs) (sym whole.0.shown) whole in
+    let own = subst (λ (vs : List Value). IsFullColumn (field_layout of) (field_children of) child vs) (sym whole.0.shows) whole in
     (search (rules, the_lemmas), (own, (c.loop-i.invariant no_indices).body))
 
 pub add_children-loop-i-preserved : goal.add_children-loop-i-preserved
@@ -115,7 +115,7 @@ add_children-loop-i-preserved t c = λ known.
     let whole = whole_at c.loop-i.i shape (nested_in c.args.view.now) given (field_layout of) (field_children of) child
     at c.child-child.ensures c.requires.whole in
     let one = subst (λ (vs : List Value). AddsColumns limits known (field (field_layout of) (field_children of) bare) (λ j. vs)
-    c.loop-i.draft c.add_whole.new.draft) whole.0.shown (c.in_ok-add_whole.ensures.adds known) in
+    c.loop-i.draft c.add_whole.new.draft) whole.0.shows (c.in_ok-add_whole.ensures.adds known) in
     rw add-one (columns_next limits known c.loop-i.i shape given (field_layout of) (field_children of) c.args.draft.now c.loop-i.draft
     c.add_whole.new.draft at (c.loop-i.invariant known) one)
 
@@ -131,7 +131,7 @@ add_children-returns-in_err-add_whole-clause-refused t c =
     at c.child-child.ensures c.requires.whole in
     let fault = c.in_err-add_whole.field-0.0 in
     let one = subst (λ (vs : List Value). AreRefusedAfter limits c.loop-i.draft.len (field (field_layout of) (field_children of) bare)
-    (λ j. vs) fault) whole.0.shown c.in_err-add_whole.ensures.refused in
+    (λ j. vs) fault) whole.0.shows c.in_err-add_whole.ensures.refused in
     let p = err_from_is_err_and c.from_residual.result c.from_residual.ensures.1 in
     rw (p.1, p.2) (columns_refused limits no_indices c.loop-i.i shape given (field_layout of) (field_children of) c.args.draft.now
     c.loop-i.draft fault at (c.loop-i.invariant no_indices) one)

@@ -34,7 +34,7 @@ have_node_layouts-loop-i-preserved t c = λ known limits shape before h spelled.
     (c.uses_all_slots.ensures.slots c.if-not-uses_all_slots.false own c.child.ensures)) whole))
 
 pub have_node_layouts-returns : goal.have_node_layouts-returns
-have_node_layouts-returns t c = λ told known limits shape before h spelled.
+have_node_layouts-returns t c = λ report known limits shape before h spelled.
     let s = c.args.view.now in
     let size = length-map s.children (nested s.body) in
     whole_all (IsColumn known limits) shape c.args.nodes.now (nested_in s) before (child_values s.column.layout (slot_values s)) h

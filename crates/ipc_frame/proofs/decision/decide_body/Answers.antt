@@ -16,6 +16,6 @@ returns-in_err-head c =
 pub returns : goal.returns
 returns c =
     let states = subst (λ z. HeadOf c.args.limits.now z c.in_ok-head.head c.in_ok-head.field-0-1) c.deref.ensures.value
-    c.in_ok-head.ensures.found in
+    c.in_ok-head.ensures.finds in
     whole_body c.args.limits.now c.args.parts.now c.args.size c.requires _ c.in_ok-head.head (omega arith) states
     (c.in_ok-head.ensures.only c.requires.head c.args.size (rw c.deref.ensures.value c.requires.states)).1

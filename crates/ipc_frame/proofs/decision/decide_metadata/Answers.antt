@@ -19,12 +19,12 @@ returns-in_err-head c =
 pub returns-then-len-eq0 : goal.returns-then-len-eq0
 returns-then-len-eq0 c =
     let states = subst (λ z. HeadOf c.args.limits.now z c.in_ok-head.head c.in_ok-head.len) c.deref.ensures.value
-    c.in_ok-head.ensures.found in
+    c.in_ok-head.ensures.finds in
     empty_body c.args.limits.now c.args.parts.now c.args.size c.requires (omega arith) _
     (subst (λ n. HeadOf c.args.limits.now c.args.parts.now.meta.items c.in_ok-head.head n) c.if-len-eq0.true states)
 
 pub returns : goal.returns
 returns c =
     stated c.args.limits.now c.args.parts.now c.args.size c.requires (omega arith) _ c.in_ok-head.head
-    (subst (λ z. HeadOf c.args.limits.now z c.in_ok-head.head c.in_ok-head.len) c.deref.ensures.value c.in_ok-head.ensures.found)
+    (subst (λ z. HeadOf c.args.limits.now z c.in_ok-head.head c.in_ok-head.len) c.deref.ensures.value c.in_ok-head.ensures.finds)
     (omega arith)

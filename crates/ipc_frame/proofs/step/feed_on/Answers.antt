@@ -9,7 +9,7 @@ use Rattle.ipc_frame.proofs.step.feed_on.Goals as goal
 pub returns-in_err-next-clause-feeds : goal.returns-in_err-next-clause-feeds
 returns-in_err-next-clause-feeds c =
     let p = err_from_is_err_and c.from_residual-in_err-next.result c.from_residual-in_err-next.ensures.1 in
-    let small : c.min-count.result ≤ bytes_needed c.loop-taken.parts c.loop-taken.awaited =
+    let small : c.min-count.result ≤ bytes_needed c.loop-taken.parts c.loop-taken.expectation =
     omega (arith, c.min-count.ensures, c.bytes_needed.ensures) in
     let fits : c.loop-taken.taken + c.min-count.result ≤ length c.args.piece.now =
     omega (arith, c.min-count.ensures, c.loop-taken.invariant.within) in
@@ -18,7 +18,7 @@ returns-in_err-next-clause-feeds c =
 
 pub loop-taken-preserved : goal.loop-taken-preserved
 loop-taken-preserved c =
-    let small : c.min-count.result ≤ bytes_needed c.loop-taken.parts c.loop-taken.awaited =
+    let small : c.min-count.result ≤ bytes_needed c.loop-taken.parts c.loop-taken.expectation =
     omega (arith, c.min-count.ensures, c.bytes_needed.ensures) in
     let fits : c.loop-taken.taken + c.min-count.result ≤ length c.args.piece.now =
     omega (arith, c.min-count.ensures, c.loop-taken.invariant.within) in
@@ -28,7 +28,7 @@ loop-taken-preserved c =
 
 pub returns-in-Whole-clause-feeds : goal.returns-in-Whole-clause-feeds
 returns-in-Whole-clause-feeds c =
-    let small : c.min-count.result ≤ bytes_needed c.loop-taken.parts c.loop-taken.awaited =
+    let small : c.min-count.result ≤ bytes_needed c.loop-taken.parts c.loop-taken.expectation =
     omega (arith, c.min-count.ensures, c.bytes_needed.ensures) in
     let fits : c.loop-taken.taken + c.min-count.result ≤ length c.args.piece.now =
     omega (arith, c.min-count.ensures, c.loop-taken.invariant.within) in

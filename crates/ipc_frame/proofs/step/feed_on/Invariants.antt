@@ -4,7 +4,7 @@ use Rattle.ipc_frame.specs.Parts.{received_bytes}
 use Rattle.ipc_frame.proofs.step.feed_on.Given as goal
 
 abbrev pub invariant-loop-taken : goal.invariant-loop-taken
-invariant-loop-taken l = Feeding l.limits (received_bytes l.fn.parts) l.piece l.parts l.awaited l.taken
+invariant-loop-taken l = Feeding l.limits (received_bytes l.fn.parts) l.piece l.parts l.expectation l.taken
 
 abbrev pub decreases-loop-taken : goal.decreases-loop-taken
 decreases-loop-taken l = length l.piece - l.taken

@@ -13,8 +13,8 @@ use Rattle.ipc_meta.proofs.refused.Refused.{bad_number, bad_flag, bad_table, bat
 use Rattle.ipc_meta.proofs.batches.read_dictionary_batch.Goals as goal
 use Rattle.ipc_meta.proofs.Binds.{lift_ok}
 
-pub returns-in_ok-read_batch-in-Some-clause-found : goal.returns-in_ok-read_batch-in-Some-clause-found
-returns-in_ok-read_batch-in-Some-clause-found c = record {
+pub returns-in_ok-read_batch-in-Some-clause-finds : goal.returns-in_ok-read_batch-in-Some-clause-finds
+returns-in_ok-read_batch-in-Some-clause-finds c = record {
   named =
       let fits : FitsSigned w64 c.in_ok-id.id = search rules in
       lift_ok _ _ (ap map_fault (sym c.scalar_i64.ensures) ∙ sym c.in_ok-id.ensures) ∙ ap Ok (sym (to_z-of_z w64 c.in_ok-id.id fits));
@@ -28,7 +28,7 @@ returns-in_ok-read_batch-in-Some-clause-found c = record {
 
 pub returns-in_ok-read_batch-in-Some-clause-only : goal.returns-in_ok-read_batch-in-Some-clause-only
 returns-in_ok-read_batch-in-Some-clause-only c = λ id batch h.
-    let same = dictionary_same _ id _ batch _ h (returns-in_ok-read_batch-in-Some-clause-found c) in
+    let same = dictionary_same _ id _ batch _ h (returns-in_ok-read_batch-in-Some-clause-finds c) in
     λ i. Ok (same.0 i, same.1 i)
 
 pub returns-in_err-read_batch-in-Some-clause-only : goal.returns-in_err-read_batch-in-Some-clause-only

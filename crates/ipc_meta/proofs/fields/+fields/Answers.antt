@@ -52,21 +52,21 @@ read_fields-returns-in_err-table t c =
     let p = err_from_is_err_and c.from_residual-in_err-table.result c.from_residual-in_err-table.ensures.1 in
     rw (p.1, p.2) (λ ne. sym c.loop-i.invariant.read
     ∙ each_no_table (field_read c.args.depth) c.in-Some.tables.bytes c.in-Some.tables.at c.loop-i.i c.in-Some.tables.len
-    c.loop-i.left _ _ (omega arith) (ap map_fault (sym c.at.ensures) ∙ sym c.in_err-table.ensures))
+    c.loop-i.budget _ _ (omega arith) (ap map_fault (sym c.at.ensures) ∙ sym c.in_err-table.ensures))
 
 pub read_fields-returns-in_err-read_field : goal.read_fields-returns-in_err-read_field
 read_fields-returns-in_err-read_field t c =
     let p = err_from_is_err_and c.from_residual-in_err-read_field.result c.from_residual-in_err-read_field.ensures.1 in
     rw (p.1, p.2) (λ ne. sym c.loop-i.invariant.read
-    ∙ each_refused (field_read c.args.depth) c.in-Some.tables.bytes c.in-Some.tables.at c.loop-i.i c.in-Some.tables.len c.loop-i.left
+    ∙ each_refused (field_read c.args.depth) c.in-Some.tables.bytes c.in-Some.tables.at c.loop-i.i c.in-Some.tables.len c.loop-i.budget
     c.in_ok-table.table _ _ (omega arith) (ap map_fault (sym c.at.ensures) ∙ sym c.in_ok-table.ensures) (c.in_err-read_field.ensures ne))
 
 pub read_fields-loop-i-preserved : goal.read_fields-loop-i-preserved
 read_fields-loop-i-preserved t c = record {
   range = c.loop-i.invariant.range;
   read = rw c.in_ok-push.ensures.items (
-      sym (each_more (field_read c.args.depth) c.in-Some.tables.bytes c.in-Some.tables.at c.loop-i.i c.in-Some.tables.len c.loop-i.left
-      c.read_field.new.left c.in_ok-table.table _ c.loop-i.fields.items (omega arith)
+      sym (each_more (field_read c.args.depth) c.in-Some.tables.bytes c.in-Some.tables.at c.loop-i.i c.in-Some.tables.len c.loop-i.budget
+      c.read_field.new.budget c.in_ok-table.table _ c.loop-i.fields.items (omega arith)
       (ap map_fault (sym c.at.ensures) ∙ sym c.in_ok-table.ensures) c.in_ok-read_field.ensures)
       ∙ c.loop-i.invariant.read);
 }
@@ -74,6 +74,6 @@ read_fields-loop-i-preserved t c = record {
 pub read_fields-returns : goal.read_fields-returns
 read_fields-returns t c =
     sym c.loop-i.invariant.read ∙ (each_done
-    (field_read c.args.depth) c.in-Some.tables.bytes c.in-Some.tables.at c.loop-i.i c.in-Some.tables.len c.loop-i.left
+    (field_read c.args.depth) c.in-Some.tables.bytes c.in-Some.tables.at c.loop-i.i c.in-Some.tables.len c.loop-i.budget
     c.loop-i.fields.items (omega arith)
-    ∙ rw c.from_vec-2.ensures (ap (λ xs. Ok (xs, c.loop-i.left)) (append-nil c.loop-i.fields.items)))
+    ∙ rw c.from_vec-2.ensures (ap (λ xs. Ok (xs, c.loop-i.budget)) (append-nil c.loop-i.fields.items)))

@@ -12,6 +12,6 @@ decreases-read_field l = 2 * l.depth
 abbrev pub invariant-read_fields-loop-i : goal.invariant-read_fields-loop-i
 invariant-read_fields-loop-i l = record {
   range : l.i-end ≡ l.tables.len;
-  read : with_front l.fields.items (from_ith (field_read l.depth) l.tables.bytes l.tables.at l.i l.tables.len l.left)
-      ≡ fields_read (field_read l.depth) l.table l.slot l.fn.left;
+  read : with_front l.fields.items (from_ith (field_read l.depth) l.tables.bytes l.tables.at l.i l.tables.len l.budget)
+      ≡ fields_read (field_read l.depth) l.table l.slot l.fn.budget;
 }

@@ -16,21 +16,22 @@ pub returns-in_err-table : goal.returns-in_err-table
 returns-in_err-table c =
     let p = err_from_is_err_and c.from_residual-in_err-table.result c.from_residual-in_err-table.ensures.1 in
     rw (p.1, p.2) (λ ne. sym c.loop-i.invariant.read
-    ∙ each_no_table pair_read c.in-Some.tables.bytes c.in-Some.tables.at c.loop-i.i c.in-Some.tables.len c.loop-i.left _ _ (omega arith)
+    ∙ each_no_table pair_read c.in-Some.tables.bytes c.in-Some.tables.at c.loop-i.i c.in-Some.tables.len c.loop-i.budget _ _ (omega arith)
     (ap map_fault (sym c.at.ensures) ∙ sym c.in_err-table.ensures))
 
 pub returns-in_err-read_pair : goal.returns-in_err-read_pair
 returns-in_err-read_pair c =
     let p = err_from_is_err_and c.from_residual-in_err-read_pair.result c.from_residual-in_err-read_pair.ensures.1 in
     rw (p.1, p.2) (λ ne. sym c.loop-i.invariant.read
-    ∙ each_refused pair_read c.in-Some.tables.bytes c.in-Some.tables.at c.loop-i.i c.in-Some.tables.len c.loop-i.left
+    ∙ each_refused pair_read c.in-Some.tables.bytes c.in-Some.tables.at c.loop-i.i c.in-Some.tables.len c.loop-i.budget
     c.in_ok-table.table _ _ (omega arith) (ap map_fault (sym c.at.ensures) ∙ sym c.in_ok-table.ensures) (c.in_err-read_pair.ensures ne))
 
 pub loop-i-preserved : goal.loop-i-preserved
 loop-i-preserved c = record {
   range = c.loop-i.invariant.range;
   read = rw c.in_ok-push.ensures.items (
-      sym (each_more pair_read c.in-Some.tables.bytes c.in-Some.tables.at c.loop-i.i c.in-Some.tables.len c.loop-i.left c.read_pair.new.left
+      sym (each_more pair_read c.in-Some.tables.bytes c.in-Some.tables.at c.loop-i.i c.in-Some.tables.len c.loop-i.budget
+      c.read_pair.new.budget
       c.in_ok-table.table _ c.loop-i.pairs.items (omega arith)
       (ap map_fault (sym c.at.ensures) ∙ sym c.in_ok-table.ensures) c.in_ok-read_pair.ensures)
       ∙ c.loop-i.invariant.read);
@@ -39,5 +40,5 @@ loop-i-preserved c = record {
 pub returns : goal.returns
 returns c =
     sym c.loop-i.invariant.read ∙ (each_done pair_read c.in-Some.tables.bytes c.in-Some.tables.at c.loop-i.i c.in-Some.tables.len
-    c.loop-i.left c.loop-i.pairs.items (omega arith)
-    ∙ rw c.from_vec-2.ensures (ap (λ xs. Ok (xs, c.loop-i.left)) (append-nil c.loop-i.pairs.items)))
+    c.loop-i.budget c.loop-i.pairs.items (omega arith)
+    ∙ rw c.from_vec-2.ensures (ap (λ xs. Ok (xs, c.loop-i.budget)) (append-nil c.loop-i.pairs.items)))

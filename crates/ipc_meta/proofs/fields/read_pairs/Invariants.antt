@@ -6,6 +6,6 @@ use Rattle.ipc_meta.proofs.fields.read_pairs.Given as goal
 abbrev pub invariant-loop-i : goal.invariant-loop-i
 invariant-loop-i l = record {
   range : l.i-end ≡ l.tables.len;
-  read : with_front l.pairs.items (from_ith pair_read l.tables.bytes l.tables.at l.i l.tables.len l.left)
-      ≡ pairs_read l.table l.slot l.fn.left;
+  read : with_front l.pairs.items (from_ith pair_read l.tables.bytes l.tables.at l.i l.tables.len l.budget)
+      ≡ pairs_read l.table l.slot l.fn.budget;
 }

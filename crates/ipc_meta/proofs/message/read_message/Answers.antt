@@ -40,5 +40,5 @@ returns-in_err-check_body_length-clause-refused c =
     rw (p.1, p.2, long.0) (λ ne. (
       _,
       root,
-      (pos c.in_ok-body.body, c.in_ok-body.ensures.found, lt-ltb c.args.limits.now.body c.in_ok-body.body long.1),
+      (pos c.in_ok-body.body, c.in_ok-body.ensures.finds, lt-ltb c.args.limits.now.body c.in_ok-body.body long.1),
     ))

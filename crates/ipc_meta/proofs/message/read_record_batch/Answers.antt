@@ -18,12 +18,12 @@ returns-in_err-batch-clause-refused c =
     let p = err_from_is_err_and c.from_residual.result c.from_residual.ensures.1 in
     rw (p.1, p.2) (λ b has beside ne. batch_refused c.args.limits.now b _ _ has (c.in_err-batch.ensures ne))
 
-pub returns-clause-found : goal.returns-clause-found
-returns-clause-found c = (batch_sound _ _ c.in_ok-batch.ensures, c.in_ok-read_batch_pairs.ensures.found)
+pub returns-clause-finds : goal.returns-clause-finds
+returns-clause-finds c = (batch_sound _ _ c.in_ok-batch.ensures, c.in_ok-read_batch_pairs.ensures.finds)
 
 pub returns-clause-only : goal.returns-clause-only
 returns-clause-only c = λ batch pairs at beside.
     rw (
       batch_one c.args.table.now batch c.in_ok-batch.batch at (batch_sound _ _ c.in_ok-batch.ensures),
-      pairs_same c.args.root.now pairs _ beside c.in_ok-read_batch_pairs.ensures.found,
+      pairs_same c.args.root.now pairs _ beside c.in_ok-read_batch_pairs.ensures.finds,
     ) refl

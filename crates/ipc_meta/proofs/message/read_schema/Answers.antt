@@ -5,12 +5,12 @@ use Rattle.ipc_meta.proofs.Sound.{pairs_sound, fields_sound, field_sound}
 use Rattle.ipc_meta.proofs.Complete.{schema_complete}
 use Rattle.ipc_meta.proofs.Unique.{schema_same, refused, fields_refused, check_refused}
 use Rattle.ipc_meta.specs.Reading.{field_read}
-use Rattle.ipc_meta.proofs.refused.RefusedSchemas as told
+use Rattle.ipc_meta.proofs.refused.RefusedSchemas as report
 use Rattle.ipc_meta.proofs.refused.RefusedFields.{own_pairs_refused, columns_refused}
 use Rattle.ipc_meta.proofs.message.read_schema.Goals as goal
 
-pub returns-clause-found : goal.returns-clause-found
-returns-clause-found c = record {
+pub returns-clause-finds : goal.returns-clause-finds
+returns-clause-finds c = record {
   little_endian = c.in_ok-check_endianness.ensures.ok;
   fields = fields_sound (field_read _) (field_sound _) _ _ _ _ _ c.in_ok-fields.ensures;
   pairs = pairs_sound _ _ _ _ _ c.in_ok-metadata.ensures;
@@ -18,7 +18,7 @@ returns-clause-found c = record {
 }
 
 pub returns-clause-only : goal.returns-clause-only
-returns-clause-only c = λ s h. ap Ok (schema_same _ s _ h (returns-clause-found c))
+returns-clause-only c = λ s h. ap Ok (schema_same _ s _ h (returns-clause-finds c))
 
 pub returns-in_err-metadata-clause-only : goal.returns-in_err-metadata-clause-only
 returns-in_err-metadata-clause-only c = λ s h.
@@ -49,7 +49,7 @@ pub returns-in_err-check-clause-refused : goal.returns-in_err-check-clause-refus
 returns-in_err-check-clause-refused c =
     let p = err_from_is_err_and c.from_residual-in_err-check.result c.from_residual-in_err-check.ensures.1 in
     rw (p.1, p.2) (λ b has ne.
-    told.check_refused b _ (record { fields = c.in_ok-fields.fields; metadata = c.in_ok-metadata.metadata }) _ _ _ _ has
+    report.check_refused b _ (record { fields = c.in_ok-fields.fields; metadata = c.in_ok-metadata.metadata }) _ _ _ _ has
     c.in_ok-metadata.ensures c.in_ok-fields.ensures c.in_err-check.ensures.first ne)
 
 pub returns-in_err-check_endianness-clause-refused : goal.returns-in_err-check_endianness-clause-refused

@@ -25,7 +25,7 @@ returns-clause-set c = λ s is can.
     let rows = c.as_slice-2.ensures in
     let fit = subst (λ (cs : List Field). AllByRecursion (RowFits cs) send.1) (sym slice) can.fit in
     let within = subst (λ (cs : List Field). IsWithin limits cs send.1) (sym slice) can.within in
-    let told = c.in_ok-message.ensures.sets s
+    let report = c.in_ok-message.ensures.sets s
     (ap (columns_for (dictionary_columns s.fields)) id ∙ named ∙ ap (λ cs. Some cs) (sym c.as_slice.ensures))
     (subst (λ (cs : List Field). AllByRecursion (IsFieldWellFormed limits) (entries cs)) (sym slice) can.fine)
     (subst (λ (rs : List (List Value)). AllByRecursion (RowFits c.as_slice.result.now) rs) (sym rows) fit)
@@ -35,6 +35,6 @@ returns-clause-set c = λ s is can.
       (
         c.in_ok-push.ensures.items,
         subst (λ (rs : List (List Value)). SetsDictionary limits s send.0 rs c.in_ok-message.message) rows
-            (subst (λ (z : ℤ). SetsDictionary limits s z c.as_slice-2.result.now c.in_ok-message.message) id told),
+            (subst (λ (z : ℤ). SetsDictionary limits s z c.as_slice-2.result.now c.in_ok-message.message) id report),
       ),
     )

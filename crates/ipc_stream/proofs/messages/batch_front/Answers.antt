@@ -22,12 +22,12 @@ returns-clause-message c = λ m s values body size found.
     let count = signed_count c.args.count (few_slots c.args.limits.now c.args.count found.lengths.batch) in
     let signed : cast_signed w64 (of_z w64 c.cast_signed.result) ≡ pos c.args.count =
     ap (λ (z : ℤ). cast_signed w64 (of_z w64 z)) (c.cast_signed.ensures ∙ count) ∙ count in
-    let told = subst (λ (n : ℕ). (rest : List ℕ)
+    let report = subst (λ (n : ℕ). (rest : List ℕ)
     → HeadOf c.args.limits.now (c.deref.result.now ++ rest) (h.Batch (of_length (pos c.args.count)) pairs) n)
     (sym size)
     (subst (λ (z : ℤ). (rest : List ℕ) → HeadOf c.args.limits.now (c.deref.result.now ++ rest) (h.Batch (of_length z) pairs) c.args.len)
     signed states) in
     IfOk-weaker c.front.result _ _
     (λ front framed o same in_force. tells c.deref.result.now body _ (λ head stated. framed c.args.limits.now head body short stated)
-    m s (of_length (pos c.args.count)) (record { pairs = pairs; rows = values }) told found o same in_force)
+    m s (of_length (pos c.args.count)) (record { pairs = pairs; rows = values }) report found o same in_force)
     c.front.ensures.framed

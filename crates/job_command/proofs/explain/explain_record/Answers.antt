@@ -7,7 +7,7 @@ use Rattle.job_command.proofs.explain.explain_record.Goals as goal
 pub returns-in-Some-column_at : goal.returns-in-Some-column_at
 returns-in-Some-column_at c = rw c.in-BadField.is (record {
   explains = IfOk-weaker c.explain_field.result _ _
-      (λ out h. field_explained c.in-BadField.number c.in-BadField.column _ c.args.schema.now.fields (fields_of c.args.refused.now)
+      (λ out h. field_explained c.in-BadField.number c.in-BadField.column _ c.args.schema.now.fields (fields_of c.args.fields.now)
       c.in-Some-column_at.column.now c.in-Some-get.field.now out.items
       (rw c.as_slice-columns.ensures at c.in-Some-column_at.ensures.some) (sym c.in-Some-get.ensures.value)
       (rw c.words_of.ensures at h)) c.explain_field.ensures;

@@ -8,11 +8,11 @@ use Rattle.job_command.proofs.running.lines_of.Goals as goal
 
 pub returns-in-SchemaText : goal.returns-in-SchemaText
 returns-in-SchemaText g c =
-    let told = IfOk-weaker c.explain_schema.result _ (λ out. (out.items ≡ []) ⊎ ExplainsStop c.args.stop.now out.items)
+    let report = IfOk-weaker c.explain_schema.result _ (λ out. (out.items ≡ []) ⊎ ExplainsStop c.args.stop.now out.items)
     (λ out either. elim either [
       | inl none ↦ inl none.0
       | inr line ↦ inr (rw c.in-SchemaText.is
           (subst (λ (text : List ℕ). ExplainsSchema text out.items) c.as_slice.ensures.value line))
     ]) c.explain_schema.ensures.explains in
     subst (λ o. IfSome o (λ out. (out.items ≡ []) ⊎ ExplainsStop c.args.stop.now out.items)) (sym c.ok-in-SchemaText.ensures.value)
-    (told_if_ok c.explain_schema.result (λ out. (out.items ≡ []) ⊎ ExplainsStop c.args.stop.now out.items) told)
+    (told_if_ok c.explain_schema.result (λ out. (out.items ≡ []) ⊎ ExplainsStop c.args.stop.now out.items) report)

@@ -59,8 +59,8 @@ part_of-buffers-requires-clause-inside c =
 pub is_refused-requires-clause-few : goal.is_refused-requires-clause-few
 is_refused-requires-clause-few c = column_few c.args.fields.now c.loop-number.number c.args.limits.now.fields c.requires.few
 
-pub returns-then-refused-clause-found : goal.returns-then-refused-clause-found
-returns-then-refused-clause-found c =
+pub returns-then-refused-clause-finds : goal.returns-then-refused-clause-finds
+returns-then-refused-clause-finds c =
     let alone : column_head c.args.fields.now c.args.head.now c.loop-number.number ≡ record {
       length = c.args.head.now.length;
       nodes = c.part_of-nodes.result.now;
@@ -131,5 +131,5 @@ loop-number-preserved c =
           (c.in_ok-refused.ensures.other c.if-refused.false)));
     }
 
-pub returns-clause-found : goal.returns-clause-found
-returns-clause-found c = λ counts j less. c.loop-number.invariant.passed j (omega (arith, less))
+pub returns-clause-finds : goal.returns-clause-finds
+returns-clause-finds c = λ counts j less. c.loop-number.invariant.passed j (omega (arith, less))

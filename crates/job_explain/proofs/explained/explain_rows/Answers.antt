@@ -7,11 +7,11 @@ use Rattle.job_explain.proofs.explained.explain_rows.Goals as goal
 
 pub returns-clause-line : goal.returns-clause-line
 returns-clause-line c =
-    let known = c.args.known.now in
-    subst (λ m. IfOk c.explain_batch.result (λ line. ExplainsBatch known.limits c.args.fault.now m known.schema.fields c.args.head.now
-    c.args.body.now [] line.items)) (shown_values c.current.result.now known.dictionaries.current c.current.ensures.current)
-    (subst (λ fs. IfOk c.explain_batch.result (λ line. ExplainsBatch known.limits c.args.fault.now (dictionaries_in c.current.result.now)
+    let context = c.args.context.now in
+    subst (λ m. IfOk c.explain_batch.result (λ line. ExplainsBatch context.limits c.args.fault.now m context.schema.fields c.args.head.now
+    c.args.body.now [] line.items)) (shown_values c.current.result.now context.dictionaries.current c.current.ensures.current)
+    (subst (λ fs. IfOk c.explain_batch.result (λ line. ExplainsBatch context.limits c.args.fault.now (dictionaries_in c.current.result.now)
     fs c.args.head.now c.args.body.now [] line.items)) c.as_slice.ensures
-    (subst (λ front. IfOk c.explain_batch.result (λ line. ExplainsBatch known.limits c.args.fault.now
+    (subst (λ front. IfOk c.explain_batch.result (λ line. ExplainsBatch context.limits c.args.fault.now
     (dictionaries_in c.current.result.now) c.as_slice.result.now c.args.head.now c.args.body.now front line.items)) c.new.ensures.items
     c.explain_batch.ensures.line))

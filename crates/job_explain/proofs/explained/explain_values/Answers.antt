@@ -8,13 +8,13 @@ use Rattle.job_explain.proofs.explained.explain_values.Goals as goal
 
 pub returns-clause-line : goal.returns-clause-line
 returns-clause-line c =
-    let limits = c.args.known.now.limits in
+    let limits = c.args.context.now.limits in
     let fault = c.args.fault.now in
     let head = c.args.head.now in
     let body = c.args.body.now in
     let fields = c.in-Some.fields.now in
-    let found : columns_for (dictionary_columns c.args.known.now.schema.fields) c.args.id ≡ Some fields =
-    ap (columns_for (dictionary_columns c.args.known.now.schema.fields)) (sym (to_z-of_z w64 c.args.id c.ranges.id))
+    let found : columns_for (dictionary_columns c.args.context.now.schema.fields) c.args.id ≡ Some fields =
+    ap (columns_for (dictionary_columns c.args.context.now.schema.fields)) (sym (to_z-of_z w64 c.args.id c.ranges.id))
     ∙ c.in-Some.ensures.some in
     let none : dictionaries_in c.new-none.result ≡ [] =
     ap (λ es. map (λ e. (e.0, dictionary_values e.1.value)) es) c.new-none.ensures.empty in

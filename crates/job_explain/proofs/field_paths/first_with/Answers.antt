@@ -2,14 +2,14 @@ use Rattle.std.proofs.Common.{arith}
 use Rattle.job_explain.proofs.Alone.{ill_listed, listed, none_in, not_listed}
 use Rattle.job_explain.proofs.field_paths.first_with.Goals as goal
 
-pub returns-in-Ok-None-clause-found : goal.returns-in-Ok-None-clause-found
-returns-in-Ok-None-clause-found c u e h = not_listed c.args.table.now c.args.slot (rw c.in-Ok-None.field-0-is at c.in-Ok-None.ensures) u e
+pub returns-in-Ok-None-clause-answer : goal.returns-in-Ok-None-clause-answer
+returns-in-Ok-None-clause-answer c u e h = not_listed c.args.table.now c.args.slot (rw c.in-Ok-None.field-0-is at c.in-Ok-None.ensures) u e
 
-pub returns-in-Err-clause-found : goal.returns-in-Err-clause-found
-returns-in-Err-clause-found c u e h = ill_listed c.args.table.now c.args.slot _ c.in-Err.ensures u e
+pub returns-in-Err-clause-answer : goal.returns-in-Err-clause-answer
+returns-in-Err-clause-answer c u e h = ill_listed c.args.table.now c.args.slot _ c.in-Err.ensures u e
 
-pub returns-in-Some-clause-found : goal.returns-in-Some-clause-found
-returns-in-Some-clause-found c =
+pub returns-in-Some-clause-answer : goal.returns-in-Some-clause-answer
+returns-in-Some-clause-answer c =
     let is = rw c.in-Some.is at c.in_ok-field.ensures.some in record {
       list = c.in-Ok-Some.tables;
       listed = listed c.args.table.now c.args.slot c.in-Ok-Some.tables (rw c.in-Ok-Some.field-0-is at c.in-Ok-Some.ensures);
@@ -19,7 +19,7 @@ returns-in-Some-clause-found c =
       first = c.loop-i.invariant;
     }
 
-pub returns-clause-found : goal.returns-clause-found
-returns-clause-found c = none_in c.args.limits.now c.args.fault.now c.args.table.now c.args.slot c.in-Ok-Some.tables
+pub returns-clause-answer : goal.returns-clause-answer
+returns-clause-answer c = none_in c.args.limits.now c.args.fault.now c.args.table.now c.args.slot c.in-Ok-Some.tables
     (listed c.args.table.now c.args.slot c.in-Ok-Some.tables (rw c.in-Ok-Some.field-0-is at c.in-Ok-Some.ensures)) (λ j v few.
     c.loop-i.invariant j v (omega arith))

@@ -40,22 +40,22 @@ returns-in-Err-clause-pushes g c = λ input old failures came held.
     rw (c.at_record.ensures, c.take_record.ensures.record) (held_stops c.args.dialect _ _ _ _ _ _ _ _ _ left holds
     (omega (arith, many, c.loop-test.true)) _ _ (c.in-Err.ensures.refused input _ _ holds.came.read))
 
-pub returns-then-not-found-clause-counted : goal.returns-then-not-found-clause-counted
-returns-then-not-found-clause-counted g c =
-    omega (arith, c.loop.invariant.1, c.in-Ok.ensures.stayed c.if-not-found.true)
+pub returns-then-not-has_row-clause-counted : goal.returns-then-not-has_row-clause-counted
+returns-then-not-has_row-clause-counted g c =
+    omega (arith, c.loop.invariant.1, c.in-Ok.ensures.stayed c.if-not-has_row.true)
 
-pub returns-then-not-found-clause-same_reference : goal.returns-then-not-found-clause-same_reference
-returns-then-not-found-clause-same_reference g c = c.loop.invariant.2
+pub returns-then-not-has_row-clause-same_reference : goal.returns-then-not-has_row-clause-same_reference
+returns-then-not-has_row-clause-same_reference g c = c.loop.invariant.2
 
-pub returns-then-not-found-clause-pushes : goal.returns-then-not-found-clause-pushes
-returns-then-not-found-clause-pushes g c = λ input old failures came held.
+pub returns-then-not-has_row-clause-pushes : goal.returns-then-not-has_row-clause-pushes
+returns-then-not-has_row-clause-pushes g c = λ input old failures came held.
     let (left, holds, many) = c.loop.invariant.5 input old failures came held in (
       c.loop.rows,
       left,
       holds,
       omega (arith, many, c.loop.invariant.3),
       omega (arith, many, c.loop-test.true),
-      rw c.if-not-found.true at
+      rw c.if-not-has_row.true at
           (c.in-Ok.ensures.finds input _ _ holds.came.read),
     )
 
@@ -66,7 +66,7 @@ pub returns-in_err-push-2-clause-pushes : goal.returns-in_err-push-2-clause-push
 returns-in_err-push-2-clause-pushes g c = λ input old failures came held.
     let p = err_from_is_err_and c.from_residual-in_err-push-2.result c.from_residual-in_err-push-2.ensures.1 in
     let (left, holds, many) = c.loop.invariant.5 input old failures came held in
-    let more = held_more c.args.dialect _ _ _ _ _ _ _ _ _ left holds c.next.new.self _ c.if-not-found.false
+    let more = held_more c.args.dialect _ _ _ _ _ _ _ _ _ left holds c.next.new.self _ c.if-not-has_row.false
     (c.in-Ok.ensures.finds input _ _ holds.came.read) in
     rw (p.1, p.2) (pushed_stops c.args.dialect _ _ _ _ _ _ _ _ left c.next.new.self.row c.as_slice-in-loop.result.now
     c.as_slice-in-loop.ensures more
@@ -80,13 +80,13 @@ returns-in_err-push-2-clause-pushes g c = λ input old failures came held.
 pub loop-preserved : goal.loop-preserved
 loop-preserved g c = (
   c.in-Ok.ensures.set_up,
-  omega (arith, c.loop.invariant.1, (c.in-Ok.ensures.counted c.if-not-found.false).0),
+  omega (arith, c.loop.invariant.1, (c.in-Ok.ensures.counted c.if-not-has_row.false).0),
   c.in_ok-push-2.ensures.same_reference ∙ c.loop.invariant.2,
   omega arith,
   omega (arith, c.loop-test.true),
   λ input old failures came held.
       let (left, holds, many) = c.loop.invariant.5 input old failures came held in
-      let more = held_more c.args.dialect _ _ _ _ _ _ _ _ _ left holds c.next.new.self _ c.if-not-found.false
+      let more = held_more c.args.dialect _ _ _ _ _ _ _ _ _ left holds c.next.new.self _ c.if-not-has_row.false
       (c.in-Ok.ensures.finds input _ _ holds.came.read) in (
         left ++ c.next.new.self.row ∷ [],
         holds_pushed c.args.dialect _ _ _ _ _ _ _ _ left c.next.new.self.row c.as_slice-in-loop.result.now c.as_slice-in-loop.ensures more

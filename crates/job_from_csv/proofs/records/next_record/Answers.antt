@@ -3,5 +3,5 @@ use Rattle.job_from_csv.proofs.records.next_record.Goals as goal
 
 pub returns-clause-finds : goal.returns-clause-finds
 returns-clause-finds g c = λ d set input records stands.
-    finds_next d g.R.Read.remaining input records c.args.reader.now c.read_byte_record-found.new.self c.in-Ok.found _ set.config
+    finds_next d g.R.Read.remaining input records c.args.reader.now c.read_byte_record-has_record.new.self c.in-Ok.has_record _ set.config
     (c.in-Ok.ensures.reads set.trim set.ready) stands

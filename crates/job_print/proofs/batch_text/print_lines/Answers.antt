@@ -4,7 +4,7 @@ use Rattle.std.proofs.lemmas.List.{take_more, get_or-take, length-take-le}
 use Rattle.std.proofs.lemmas.Result.{err_from_is_err_and}
 use Rattle.ipc_model.specs.declared.value.Value.{Value}
 use Rattle.job_print.specs.Forms.{HasLine, HaveLines, line_of}
-use Rattle.job_print.specs.declared.rows.PrintFault.TheVariants.{OutOfMemory}
+use Rattle.job_print.specs.declared.line_buffer.PrintFault.TheVariants.{OutOfMemory}
 use Rattle.job_print.proofs.Lines.{rows_next, rows_cut}
 use Rattle.job_print.proofs.Puts.{puts_kept, puts_never, puts_none}
 use Rattle.job_print.proofs.Shown.{all_more}
@@ -17,8 +17,8 @@ returns-in-Err-OutOfMemory g c =
     (omega (arith, size))
     c.loop-row.invariant.put (puts_never _ _)
 
-pub fitted_line_of-requires-clause-row : goal.fitted_line_of-requires-clause-row
-fitted_line_of-requires-clause-row g c =
+pub write_growing_line-requires-clause-row : goal.write_growing_line-requires-clause-row
+write_growing_line-requires-clause-row g c =
     rw c.deref-in-loop-row.ensures.value (c.in_ok-columns.ensures.same.have c.loop-row.row (omega arith))
 
 pub returns-in_err-columns : goal.returns-in_err-columns

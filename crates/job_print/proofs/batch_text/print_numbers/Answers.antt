@@ -16,7 +16,7 @@ returns-in_err-put_numbers-in-Some g c =
     let p = err_from_is_err_and c.from_residual-in_err-put_numbers-in-Some.result c.from_residual-in_err-put_numbers-in-Some.ensures.1 in
     let all = are_lines c.args.form c.args.numbers c.args.fields.now (λ (b : Bor (List (List ℕ))). b.now) c.in-Some.columns.items
     c.args.batch.now.rows c.columns-columns.result (c.columns-columns.ensures.count ∙ c.requires.columns) c.requires.fits c.requires.chosen
-    c.requires.shown c.columns-columns.ensures.rows (rw c.in-Some.is at c.in_ok-columns.ensures.lent) in
+    c.requires.shows c.columns-columns.ensures.rows (rw c.in-Some.is at c.in_ok-columns.ensures.lent) in
     rw (p.1, p.2) (not_at _ _ _ _ _ _ (same_lines c.args.form c.args.numbers c.args.fields.now c.args.batch.now.rows all)
     c.in_err-put_numbers-in-Some.ensures)
 
@@ -24,7 +24,7 @@ pub returns-in_ok-put_numbers-in-Some : goal.returns-in_ok-put_numbers-in-Some
 returns-in_ok-put_numbers-in-Some g c =
     let all = are_lines c.args.form c.args.numbers c.args.fields.now (λ (b : Bor (List (List ℕ))). b.now) c.in-Some.columns.items
     c.args.batch.now.rows c.columns-columns.result (c.columns-columns.ensures.count ∙ c.requires.columns) c.requires.fits c.requires.chosen
-    c.requires.shown c.columns-columns.ensures.rows (rw c.in-Some.is at c.in_ok-columns.ensures.lent) in (
+    c.requires.shows c.columns-columns.ensures.rows (rw c.in-Some.is at c.in_ok-columns.ensures.lent) in (
       have_lines c.args.form c.args.numbers c.args.fields.now c.args.batch.now.rows all,
       put_at _ _ _ _ (same_lines c.args.form c.args.numbers c.args.fields.now c.args.batch.now.rows all)
           c.in_ok-put_numbers-in-Some.ensures,

@@ -8,22 +8,22 @@ pub returns-in-Int-clause-text : goal.returns-in-Int-clause-text
 returns-in-Int-clause-text c =
     let fits : FitsSigned w64 c.in-Int.number = search rules in
     rw (slot_json c.args.shape c.args.field.now c.args.column.now c.args.slot (slot.Int c.in-Int.number)
-    (rw c.in-Int.is at c.requires.held))
+    (rw c.in-Int.is at c.requires.value))
     (rw (to_z-of_z w64 c.in-Int.number fits) at c.put_int.ensures.text)
 
 pub returns-in-Bool-clause-text : goal.returns-in-Bool-clause-text
 returns-in-Bool-clause-text c =
     rw (slot_json c.args.shape c.args.field.now c.args.column.now c.args.slot (slot.Bool c.in-Bool.truth)
-    (rw c.in-Bool.is at c.requires.held))
+    (rw c.in-Bool.is at c.requires.value))
     c.put_bool.ensures.text
 
 pub returns-in-Bytes-clause-text : goal.returns-in-Bytes-clause-text
 returns-in-Bytes-clause-text c =
     rw (slot_json c.args.shape c.args.field.now c.args.column.now c.args.slot (slot.Bytes c.in-Bytes.bytes)
-    (rw c.in-Bytes.is at c.requires.held))
+    (rw c.in-Bytes.is at c.requires.value))
     c.put_bytes.ensures.text
 
 pub returns-in-Null-clause-text : goal.returns-in-Null-clause-text
 returns-in-Null-clause-text c =
     rw (slot_json c.args.shape c.args.field.now c.args.column.now c.args.slot slot.Null
-    (rw c.in-Null.is at c.requires.held)) c.put_null.ensures.text
+    (rw c.in-Null.is at c.requires.value)) c.put_null.ensures.text

@@ -82,8 +82,8 @@ returns-in-Indices-clause-within c =
     inside None e = tt
     inside (Some i) e = index_within _ _ i (sym e)
 
-pub returns-in-Indices-clause-shown : goal.returns-in-Indices-clause-shown
-returns-in-Indices-clause-shown c =
+pub returns-in-Indices-clause-shows : goal.returns-in-Indices-clause-shows
+returns-in-Indices-clause-shows c =
     subst (λ (n : Nested). IfSome c.index_in.result (λ i. slice_get n.column.dictionary i
     ≡ slice_get (slot_values c.args.self.now) c.args.slot))
     c.self.view_is (entry c.self.inside.dictionary.now _ c.index_in.result _ (known c) (shows c)).0

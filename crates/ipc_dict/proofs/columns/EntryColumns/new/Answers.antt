@@ -31,8 +31,8 @@ returns-in_err-column-clause-over c =
     let e = c.entry-item.result in
     let f = fresh_at fields es i e c.requires (omega arith) c.entry-item.is in
     let listed : dictionary_columns fields ≡ c.in-Ok.dictionaries.columns = sym (ap (λ d. d.columns) c.in-Ok.ensures.none) in
-    let told = c.in_err-column.ensures.refused f.0.0 (subst (λ (cs : Listed). columns_for cs e.id ≡ Some f.0.0) listed f.0.1.0) in
-    let long = subst (λ (vs : List Value). AreColumnsTooLong limits f.0.0 (as_rows vs)) (sym f.1) told.1 in
+    let report = c.in_err-column.ensures.refused f.0.0 (subst (λ (cs : Listed). columns_for cs e.id ≡ Some f.0.0) listed f.0.1.0) in
+    let long = subst (λ (vs : List Value). AreColumnsTooLong limits f.0.0 (as_rows vs)) (sym f.1) report.1 in
     let over = over_at limits fields es i e w.TooLong (omega arith) c.entry-item.is (f.0.0, (f.0.1.0, (long, inl refl))) in
     let p = err_from_is_err_and c.from_residual-in_err-column.result c.from_residual-in_err-column.ensures.1 in
     subst (λ r. IfErr r (λ fault. fault ≡ w.TooLong → IsOverLimit limits fields es fault)) (sym p.1)
@@ -44,9 +44,9 @@ returns-in_err-column-clause-only c =
     let e = c.entry-item.result in
     let f = fresh_at fields c.args.entries.now c.loop-entry.entry-index e c.requires (omega arith) c.entry-item.is in
     let listed : dictionary_columns fields ≡ c.in-Ok.dictionaries.columns = sym (ap (λ d. d.columns) c.in-Ok.ensures.none) in
-    let told = c.in_err-column.ensures.refused f.0.0 (subst (λ (cs : Listed). columns_for cs e.id ≡ Some f.0.0) listed f.0.1.0) in
+    let report = c.in_err-column.ensures.refused f.0.0 (subst (λ (cs : Listed). columns_for cs e.id ≡ Some f.0.0) listed f.0.1.0) in
     let p = err_from_is_err_and c.from_residual-in_err-column.result c.from_residual-in_err-column.ensures.1 in
-    rw (p.1, p.2, told.0) (inl refl)
+    rw (p.1, p.2, report.0) (inl refl)
 
 pub loop-entry-preserved : goal.loop-entry-preserved
 loop-entry-preserved c =
@@ -67,7 +67,7 @@ loop-entry-preserved c =
       room = omega (
         arith,
         c.loop-entry.invariant.room,
-        length-append c.loop-entry.counted.items (column ∷ []),
+        length-append c.loop-entry.sizes.items (column ∷ []),
         length-append c.loop-entry.next.items (column ∷ []),
         ap (λ (cs : List ColumnSizes). length cs) c.in_ok-push.ensures.items,
         ap (λ (cs : List ColumnSizes). length cs) c.in_ok-push-2.ensures.items,

@@ -4,6 +4,6 @@ use Rattle.ipc_dict.proofs.columns.EntryColumns.new.Given as goal
 
 abbrev pub invariant-loop-entry : goal.invariant-loop-entry
 invariant-loop-entry l = record {
-  counted : AllCounted l.limits l.schema.fields (take l.entry-index l.entries) l.counted.items;
-  room : length l.next.items ≡ length l.counted.items;
+  counted : AllCounted l.limits l.schema.fields (take l.entry-index l.entries) l.sizes.items;
+  room : length l.next.items ≡ length l.sizes.items;
 }

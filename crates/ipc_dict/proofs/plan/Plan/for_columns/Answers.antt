@@ -18,21 +18,21 @@ use Rattle.ipc_dict.proofs.EntryColumns.{over_first}
 use Rattle.ipc_dict.proofs.Notes.{if_ok}
 use Rattle.ipc_dict.proofs.plan.Plan.for_columns.Goals as goal
 
-pub returns-in_err-counted-clause-over : goal.returns-in_err-counted-clause-over
-returns-in_err-counted-clause-over c =
+pub returns-in_err-column_tally-clause-over : goal.returns-in_err-column_tally-clause-over
+returns-in_err-column_tally-clause-over c =
     let fs = c.args.schema.now.fields in
-    let fault = c.in_err-counted.field-0.0 in
+    let fault = c.in_err-column_tally.field-0.0 in
     let p = err_from_is_err_and c.from_residual.result c.from_residual.ensures.1 in
     rw (p.1, p.2) (over_first c.args.limits.now fs (empty_entries fs) (rows_pairs fs c.args.batch.now.rows) fault
-    c.in_err-counted.ensures.over
-    c.in_err-counted.ensures.only)
+    c.in_err-column_tally.ensures.over
+    c.in_err-column_tally.ensures.only)
 
 pub returns-in_err-note_columns-clause-full : goal.returns-in_err-note_columns-clause-full
 returns-in_err-note_columns-clause-full c =
     let p = err_from_is_err_and c.from_residual-in_err-note_columns.result c.from_residual-in_err-note_columns.ensures.1 in
     rw (p.1, p.2) (λ same.
     subst (λ (t : TallyState). IsIndexOverflow (note_all t.entries (rows_pairs t.fields c.args.batch.now.rows)))
-    c.in_ok-counted.ensures.fresh
+    c.in_ok-column_tally.ensures.fresh
     (c.in_err-note_columns.ensures.full same))
 
 pub returns-in_err-note_columns-clause-over : goal.returns-in_err-note_columns-clause-over
@@ -41,9 +41,9 @@ returns-in_err-note_columns-clause-over c =
     let p = err_from_is_err_and c.from_residual-in_err-note_columns.result c.from_residual-in_err-note_columns.ensures.1 in
     rw (p.1, p.2) (λ one.
     subst (λ (t : TallyState). IsOverLimit t.limits t.fields (note_all t.entries (rows_pairs t.fields c.args.batch.now.rows)) fault)
-    c.in_ok-counted.ensures.fresh (c.in_err-note_columns.ensures.over one))
+    c.in_ok-column_tally.ensures.fresh (c.in_err-note_columns.ensures.over one))
 
--- a tally that has not failed does not answer that it has
+-- a column_tally that has not failed does not answer that it has
 only_of : (e : PushFault) → ((write_fault e ≡ w.DictionaryFull) ⊎ IsOfLimits (write_fault e))
     ⊎ ((write_fault e ≡ w.OutOfMemory) ⊎ (write_fault e ≡ w.Failed)) → (write_fault e ≡ w.Failed → ⊥)
     → ((write_fault e ≡ w.DictionaryFull) ⊎ IsOfLimits (write_fault e)) ⊎ (write_fault e ≡ w.OutOfMemory)
@@ -55,22 +55,23 @@ pub returns-in_err-note_columns-clause-only : goal.returns-in_err-note_columns-c
 returns-in_err-note_columns-clause-only c =
     let p = err_from_is_err_and c.from_residual-in_err-note_columns.result c.from_residual-in_err-note_columns.ensures.1 in
     rw (p.1, p.2) (only_of c.in_err-note_columns.field-0.0 c.in_err-note_columns.ensures.only
-    (λ is. true≢false (sym (c.in_err-note_columns.ensures.before is) ∙ ap (λ (t : TallyState). t.failed) c.in_ok-counted.ensures.fresh)))
+    (λ is. true≢false (sym (c.in_err-note_columns.ensures.before is)
+    ∙ ap (λ (t : TallyState). t.failed) c.in_ok-column_tally.ensures.fresh)))
 
 pub returns-clause-tallied : goal.returns-clause-tallied
 returns-clause-tallied c =
     let noted = ap (λ (t : TallyState). t.entries) c.in_ok-note_columns.ensures.noted
-    ∙ ap (λ (t : TallyState). note_all t.entries (rows_pairs t.fields c.args.batch.now.rows)) c.in_ok-counted.ensures.fresh in
+    ∙ ap (λ (t : TallyState). note_all t.entries (rows_pairs t.fields c.args.batch.now.rows)) c.in_ok-column_tally.ensures.fresh in
     if_ok c.settle.result c.settle.ensures.entries (λ plan e. e ∙ noted)
 
 pub returns-clause-ids : goal.returns-clause-ids
 returns-clause-ids c =
-    let fields = c.note_columns.ensures.fields ∙ ap (λ (t : TallyState). t.fields) c.in_ok-counted.ensures.fresh in
+    let fields = c.note_columns.ensures.fields ∙ ap (λ (t : TallyState). t.fields) c.in_ok-column_tally.ensures.fresh in
     if_ok c.settle.result c.settle.ensures.ids (λ plan h. h ∙ ap ids_of fields)
 
 pub returns-clause-addressed : goal.returns-clause-addressed
 returns-clause-addressed c =
-    let fields = c.note_columns.ensures.fields ∙ ap (λ (t : TallyState). t.fields) c.in_ok-counted.ensures.fresh in
+    let fields = c.note_columns.ensures.fields ∙ ap (λ (t : TallyState). t.fields) c.in_ok-column_tally.ensures.fresh in
     if_ok c.settle.result c.settle.ensures.addressed (λ plan h. subst (λ (fs : List Field). AreAddressed fs plan.entries) fields h)
 
 pub returns-clause-fits : goal.returns-clause-fits
@@ -79,8 +80,8 @@ returns-clause-fits c =
 
 pub returns-clause-within : goal.returns-clause-within
 returns-clause-within c =
-    let fields = c.note_columns.ensures.fields ∙ ap (λ (t : TallyState). t.fields) c.in_ok-counted.ensures.fresh in
-    let limits = c.note_columns.ensures.limits ∙ ap (λ (t : TallyState). t.limits) c.in_ok-counted.ensures.fresh in
+    let fields = c.note_columns.ensures.fields ∙ ap (λ (t : TallyState). t.fields) c.in_ok-column_tally.ensures.fresh in
+    let limits = c.note_columns.ensures.limits ∙ ap (λ (t : TallyState). t.limits) c.in_ok-column_tally.ensures.fresh in
     if_ok c.settle.result c.settle.ensures.within (λ plan h.
     subst (λ (l : Limits). AllWithin l c.args.schema.now.fields plan.entries) limits
     (subst (λ (fs : List Field). AllWithin c.note_columns.new.self.limits fs plan.entries) fields h))
@@ -92,7 +93,7 @@ both (Err e) p q f = tt
 
 pub returns-clause-finds : goal.returns-clause-finds
 returns-clause-finds c =
-    let ids = c.note_columns.ensures.ids ∙ ap (λ (t : TallyState). tally_ids t.entries) c.in_ok-counted.ensures.fresh in
+    let ids = c.note_columns.ensures.ids ∙ ap (λ (t : TallyState). tally_ids t.entries) c.in_ok-column_tally.ensures.fresh in
     both c.settle.result c.settle.ensures.entries (c.settle.ensures.finds (c.requires ∙ sym ids))
     (λ plan e h. subst (λ (es : List TallyEntry). FindsAll c.args.kept.now es plan.numbers) (sym e) h)
 

@@ -14,10 +14,10 @@ returns-clause-rows g c = λ known limits fields rows m h fine fits finds.
     let held = subst (λ (ns : List Node). HoldColumns known limits (shape_of fields) ns (row_columns rows))
     (sym c.deref.ensures.value) h.columns_are in
     let drafted = c.in_ok-draft.ensures known limits fields rows held in
-    let stored = all_stored known limits (shape_of fields) c.args.self.nodes.items (row_columns rows) h.columns_are in
+    let stores = all_stored known limits (shape_of fields) c.args.self.nodes.items (row_columns rows) h.columns_are in
     rows_of_parts m (new_indices (g.N.Renumber.number c.args.numbers.now) known) fields rows
     c.from_vec.result c.from_vec-2.result c.in_ok-draft.draft.body.items
-    fine fits h.within stored finds
+    fine fits h.within stores finds
     (c.from_vec.ensures ∙ drafted.nodes) (c.from_vec-2.ensures ∙ drafted.buffers) drafted.body
 
 pub returns-clause-body : goal.returns-clause-body

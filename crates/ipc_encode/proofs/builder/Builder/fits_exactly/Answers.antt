@@ -41,10 +41,10 @@ returns-clause-refused c = λ known limits fields rows h.
     (λ fault. ArePushesRefused own (shape_of fields) (λ j. row_columns rows j ++ cell j c.args.row.now ∷ []) fault
     × (fault ≡ OutOfMemory → ⊥))
     (λ fault. AreRowsRefused limits fields next (write_fault fault) × (fault ≡ OutOfMemory → ⊥))
-    (λ fault told.
+    (λ fault report.
     let much = subst (λ (l : Limits). ArePushesRefused l (shape_of fields) (row_columns next) fault) h.limits_are
-    (subst (λ (given : ℕ → List Value). ArePushesRefused own (shape_of fields) given fault) (columns_push rows c.args.row.now) told.0) in
-    (rows_refused limits fields next fault much, told.1))
+    (subst (λ (given : ℕ → List Value). ArePushesRefused own (shape_of fields) given fault) (columns_push rows c.args.row.now) report.0) in
+    (rows_refused limits fields next fault much, report.1))
     (c.check_fit.ensures.refused known (shape_of fields) (row_columns rows) held)
 
 pub returns-clause-kept : goal.returns-clause-kept

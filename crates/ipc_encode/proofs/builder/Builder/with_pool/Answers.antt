@@ -14,10 +14,10 @@ pub returns-in_err-check_len-clause-refused : goal.returns-in_err-check_len-clau
 returns-in_err-check_len-clause-refused c =
     let held = subst (λ (ns : List Node). HoldColumns (λ id value. 0) c.args.limits.now (shape_of c.args.fields.now) ns (row_columns []))
     (sym c.deref.ensures.value) (c.in_ok-nodes.ensures (λ id value. 0) c.args.limits.now) in
-    let told = c.in_err-check_len.ensures.refused (λ id value. 0) c.args.fields.now [] held in
+    let report = c.in_err-check_len.ensures.refused (λ id value. 0) c.args.fields.now [] held in
     let returned = err_from_is_err_and c.from_residual-in_err-check_len.result c.from_residual-in_err-check_len.ensures.1 in
     rw (returned.1, returned.2)
-    (subst (λ (fault : WriteFault). AreRowsRefused c.args.limits.now c.args.fields.now [] fault) (sym told.0) told.1)
+    (subst (λ (fault : WriteFault). AreRowsRefused c.args.limits.now c.args.fields.now [] fault) (sym report.0) report.1)
 
 pub returns-clause-rows : goal.returns-clause-rows
 returns-clause-rows c = λ known.

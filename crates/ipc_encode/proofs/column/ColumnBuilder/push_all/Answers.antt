@@ -21,7 +21,7 @@ pub returns-in_err-push-clause-refused : goal.returns-in_err-push-clause-refused
 returns-in_err-push-clause-refused g c = λ layout children before h.
     let p = err_from_is_err_and c.from_residual-in_err-push.result c.from_residual-in_err-push.ensures.1 in
     let so_far = take c.loop-value.value-index c.args.values.now in
-    let told = own_refused c.args.limits.now layout children bare (λ j. (before ++ so_far) ++ c.value-item.result ∷ [])
+    let report = own_refused c.args.limits.now layout children bare (λ j. (before ++ so_far) ++ c.value-item.result ∷ [])
     c.in_err-push.field-0.0
     (c.in_err-push.ensures.refused layout (before ++ so_far) (c.loop-value.invariant layout before h)) in
     let next : (before ++ so_far) ++ c.value-item.result ∷ [] ≡ before ++ take (c.loop-value.value-index + 1) c.args.values.now =
@@ -31,4 +31,4 @@ returns-in_err-push-clause-refused g c = λ layout children before h.
     rw (p.1, p.2) (all_refused c.args.limits.now layout children before c.args.values.now
     (c.loop-value.value-index + 1) c.in_err-push.field-0.0
     (subst (λ (vs : List Value). ArePushesRefused c.args.limits.now (field layout children bare)
-    (λ j. vs) c.in_err-push.field-0.0) next told))
+    (λ j. vs) c.in_err-push.field-0.0) next report))

@@ -16,7 +16,7 @@ returns-then-count-limits-clause-refused g c =
 pub invariant_of-self-2 : goal.invariant_of-self-2
 invariant_of-self-2 g c =
     let size = cells_length c.args.column c.args.batch.now.rows in
-    let all = ap (λ (os : List (Option ℕ)). length os) (c.deref.ensures.value ∙ c.in_ok-taken.ensures) in
+    let all = ap (λ (os : List (Option ℕ)). length os) (c.deref.ensures.value ∙ c.in_ok-column_indices.ensures) in
     let each = length-map (cells c.args.column c.args.batch.now.rows) (column_index (index_or_zero (g.I.IndexOf.index c.args.indices.now))
     (Indices c.args.bits c.args.signed (to_z w64 (of_z w64 c.args.id)))) in
     record {
@@ -30,7 +30,7 @@ returns-clause-taken g c = λ h.
     let known = index_or_zero (g.I.IndexOf.index c.args.indices.now) in
     let vs = cells c.args.column c.args.batch.now.rows in
     let size : length vs ≡ c.rows-count.result = cells_length c.args.column c.args.batch.now.rows ∙ sym c.rows-count.ensures in
-    let mine : c.in_ok-taken.taken.items ≡ indices_of (known id) vs = c.in_ok-taken.ensures in
+    let mine : c.in_ok-column_indices.column_indices.items ≡ indices_of (known id) vs = c.in_ok-column_indices.ensures in
     let nulls = c.count_nulls-null_count.ensures.nulls (known id) vs (c.deref.ensures.value ∙ mine) in
     record {
       laid = ap (λ (z : ℤ). Indices c.args.bits c.args.signed z) (to_z-of_z w64 c.args.id c.ranges.id);

@@ -21,7 +21,7 @@ returns-in-Ok-default-More-clause-feeds c =
     let more = c.in-Ok-default-More in
     let limits = c.self.inside.limits in
     let z = received_bytes c.self.inside.parts in
-    rw (← c.self.view_is, c.in-Reading.is) (feeds_none limits z _ _ _ more.awaited
+    rw (← c.self.view_is, c.in-Reading.is) (feeds_none limits z _ _ _ more.expectation
     (subst (λ s. FeedsOn limits z c.args.piece.now c.feed_on.new.parts (Ok (more.taken, s))) more.field-0-1-is
     (subst (λ r. FeedsOn limits z c.args.piece.now c.feed_on.new.parts r) more.is c.feed_on.ensures.feeds)))
 

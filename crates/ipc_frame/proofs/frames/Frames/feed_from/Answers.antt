@@ -22,7 +22,7 @@ returns-in-Ok-More-clause-takes g c =
     let gave = reads_at _ _ _ (received_bytes c.self.inside.parts) c.read_on-count.new.parts _ _ _
     (c.in-Ok-More.is ∙ ap Ok c.in-Ok-More.field-0-is) c.read_on-count.ensures.reads in
     rw (← c.self.view_is, c.in-Reading.is)
-    (takes_more _ _ _ (received_bytes c.self.inside.parts) c.read_on-count.new.parts _ c.in-Ok-More.awaited gave)
+    (takes_more _ _ _ (received_bytes c.self.inside.parts) c.read_on-count.new.parts _ c.in-Ok-More.expectation gave)
 
 pub invariant_of-self-in-Ok-Whole : goal.invariant_of-self-in-Ok-Whole
 invariant_of-self-in-Ok-Whole g c =
@@ -46,7 +46,7 @@ returns-in-Err-clause-takes g c =
 pub returns-in-Err-clause-memory : goal.returns-in-Err-clause-memory
 returns-in-Err-clause-memory g c =
     let undecided = subst (λ p. IsSound c.self.inside.limits c.self.inside.parts p) c.in-Reading.is c.self.invariant in
-    let memory = subst (λ r. IfErr r (λ fault. fault ≡ OutOfMemory → HasSize c.in-Reading.awaited)) c.in-Err.is
+    let memory = subst (λ r. IfErr r (λ fault. fault ≡ OutOfMemory → HasSize c.in-Reading.expectation)) c.in-Err.is
     c.read_on-count.ensures.memory in
     rw (← c.self.view_is, c.in-Reading.is)
-    (λ is. sized_alone _ (sized_at c.self.inside.limits c.self.inside.parts c.in-Reading.awaited (memory is) undecided.fits))
+    (λ is. sized_alone _ (sized_at c.self.inside.limits c.self.inside.parts c.in-Reading.expectation (memory is) undecided.fits))

@@ -16,28 +16,28 @@ use Rattle.ipc_stream.proofs.FirstRows.{refused_at_first}
 use Rattle.ipc_stream.proofs.HeldRows.{judged_sent}
 use Rattle.ipc_stream.proofs.open_stream.OpenStream.send_batch.Goals as goal
 
--- the batch whose rows were pushed is held
+-- the batch whose rows were pushed is pending
 all_held : (old begun : OpenStreamState) (limits : Limits) (s : Schema) (kept : List KeptEntry) (seed : Seed) (b : BatchRows)
-    (pairs : List (List ℕ × List ℕ)) (rows : List (List Value)) (held new : PendingBatch)
+    (pairs : List (List ℕ × List ℕ)) (rows : List (List Value)) (pending new : PendingBatch)
     → record { limits = limits; schema = s; kept = kept; seed = seed } ≡ begun → begun ≡ old → pairs ≡ b.pairs → rows ≡ b.rows
-    → HoldsBatch old.limits old.schema (no_rows pairs) held
-    → (HoldsBatch limits s (no_rows pairs) held → HoldsBatch limits s (with_rows pairs rows) new)
+    → HoldsBatch old.limits old.schema (no_rows pairs) pending
+    → (HoldsBatch limits s (no_rows pairs) pending → HoldsBatch limits s (with_rows pairs rows) new)
     → HoldsBatch begun.limits begun.schema b new
-all_held old begun limits s kept seed b pairs rows held new view same copied all begins pushes =
-    let first = subst (λ (o : OpenStreamState). HoldsBatch o.limits o.schema (no_rows pairs) held) (sym (view ∙ same)) begins in
+all_held old begun limits s kept seed b pairs rows pending new view same copied all begins pushes =
+    let first = subst (λ (o : OpenStreamState). HoldsBatch o.limits o.schema (no_rows pairs) pending) (sym (view ∙ same)) begins in
     let given = subst (λ (rs : List (List Value)). HoldsBatch limits s (with_rows pairs rs) new) all (pushes first) in
     let whole = subst (λ (ps : List (List ℕ × List ℕ)). HoldsBatch limits s (with_rows ps b.rows) new) copied given in
     subst (λ (o : OpenStreamState). HoldsBatch o.limits o.schema b new) view whole
 
-pub returns-in_err-held-clause-judged : goal.returns-in_err-held-clause-judged
-returns-in_err-held-clause-judged g c =
+pub returns-in_err-pending-clause-judged : goal.returns-in_err-pending-clause-judged
+returns-in_err-pending-clause-judged g c =
     let copied = c.in_ok-clone.ensures.cases.1 (λ p q same i. (same.0 i, same.1 i)) in
-    let p = err_from_is_err_and c.from_residual-in_err-held.result c.from_residual-in_err-held.ensures.1 in
+    let p = err_from_is_err_and c.from_residual-in_err-pending.result c.from_residual-in_err-pending.ensures.1 in
     rw (p.1, p.2)
     (refused_at_first c.args.self.now.limits c.args.self.now.schema c.args.batch.now.pairs c.args.batch.now.rows 0 _
     (subst (λ (ps : List (List ℕ × List ℕ)).
-    RefusesPending c.args.self.now.limits c.args.self.now.schema (no_rows ps) false c.in_err-held.field-0.0)
-    copied c.in_err-held.ensures.refused))
+    RefusesPending c.args.self.now.limits c.args.self.now.schema (no_rows ps) false c.in_err-pending.field-0.0)
+    copied c.in_err-pending.ensures.refused))
 
 pub push_all-requires : goal.push_all-requires
 push_all-requires g c = short_paths {limits = c.self.inside.limits} c.self.inside.schema c.self.invariant.well_formed
@@ -45,12 +45,12 @@ push_all-requires g c = short_paths {limits = c.self.inside.limits} c.self.insid
 pub send_rows-requires : goal.send_rows-requires
 send_rows-requires g c =
     let copied = c.in_ok-clone.ensures.cases.1 (λ p q same i. (same.0 i, same.1 i)) in
-    let held =
+    let pending =
     all_held c.args.self.now c.begin_batch.new.self c.self.inside.limits c.self.inside.schema c.self.inside.kept
     c.self.inside.seed c.args.batch.now _ _ _ _ c.self.view_is c.begin_batch.ensures.same copied c.as_slice.ensures
-    c.in_ok-held.ensures.holds
+    c.in_ok-pending.ensures.holds
     (λ h. c.in_ok-push_all.ensures.holds c.self.inside.limits c.in_ok-clone.field-0 c.self.invariant.well_formed h) in
-    (ap (λ (t : TallyState). t.limits) held.tally, ap (λ (t : TallyState). t.fields) held.tally)
+    (ap (λ (t : TallyState). t.limits) pending.tally, ap (λ (t : TallyState). t.fields) pending.tally)
 
 pub returns-clause-sends : goal.returns-clause-sends
 returns-clause-sends g c =
@@ -59,7 +59,7 @@ returns-clause-sends g c =
     (c.send_rows.ensures.sends c.args.batch.now
     (all_held c.args.self.now c.begin_batch.new.self c.self.inside.limits c.self.inside.schema c.self.inside.kept
     c.self.inside.seed c.args.batch.now _ _ _ _ c.self.view_is c.begin_batch.ensures.same copied c.as_slice.ensures
-    c.in_ok-held.ensures.holds
+    c.in_ok-pending.ensures.holds
     (λ h. c.in_ok-push_all.ensures.holds c.self.inside.limits c.in_ok-clone.field-0 c.self.invariant.well_formed h)))
 
 pub returns-clause-sent : goal.returns-clause-sent
@@ -69,17 +69,17 @@ returns-clause-sent g c =
     (c.send_rows.ensures.sent c.args.batch.now
     (all_held c.args.self.now c.begin_batch.new.self c.self.inside.limits c.self.inside.schema c.self.inside.kept
     c.self.inside.seed c.args.batch.now _ _ _ _ c.self.view_is c.begin_batch.ensures.same copied c.as_slice.ensures
-    c.in_ok-held.ensures.holds
+    c.in_ok-pending.ensures.holds
     (λ h. c.in_ok-push_all.ensures.holds c.self.inside.limits c.in_ok-clone.field-0 c.self.invariant.well_formed h)))
 
 pub returns-clause-judged : goal.returns-clause-judged
 returns-clause-judged g c =
     let copied = c.in_ok-clone.ensures.cases.1 (λ p q same i. (same.0 i, same.1 i)) in
-    let held =
+    let pending =
     all_held c.args.self.now c.begin_batch.new.self c.self.inside.limits c.self.inside.schema c.self.inside.kept
     c.self.inside.seed c.args.batch.now _ _ _ _ c.self.view_is c.begin_batch.ensures.same copied c.as_slice.ensures
-    c.in_ok-held.ensures.holds
+    c.in_ok-pending.ensures.holds
     (λ h. c.in_ok-push_all.ensures.holds c.self.inside.limits c.in_ok-clone.field-0 c.self.invariant.well_formed h) in
     rw (← c.begin_batch.ensures.same)
-    (judged_sent c.begin_batch.new.self.limits c.begin_batch.new.self.schema c.args.batch.now c.send_rows.result held.accepted
-    (c.send_rows.ensures.only c.args.batch.now held))
+    (judged_sent c.begin_batch.new.self.limits c.begin_batch.new.self.schema c.args.batch.now c.send_rows.result pending.accepted
+    (c.send_rows.ensures.only c.args.batch.now pending))

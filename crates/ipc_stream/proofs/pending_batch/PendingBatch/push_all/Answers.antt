@@ -20,18 +20,18 @@ returns-in_err-push-clause-refused c = λ limits pairs well h.
     let fault = c.in_err-push.field-0.0 in
     let p = err_from_is_err_and c.from_residual.result c.from_residual.ensures.1 in
     let is = next rows i c.as_slice.result.now c.row-item.result c.loop-row-test.true c.row-item.is c.as_slice.ensures in
-    let told = c.in_err-push.ensures.refused limits (with_rows pairs (take i rows)) well (c.loop-row.invariant limits pairs well h) in
+    let report = c.in_err-push.ensures.refused limits (with_rows pairs (take i rows)) well (c.loop-row.invariant limits pairs well h) in
     rw (p.1, p.2) (refused_at_first limits c.args.schema.now pairs rows (i + 1) fault
-    (subst (λ (rs : List (List Value)). RefusesPending limits c.args.schema.now (with_rows pairs rs) false fault) is told))
+    (subst (λ (rs : List (List Value)). RefusesPending limits c.args.schema.now (with_rows pairs rs) false fault) is report))
 
 pub returns-in_err-push-clause-only : goal.returns-in_err-push-clause-only
 returns-in_err-push-clause-only c = λ limits pairs well h.
     let rows = c.args.rows.now in
     let i = c.loop-row.row-index in
     let p = err_from_is_err_and c.from_residual.result c.from_residual.ensures.1 in
-    let told = c.in_err-push.ensures.refused limits (with_rows pairs (take i rows)) well (c.loop-row.invariant limits pairs well h) in
+    let report = c.in_err-push.ensures.refused limits (with_rows pairs (take i rows)) well (c.loop-row.invariant limits pairs well h) in
     rw (p.1, p.2) (λ e. subst (λ (f : WriteFault). RefusesPending limits c.args.schema.now
-    (with_rows pairs (take i rows ++ c.as_slice.result.now ∷ [])) false f) e told)
+    (with_rows pairs (take i rows ++ c.as_slice.result.now ∷ [])) false f) e report)
 
 pub loop-row-preserved : goal.loop-row-preserved
 loop-row-preserved c = λ limits pairs well h.

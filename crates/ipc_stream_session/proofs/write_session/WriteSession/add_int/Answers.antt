@@ -10,5 +10,5 @@ returns c = record {
   answer = c.try_add-answer.result;
   called = subst (λ (value : ℤ). Adds (Int value) c.args.self.now c.try_add-answer.new.self c.try_add-answer.result)
       (to_z-of_z w64 c.args.value c.ranges.value) c.try_add-answer.ensures;
-  told = c.report.ensures;
+  report = c.report.ensures;
 }

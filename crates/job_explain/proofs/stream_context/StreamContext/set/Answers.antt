@@ -8,12 +8,12 @@ use Rattle.job_explain.proofs.stream_context.StreamContext.set.Goals as goal
 
 pub returns-clause-set : goal.returns-clause-set
 returns-clause-set c =
-    let known = c.args.self.now in
+    let context = c.args.self.now in
     let values = c.in_ok-values.values in
     let same = to_z-of_z w64 c.args.id c.ranges.id in
-    sets_values known.limits known.schema known.dictionaries c.apply.new.self c.args.id c.args.head c.args.body.items values (Ok tt)
-    (subst (λ k. GivesValues known.limits (in_force known) k c.args.head c.args.body.items values) same c.in_ok-values.ensures)
+    sets_values context.limits context.schema context.dictionaries c.apply.new.self c.args.id c.args.head c.args.body.items values (Ok tt)
+    (subst (λ k. GivesValues context.limits (in_force context) k c.args.head c.args.body.items values) same c.in_ok-values.ensures)
     (subst (λ k. c.apply.new.self ≡ record {
-      columns = known.dictionaries.columns;
-      current = put known.dictionaries.current k values;
+      columns = context.dictionaries.columns;
+      current = put context.dictionaries.current k values;
     }) same c.in_ok-apply.ensures.after) tt tt
