@@ -116,8 +116,11 @@ def without_place(sentence):
 def item(definition, section, sentence):
     """A definition as an item of a list."""
     place = f" ({section})" if section else ""
+    text = without_place(sentence or "")
+    for part in section.split("; "):
+        text = text.replace(f" ({part})", "")
     return textwrap.fill(
-        f"- `{definition}`{place}: {without_place(sentence or '')}", WIDTH, subsequent_indent="  ",
+        f"- `{definition}`{place}: {text}", WIDTH, subsequent_indent="  ",
         break_long_words=False, break_on_hyphens=False)
 
 
