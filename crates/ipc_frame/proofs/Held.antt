@@ -1,10 +1,7 @@
 -- The bytes of a body, at the front of a list that may be longer.
 use Rattle.std.proofs.Common.{◌≡◌, ◌∙◌, refl, sym, ap, subst, ℕ, ◌+◌, ◌-◌, ◌≤◌, List, ◌++◌, Option, length, take, drop}
 use Rattle.std.proofs.Common.{length-take, length-drop, arith}
-use Rattle.std.proofs.Common.{Ok, Err, Result}
-use Rattle.std.specs.Prelude.{IfOk}
 use Rattle.std.proofs.lemmas.List.{take_at}
-use Rattle.ipc_model.specs.declared.fault.Fault.{Fault}
 use Rattle.std.proofs.Math.Seq.{take-add}
 use Rattle.ipc_model.specs.declared.limits.Limits.{Limits}
 use Rattle.ipc_frame.specs.Bodies.{body_bytes}
@@ -13,21 +10,20 @@ use Rattle.ipc_frame.specs.Parts.{received_bytes, InMark, InSize, InMetadata, In
 use Rattle.ipc_frame.specs.Pieces.{progress_of, taking}
 use Rattle.ipc_frame.specs.Pulled.{Behind, Comes}
 use Rattle.ipc_frame.specs.declared.body.Body.{Body}
-use Rattle.ipc_frame.specs.declared.frames.FrameState.{FrameState}
-use Rattle.ipc_frame.specs.declared.frames.FrameState.TheVariants as phase
+use Rattle.ipc_frame.specs.declared.frames.FramePhase.{FramePhase}
+use Rattle.ipc_frame.specs.declared.frames.FramePhase.TheVariants as phase
 use Rattle.ipc_frame.specs.declared.partial_message.Expectation.{Expectation}
 use Rattle.ipc_frame.specs.declared.partial_message.Expectation.TheVariants as expectation
 use Rattle.ipc_frame.specs.declared.partial_message.PartialMessage.{PartialMessage}
 
 -- what came behind the first bytes of a list, where it is written back whole
-pub behind_whole : (a b : Option (List ℕ)) (items part buffer : List ℕ) (start size : ℕ) (r : Result ℕ Fault) → length buffer ≡ length items
-    → size ≡ length items → part ≡ items → IfOk r (λ k. Behind a b part buffer start k)
-    → IfOk r (λ k. Behind a b items (take size (buffer ++ drop (length buffer) items)) start k)
-behind_whole a b items part buffer start size (Ok k) same all is h =
+pub behind_whole : (a b : Option (List ℕ)) (items part buffer : List ℕ) (start size k : ℕ) → length buffer ≡ length items
+    → size ≡ length items → part ≡ items → Behind a b part buffer start k
+    → Behind a b items (take size (buffer ++ drop (length buffer) items)) start k
+behind_whole a b items part buffer start size k same all is h =
     let whole : take size (buffer ++ drop (length buffer) items) ≡ buffer =
     take_at buffer (drop (length buffer) items) size (same ∙ sym all) in
     subst (λ z. Behind a b items z start k) (sym whole) (subst (λ z. Behind a b z buffer start k) is h)
-behind_whole a b items part buffer start size (Err fault) same all is h = tt
 
 -- what came behind the first bytes of a list came behind a body that has these
 pub comes_in : (a b : Option (List ℕ)) (items list : List ℕ) (len room wanted k : ℕ) → k ≤ room → room ≤ wanted
@@ -49,7 +45,7 @@ module _ (limits : Limits) (p : PartialMessage) (b : Body) (same : body_bytes b 
   pub same_bytes : received_bytes with_body ≡ received_bytes p
   same_bytes = ap (λ z. p.start ++ (p.meta.items ++ z)) same
 
-  pub same_progress : (s : FrameState) → progress_of with_body s ≡ progress_of p s
+  pub same_progress : (s : FramePhase) → progress_of with_body s ≡ progress_of p s
   same_progress (phase.Reading a) = ap taking same_bytes
   same_progress phase.Ended = refl
   same_progress phase.Refused = refl

@@ -15,16 +15,17 @@ use Rattle.ipc_frame.specs.Decisions.{RefusesNow}
 use Rattle.ipc_frame.specs.Failures.{IsOutside, UnlessOutside}
 use Rattle.ipc_frame.specs.Parts.{received_bytes, bytes_needed, Undecided}
 use Rattle.ipc_frame.specs.Steps.{IsWhole, Concludes}
-use Rattle.ipc_frame.specs.Pieces.{Feeds, Progress, state_after, progress_of, taking, ended, refused}
+use Rattle.ipc_frame.specs.Pieces.{Feeds, FinishesStep, IsSound, Progress, phase_after, progress_of, taking, ended, refused}
 use Rattle.ipc_frame.specs.Pulled.{Behind, Comes, Gives, GivesOn, ReadsOn, TakesFromSource}
 use Rattle.ipc_frame.specs.Laws.{feed_result}
 use Rattle.ipc_frame.specs.declared.frame.Frame.{Frame as Framed}
+use Rattle.ipc_frame.specs.declared.frames.FramePhase.{FramePhase}
 use Rattle.ipc_frame.specs.declared.partial_message.PartialMessage.{PartialMessage}
 use Rattle.ipc_frame.specs.declared.partial_message.Expectation.{Expectation}
 use Rattle.ipc_frame.specs.declared.step.MessageStep.{MessageStep}
 use Rattle.ipc_frame.specs.declared.step.MessageStep.TheVariants.{More, Whole}
 use Rattle.ipc_frame.proofs.Exact.{refuses_now}
-use Rattle.ipc_frame.proofs.Fed.{progress_behind}
+use Rattle.ipc_frame.proofs.Fed.{progress_behind, sound_behind}
 
 -- what came to the room behind a list is behind it once the room is cut to what came
 pub comes_behind : (a b : Option (List ℕ)) (old items buffer : List ℕ) (before start room size wanted k : ℕ) → before ≡ length old
@@ -103,10 +104,6 @@ module _ (limits : Limits) (a b : Option (List ℕ)) (p q : PartialMessage) (w :
 -- ---- the calls of messages whose bytes are pulled
 
 module _ (limits : Limits) (a b : Option (List ℕ)) (z : List ℕ) (q : PartialMessage) (n : ℕ) where
-  -- what was taken, where the step is another one's equal
-  pub reads_at : (r s : Result MessageStep Fault) → r ≡ s → ReadsOn limits a b z q n r → ReadsOn limits a b z q n s
-  reads_at r s is h = subst (λ x. ReadsOn limits a b z q n x) is h
-
   pub takes_more : (w : Expectation) → ReadsOn limits a b z q n (Ok (More w)) → TakesFromSource limits a b (taking z)
       (taking (received_bytes q)) n (Ok None)
   takes_more w h = record {
@@ -125,7 +122,7 @@ module _ (limits : Limits) (a b : Option (List ℕ)) (z : List ℕ) (q : Partial
   framed frame x is = subst (λ y. IsFrame limits (z ++ y) frame) (sym (all_of x)) is
 
   pub takes_whole : (frame : Framed) → ReadsOn limits a b z q n (Ok (Whole frame))
-      → TakesFromSource limits a b (taking z) (progress_of q (state_after frame)) n (Ok (Some frame))
+      → TakesFromSource limits a b (taking z) (progress_of q (phase_after frame)) n (Ok (Some frame))
   takes_whole frame h = record {
     came = h.came;
     counted = h.counted;
@@ -144,6 +141,21 @@ module _ (limits : Limits) (a b : Option (List ℕ)) (z : List ℕ) (q : Partial
     at_end = tt;
     gives = (refl, h.gives);
   }
+
+module _ (limits : Limits) (a b : Option (List ℕ)) (z : List ℕ) (p q : PartialMessage) (s : FramePhase) (n : ℕ) where
+  -- the phase fits what is kept after the step
+  pub sound_read : (step : Result MessageStep Fault) (r : Result (Option Framed) Fault) → ReadsOn limits a b z p n step
+      → FinishesStep step p q s r → IsSound limits q s
+  sound_read (Ok (More w)) r h e = rw (e.0, e.1) h.gives.2
+  sound_read (Ok (Whole frame)) r h e = rw (e.0, e.1) (sound_behind limits _ p frame h.gives)
+  sound_read (Err fault) r h e = rw e.2 (e.0, e.1)
+
+  -- the call takes from the source what its step took
+  pub takes_finished : (step : Result MessageStep Fault) (r : Result (Option Framed) Fault) → ReadsOn limits a b z p n step
+      → FinishesStep step p q s r → TakesFromSource limits a b (taking z) (progress_of q s) n r
+  takes_finished (Ok (More w)) r h e = rw (e.0, e.1, e.2) (takes_more limits a b z p n w h)
+  takes_finished (Ok (Whole frame)) r h e = rw (e.0, e.1, e.2) (takes_whole limits a b z p n frame h)
+  takes_finished (Err fault) r h e = rw (e.2, e.3) (takes_refused limits a b z p n fault h)
 
 -- what is answered of the bytes that came is what is answered of a piece of them
 pub pulled_as_fed : (limits : Limits) (before after : Progress) (came : List ℕ) (r : Result (Option Framed) Fault)

@@ -1,9 +1,6 @@
 -- The first eight bytes of a message, behind which it takes memory.
-use Rattle.std.proofs.Common.{◌≡◌, subst, ℕ, ◌<◌, List, [], ◌∷◌, ◌++◌, length, take, drop, append_assoc, arith, Result, Ok, Err}
-use Rattle.std.specs.Prelude.{IfErr}
+use Rattle.std.proofs.Common.{subst, ℕ, ◌<◌, List, [], ◌∷◌, ◌++◌, length, take, drop, append_assoc, arith}
 use Rattle.std.proofs.lemmas.List.{take-append-drop}
-use Rattle.ipc_model.specs.declared.fault.Fault.{Fault}
-use Rattle.ipc_model.specs.declared.fault.Fault.TheVariants.{OutOfMemory}
 use Rattle.ipc_model.specs.declared.limits.Limits.{Limits}
 use Rattle.ipc_meta.specs.declared.head.Head.{Head}
 use Rattle.ipc_meta.specs.Heads.{HeadOf}
@@ -50,11 +47,6 @@ feeding_sized limits old piece p a taken h has =
 -- bytes with a size have it with none behind them
 pub sized_alone : {limits : Limits} → (z : List ℕ) → IsSized limits z → IsSized limits (z ++ [])
 sized_alone z h = sized_longer z [] h
-
--- whatever the answer, memory ran out where it may
-pub memory_ran_out : {T : Type 0} → (r : Result T Fault) (P : Type 0) → P → IfErr r (λ fault. fault ≡ OutOfMemory → P)
-memory_ran_out (Ok x) P p = tt
-memory_ran_out (Err fault) P p = λ is. p
 
 -- a message has a size
 pub frame_sized : {limits : Limits} → (x m body : List ℕ) (g : Head) → Frame limits x m g body → IsSized limits x

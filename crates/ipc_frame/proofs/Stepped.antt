@@ -1,6 +1,9 @@
 -- The steps of a message that comes in pieces.
 use Rattle.std.proofs.Common.{◌≡◌, ◌∙◌, sym, ap, subst, ℕ, ◌+◌, ◌-◌, ◌≤◌, List, ◌++◌, length, take, drop, append_assoc, length-take}
-use Rattle.std.proofs.Common.{arith, Ok, Err}
+use Rattle.std.proofs.Common.{arith, Result, Ok, Err, true, false}
+use Rattle.std.specs.Prelude.{OnErr, OnOk}
+use Rattle.std.specs.Result.{is_err}
+use Rattle.std.proofs.lemmas.Bool.{false≢true}
 use Rattle.std.proofs.lemmas.List.{take_all}
 use Rattle.std.proofs.Math.Seq.{take-add}
 use Rattle.ipc_model.specs.declared.fault.Fault.{Fault}
@@ -14,6 +17,15 @@ use Rattle.ipc_frame.specs.declared.partial_message.PartialMessage.{PartialMessa
 use Rattle.ipc_frame.specs.declared.partial_message.Expectation.{Expectation}
 use Rattle.ipc_frame.specs.declared.step.MessageStep.TheVariants.{More, Whole}
 use Rattle.ipc_frame.proofs.Exact.{refuses_now}
+
+-- what a call ensures, once its result was tested
+pub ok_from : {T E P : Type 0} → (r : Result T E) → is_err r ≡ false → OnOk r P → P
+ok_from (Ok x) e h = h
+ok_from (Err x) e h = absurd (false≢true (sym e))
+
+pub err_from : {T E P : Type 0} → (r : Result T E) → is_err r ≡ true → OnErr r P → P
+err_from (Ok x) e h = absurd (false≢true e)
+err_from (Err x) e h = h
 
 -- a beginning of the piece was taken, and nothing is decided
 pub record Feeding (limits : Limits) (old piece : List ℕ) (p : PartialMessage) (a : Expectation) (taken : ℕ) : Type 0 where
@@ -42,18 +54,18 @@ module _ (limits : Limits) (old piece : List ℕ) (p q : PartialMessage) (a : Ex
     feeds_more b k = record { within = fits; kept = k.0 ∙ (is ∙ came); undecided = k.1 }
 
     pub feeds_whole : (frame : Framed) → Concludes limits z q (Ok (Whole frame))
-        → FeedsOn limits old piece q (Ok (taken + count, Whole frame))
+        → FeedsOn limits old piece q (taken + count) (Ok (Whole frame))
     feeds_whole frame k = (fits, subst (λ x. IsWhole limits x q frame) (is ∙ came) k)
 
-    pub feeds_refused : (fault : Fault) → Concludes limits z q (Err fault) → FeedsOn limits old piece q (Err fault)
+    pub feeds_refused : (fault : Fault) → Concludes limits z q (Err fault) → FeedsOn limits old piece q (taken + count) (Err fault)
     feeds_refused fault k = λ ne.
         let now = refuses_now limits (received_bytes p) (take (taken + count - taken) (drop taken piece)) (bytes_needed p a) few_came
         h.undecided.pending fault (subst (λ x. RefusesMessage limits x fault) is (k ne)) in
-        (taken + count, fits, subst (λ x. RefusesNow limits x fault) came now)
+        (fits, subst (λ x. RefusesNow limits x fault) came now)
 
 -- the whole piece was taken
 pub feeds_all : (limits : Limits) (old piece : List ℕ) (p : PartialMessage) (a : Expectation) (taken : ℕ)
     → Feeding limits old piece p a taken
-    → length piece ≤ taken → FeedsOn limits old piece p (Ok (taken, More a))
+    → length piece ≤ taken → FeedsOn limits old piece p taken (Ok (More a))
 feeds_all limits old piece p a taken h done =
     (omega (arith, h.within), h.kept ∙ ap (λ z. old ++ z) (take_all taken piece done), h.undecided)

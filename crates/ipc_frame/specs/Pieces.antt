@@ -12,10 +12,12 @@ use Rattle.ipc_frame.specs.Decisions.{RefusesNow}
 use Rattle.ipc_frame.specs.Parts.{Capacity, received_bytes, no_capacity, capacity_of, Undecided}
 use Rattle.ipc_frame.specs.declared.frame.Frame.{Frame as Framed}
 use Rattle.ipc_frame.specs.declared.frame.Frame.TheVariants as f
-use Rattle.ipc_frame.specs.declared.frames.FrameState.{FrameState}
-use Rattle.ipc_frame.specs.declared.frames.FrameState.TheVariants as phase
+use Rattle.ipc_frame.specs.declared.frames.FramePhase.{FramePhase}
+use Rattle.ipc_frame.specs.declared.frames.FramePhase.TheVariants as phase
 use Rattle.ipc_frame.specs.declared.partial_message.Expectation.TheVariants.{Continuation}
 use Rattle.ipc_frame.specs.declared.partial_message.PartialMessage.{PartialMessage}
+use Rattle.ipc_frame.specs.declared.step.MessageStep.{MessageStep}
+use Rattle.ipc_frame.specs.declared.step.MessageStep.TheVariants.{More, Whole}
 
 -- the state of the stream of messages: these bytes of the current message have come, the stream has
 -- ended, or it was refused
@@ -31,22 +33,32 @@ pub record Framing : Type 0 where
   pub room : Capacity
 
 -- the progress that the stored bytes and the phase denote
-abbrev pub progress_of : PartialMessage → FrameState → Progress
+abbrev pub progress_of : PartialMessage → FramePhase → Progress
 progress_of p (phase.Reading a) = taking (received_bytes p)
 progress_of p phase.Ended = ended
 progress_of p phase.Refused = refused
 
 -- the stored bytes are the undecided beginning of a message; none are stored, and no list is kept,
 -- after the end or a refusal
-abbrev pub IsSound : Limits → PartialMessage → FrameState → Type 0
+abbrev pub IsSound : Limits → PartialMessage → FramePhase → Type 0
 IsSound limits p (phase.Reading a) = Undecided limits p a
 IsSound limits p phase.Ended = (received_bytes p ≡ []) × (capacity_of p ≡ no_capacity)
 IsSound limits p phase.Refused = (received_bytes p ≡ []) × (capacity_of p ≡ no_capacity)
 
 -- the phase after a frame: after a message the next one is awaited, after the end mark nothing
-abbrev pub state_after : Framed → FrameState
-state_after (f.Message meta head body) = phase.Reading Continuation
-state_after f.End = phase.Ended
+abbrev pub phase_after : Framed → FramePhase
+phase_after (f.Message meta head body) = phase.Reading Continuation
+phase_after f.End = phase.Ended
+
+-- what a call does after a step: the stored parts, the next phase, and the result. After a refusal
+-- no bytes are stored and no list is kept
+abbrev pub FinishesStep : Result MessageStep Fault → PartialMessage → PartialMessage → FramePhase
+    → Result (Option Framed) Fault → Type 0
+FinishesStep (Ok (More a)) old new next r = (new ≡ old) × (next ≡ phase.Reading a) × (r ≡ Ok None)
+FinishesStep (Ok (Whole frame)) old new next r =
+    (new ≡ old) × (next ≡ phase_after frame) × (r ≡ Ok (Some frame))
+FinishesStep (Err fault) old new next r = (received_bytes new ≡ [])
+    × (capacity_of new ≡ no_capacity) × (next ≡ phase.Refused) × (r ≡ Err fault)
 
 -- the progress after a frame: after a message another one may come, after the end mark none
 abbrev pub behind : Framed → Progress

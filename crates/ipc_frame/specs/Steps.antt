@@ -27,13 +27,13 @@ Concludes limits z p (Ok (More a)) = (received_bytes p ≡ z) × Undecided limit
 Concludes limits z p (Ok (Whole frame)) = IsWhole limits z p frame
 Concludes limits z p (Err fault) = UnlessOutOfMemory fault (RefusesMessage limits z fault)
 
--- z with a beginning of the piece is a frame, or is refused at its last byte; or z and the whole
--- piece are stored and undecided
-abbrev pub FeedsOn : Limits → List ℕ → List ℕ → PartialMessage → Result (ℕ × MessageStep) Fault
+-- z with the first n bytes of the piece is a frame, or is refused at its last byte; or z and the
+-- whole piece are stored and undecided
+abbrev pub FeedsOn : Limits → List ℕ → List ℕ → PartialMessage → ℕ → Result MessageStep Fault
     → Type 0
-FeedsOn limits z piece p (Ok (n, More a)) =
+FeedsOn limits z piece p n (Ok (More a)) =
     (n ≡ length piece) × (received_bytes p ≡ z ++ piece) × Undecided limits p a
-FeedsOn limits z piece p (Ok (n, Whole frame)) =
+FeedsOn limits z piece p n (Ok (Whole frame)) =
     (n ≤ length piece) × IsWhole limits (z ++ take n piece) p frame
-FeedsOn limits z piece p (Err fault) = UnlessOutOfMemory fault
-    ((n : ℕ) × (n ≤ length piece) × RefusesNow limits (z ++ take n piece) fault)
+FeedsOn limits z piece p n (Err fault) = UnlessOutOfMemory fault
+    ((n ≤ length piece) × RefusesNow limits (z ++ take n piece) fault)

@@ -1,6 +1,6 @@
 ghost use Rattle.std.specs.Prelude.{◌≤◌, vec_len};
 
-use crate::pull::{MAX_CLEARED, make_room, read_over};
+use crate::pull::{MAX_CLEARED, make_room, read_after};
 use crate::source::Source;
 use ipc_model::Fault;
 use std::alloc::{AllocError, Global};
@@ -81,7 +81,7 @@ impl Body {
     {
         self.make_place(wanted)?;
         let room = (self.list.len() - self.len).min(wanted);
-        let count = read_over(source, &mut self.list, self.len, room)?;
+        let count = read_after(source, &mut self.list, self.len, room)?;
         self.len += count;
         Ok(count)
     }

@@ -1,5 +1,5 @@
 ghost use Rattle.std.specs.Prelude.{◌≡◌};
-ghost use Rattle.ipc_frame.specs.Pieces.{state_after};
+ghost use Rattle.ipc_frame.specs.Pieces.{FinishesStep, phase_after};
 
 use crate::frame::Frame;
 use crate::partial_message::{Expectation, PartialMessage, bytes_needed};
@@ -12,19 +12,47 @@ use std::marker::Model;
 
 // Whether messages still come, and what is awaited of the one at hand.
 #[derive(Clone, Copy)]
-pub(crate) enum FrameState {
+pub(crate) enum FramePhase {
     Reading(Expectation),
     Ended,
     Refused,
 }
 
 // After a message another one may come; after the end-of-stream mark nothing comes.
-fn state_after(frame: &Frame) -> FrameState
-    ensures { result ≡ state_after frame.now }
+fn phase_after(frame: &Frame) -> FramePhase
+    ensures { result ≡ phase_after frame.now }
 {
     match frame {
-        Frame::Message { .. } => FrameState::Reading(Expectation::Continuation),
-        Frame::End => FrameState::Ended,
+        Frame::Message { .. } => FramePhase::Reading(Expectation::Continuation),
+        Frame::End => FramePhase::Ended,
+    }
+}
+
+// Sets the phase after a step, and returns the frame that the step completes. After a refusal no
+// bytes and no lists are kept. It takes the fields, because they break the invariant of `Frames`
+// until a refusal is finished.
+fn finish_step(
+    alloc: Global,
+    parts: &mut PartialMessage,
+    phase: &mut FramePhase,
+    step: Result<MessageStep, Fault>,
+) -> Result<Option<Frame>, Fault>
+    ensures { FinishesStep step parts.old parts.new phase.new result }
+{
+    match step {
+        Ok(MessageStep::More(expectation)) => {
+            *phase = FramePhase::Reading(expectation);
+            Ok(None)
+        }
+        Ok(MessageStep::Whole(frame)) => {
+            *phase = phase_after(&frame);
+            Ok(Some(frame))
+        }
+        Err(fault) => {
+            *parts = PartialMessage::new(alloc);
+            *phase = FramePhase::Refused;
+            Err(fault)
+        }
     }
 }
 
@@ -45,7 +73,7 @@ fn state_after(frame: &Frame) -> FrameState
 #[derive(Drop)]
 pub struct Frames {
     parts: PartialMessage,
-    phase: FrameState,
+    phase: FramePhase,
     limits: Limits,
     alloc: Global,
 }
@@ -83,7 +111,7 @@ impl Frames {
     {
         Frames {
             parts: PartialMessage::new(alloc),
-            phase: FrameState::Reading(Expectation::Continuation),
+            phase: FramePhase::Reading(Expectation::Continuation),
             limits,
             alloc,
         }
@@ -118,24 +146,18 @@ impl Frames {
             → TakesMemory self.old.limits self.old.progress piece.now) }
     {
         match self.phase {
-            FrameState::Ended => Ok((0, None)),
-            FrameState::Refused => Err(Fault::Failed),
-            FrameState::Reading(expectation) => {
-                match feed_on(self.alloc, &self.limits, &mut self.parts, expectation, piece) {
-                    Ok((taken, MessageStep::More(expectation))) => {
-                        self.phase = FrameState::Reading(expectation);
-                        Ok((taken, None))
-                    }
-                    Ok((taken, MessageStep::Whole(frame))) => {
-                        self.phase = state_after(&frame);
-                        Ok((taken, Some(frame)))
-                    }
-                    Err(fault) => {
-                        self.parts = PartialMessage::new(self.alloc);
-                        self.phase = FrameState::Refused;
-                        Err(fault)
-                    }
-                }
+            FramePhase::Ended => Ok((0, None)),
+            FramePhase::Refused => Err(Fault::Failed),
+            FramePhase::Reading(expectation) => {
+                let (taken, step) = feed_on(
+                    self.alloc,
+                    &self.limits,
+                    &mut self.parts,
+                    expectation,
+                    piece,
+                );
+                let frame = finish_step(self.alloc, &mut self.parts, &mut self.phase, step)?;
+                Ok((taken, frame))
             }
         }
     }
@@ -167,9 +189,9 @@ impl Frames {
             → TakesMemory self.old.limits self.old.progress []) }
     {
         match self.phase {
-            FrameState::Ended => (0, Ok(None)),
-            FrameState::Refused => (0, Err(Fault::Failed)),
-            FrameState::Reading(expectation) => {
+            FramePhase::Ended => (0, Ok(None)),
+            FramePhase::Refused => (0, Err(Fault::Failed)),
+            FramePhase::Reading(expectation) => {
                 let (count, step) = read_on(
                     self.alloc,
                     &self.limits,
@@ -177,21 +199,8 @@ impl Frames {
                     &mut self.parts,
                     expectation,
                 );
-                match step {
-                    Ok(MessageStep::More(expectation)) => {
-                        self.phase = FrameState::Reading(expectation);
-                        (count, Ok(None))
-                    }
-                    Ok(MessageStep::Whole(frame)) => {
-                        self.phase = state_after(&frame);
-                        (count, Ok(Some(frame)))
-                    }
-                    Err(fault) => {
-                        self.parts = PartialMessage::new(self.alloc);
-                        self.phase = FrameState::Refused;
-                        (count, Err(fault))
-                    }
-                }
+                let result = finish_step(self.alloc, &mut self.parts, &mut self.phase, step);
+                (count, result)
             }
         }
     }
@@ -209,7 +218,7 @@ impl Frames {
         ensures metadata { self.new.room.metadata ≡ self.old.room.metadata }
         ensures let_go { DropsLists self.new.progress self.new.room }
     {
-        if let FrameState::Reading(_) = self.phase {
+        if let FramePhase::Reading(_) = self.phase {
             self.parts.body.reuse(list);
         }
     }
@@ -221,8 +230,10 @@ impl Frames {
         ensures { Wants self.now.limits self.now.progress result }
     {
         match self.phase {
-            FrameState::Reading(expectation) => bytes_needed(&self.limits, &self.parts, expectation),
-            FrameState::Ended | FrameState::Refused => 0,
+            FramePhase::Reading(expectation) => {
+                bytes_needed(&self.limits, &self.parts, expectation)
+            }
+            FramePhase::Ended | FramePhase::Refused => 0,
         }
     }
 
@@ -251,16 +262,16 @@ impl Frames {
         ensures let_go { self.new.room ≡ no_capacity }
     {
         match self.phase {
-            FrameState::Ended => Ok(()),
-            FrameState::Refused => Err(Fault::Failed),
-            FrameState::Reading(Expectation::Continuation) if self.parts.start.len() == 0 => {
+            FramePhase::Ended => Ok(()),
+            FramePhase::Refused => Err(Fault::Failed),
+            FramePhase::Reading(Expectation::Continuation) if self.parts.start.len() == 0 => {
                 self.parts = PartialMessage::new(self.alloc);
-                self.phase = FrameState::Ended;
+                self.phase = FramePhase::Ended;
                 Ok(())
             }
-            FrameState::Reading(_) => {
+            FramePhase::Reading(_) => {
                 self.parts = PartialMessage::new(self.alloc);
-                self.phase = FrameState::Refused;
+                self.phase = FramePhase::Refused;
                 Err(Fault::Truncated)
             }
         }

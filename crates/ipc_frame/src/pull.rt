@@ -40,28 +40,6 @@ pub fn read_after<R: Source>(
     }
 }
 
-// Calls the source once, for at most `room` bytes, which overwrite those of a list after its first
-// `start` bytes.
-pub fn read_over<R: Source>(
-    source: &mut R,
-    list: &mut Vec<u8>,
-    start: usize,
-    room: usize,
-) -> Result<usize, Fault>
-    requires some { 0 < room }
-    requires within { start + room ≤ vec_len list.old }
-    ensures behind { IfOk result (λ k. Behind (R.remaining source.old)
-        (R.remaining source.new) list.old.items list.new.items start k) }
-    ensures few { IfOk result (λ k. k ≤ room) }
-    ensures same { vec_len list.new ≡ vec_len list.old }
-    ensures fewer { IfOk result (λ k. (R.bound source.new + k) ≤ R.bound source.old) }
-    ensures lost { OnErr result (Keeps (R.remaining source.old) (R.remaining source.new)) }
-    ensures only { IfErr result (λ fault. fault ≡ Fault.Read) }
-    ensures failures { FailsAs (R.failures source.old) (R.failures source.new) result }
-{
-    read_after(source, list, start, room)
-}
-
 // Makes space after the contents of a full list, for some of the wanted bytes: its length or one
 // piece, whichever is more.
 pub fn make_room(list: &mut Vec<u8>, wanted: usize) -> Result<(), AllocError>

@@ -46,29 +46,34 @@ pub fn conclude(
     }
 }
 
-// Takes the piece up to the first whole frame, without one all of it.
+// Takes the piece up to the end of the first frame, or the whole piece if no frame ends in it.
+// Returns the number of bytes taken, also with a refusal, and the step that they complete.
 pub fn feed_on(
     alloc: Global,
     limits: &Limits,
     parts: &mut PartialMessage,
     expectation: Expectation,
     piece: &[u8],
-) -> Result<(usize, MessageStep), Fault>
+) -> (usize, Result<MessageStep, Fault>)
     requires { Undecided limits.now parts.old expectation }
-    ensures feeds { FeedsOn limits.now (received_bytes parts.old) piece.now parts.new result }
-    ensures memory { IfErr result (λ fault. fault ≡ Fault.OutOfMemory
+    ensures feeds { FeedsOn limits.now (received_bytes parts.old) piece.now parts.new result.0
+        result.1 }
+    ensures memory { IfErr result.1 (λ fault. fault ≡ Fault.OutOfMemory
         → IsSized limits.now (received_bytes parts.old ++ piece.now)) }
 {
     let mut expectation = expectation;
     let mut taken = 0;
     while taken < piece.len() {
         let count = bytes_needed(limits, parts, expectation).min(piece.len() - taken);
-        extend(limits, parts, expectation, &piece[taken..taken + count])?;
+        if extend(limits, parts, expectation, &piece[taken..taken + count]).is_err() {
+            return (taken, Err(Fault::OutOfMemory));
+        }
         taken += count;
-        match conclude(alloc, limits, parts, expectation)? {
-            MessageStep::More(next) => expectation = next,
-            MessageStep::Whole(frame) => return Ok((taken, MessageStep::Whole(frame))),
+        match conclude(alloc, limits, parts, expectation) {
+            Ok(MessageStep::More(next)) => expectation = next,
+            Ok(MessageStep::Whole(frame)) => return (taken, Ok(MessageStep::Whole(frame))),
+            Err(fault) => return (taken, Err(fault)),
         }
     }
-    Ok((taken, MessageStep::More(expectation)))
+    (taken, Ok(MessageStep::More(expectation)))
 }

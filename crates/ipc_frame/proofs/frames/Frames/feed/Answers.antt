@@ -1,51 +1,33 @@
-use Rattle.std.proofs.Common.{refl, subst, Ok}
+use Rattle.std.proofs.Common.{subst}
+use Rattle.std.proofs.lemmas.Result.{err_from_is_err_and}
+use Rattle.ipc_frame.specs.Laws.{feed_result}
 use Rattle.ipc_frame.specs.Parts.{received_bytes}
-use Rattle.ipc_frame.specs.Pieces.{IsSound}
-use Rattle.ipc_frame.specs.Steps.{FeedsOn}
-use Rattle.ipc_frame.proofs.Fed.{feeds_none, feeds_whole, sound_behind}
+use Rattle.ipc_frame.specs.Pieces.{Feeds, IsSound, progress_of, taking}
+use Rattle.ipc_frame.proofs.Fed.{feeds_finished, sound_fed}
 use Rattle.ipc_frame.proofs.frames.Frames.feed.Goals as goal
 
-pub feed_on-requires : goal.feed_on-requires
-feed_on-requires c = subst (λ p. IsSound c.self.inside.limits c.self.inside.parts p) c.in-Reading.is c.self.invariant
+pub feed_on-taken-requires : goal.feed_on-taken-requires
+feed_on-taken-requires c = subst (λ s. IsSound c.self.inside.limits c.self.inside.parts s) c.in-Reading.is c.self.invariant
 
-pub invariant_of-self : goal.invariant_of-self
-invariant_of-self c =
-    let more = c.in-Ok-default-More in
-    let limits = c.self.inside.limits in
-    let z = received_bytes c.self.inside.parts in
-    (subst (λ s. FeedsOn limits z c.args.piece.now c.feed_on.new.parts (Ok (more.taken, s))) more.field-0-1-is
-    (subst (λ r. FeedsOn limits z c.args.piece.now c.feed_on.new.parts r) more.is c.feed_on.ensures.feeds)).2
+pub returns-in_err-frame-in-Reading-clause-feeds : goal.returns-in_err-frame-in-Reading-clause-feeds
+returns-in_err-frame-in-Reading-clause-feeds c =
+    let p = err_from_is_err_and c.from_residual.result c.from_residual.ensures.1 in
+    let feeds = feeds_finished _ (received_bytes c.self.inside.parts) c.args.piece.now _ _ _ _ _ _ c.feed_on-taken.ensures.feeds
+    c.finish_step.ensures in
+    rw (← c.self.view_is, c.in-Reading.is, p.1, p.2)
+    (subst (λ r. Feeds c.self.inside.limits (taking (received_bytes c.self.inside.parts)) c.args.piece.now
+    (progress_of c.finish_step.new.parts c.finish_step.new.phase) (feed_result c.feed_on-taken.result.0 r))
+    c.in_err-frame-in-Reading.was feeds)
 
-pub returns-in-Ok-default-More-clause-feeds : goal.returns-in-Ok-default-More-clause-feeds
-returns-in-Ok-default-More-clause-feeds c =
-    let more = c.in-Ok-default-More in
-    let limits = c.self.inside.limits in
-    let z = received_bytes c.self.inside.parts in
-    rw (← c.self.view_is, c.in-Reading.is) (feeds_none limits z _ _ _ more.expectation
-    (subst (λ s. FeedsOn limits z c.args.piece.now c.feed_on.new.parts (Ok (more.taken, s))) more.field-0-1-is
-    (subst (λ r. FeedsOn limits z c.args.piece.now c.feed_on.new.parts r) more.is c.feed_on.ensures.feeds)))
+pub invariant_of-self-in-Reading : goal.invariant_of-self-in-Reading
+invariant_of-self-in-Reading c =
+    sound_fed _ (received_bytes c.self.inside.parts) c.args.piece.now _ _ _ _ _ _ c.feed_on-taken.ensures.feeds c.finish_step.ensures
 
-pub returns-in-Err-clause-feeds : goal.returns-in-Err-clause-feeds
-returns-in-Err-clause-feeds c =
-    let limits = c.self.inside.limits in
-    let z = received_bytes c.self.inside.parts in
+pub returns-in_ok-frame-in-Reading-clause-feeds : goal.returns-in_ok-frame-in-Reading-clause-feeds
+returns-in_ok-frame-in-Reading-clause-feeds c =
+    let feeds = feeds_finished _ (received_bytes c.self.inside.parts) c.args.piece.now _ _ _ _ _ _ c.feed_on-taken.ensures.feeds
+    c.finish_step.ensures in
     rw (← c.self.view_is, c.in-Reading.is)
-    (refl, subst (λ r. FeedsOn limits z c.args.piece.now c.feed_on.new.parts r) c.in-Err.is c.feed_on.ensures.feeds)
-
-pub invariant_of-self-in-Ok-default-Whole : goal.invariant_of-self-in-Ok-default-Whole
-invariant_of-self-in-Ok-default-Whole c =
-    let whole = c.in-Ok-default-Whole in
-    let limits = c.self.inside.limits in
-    let z = received_bytes c.self.inside.parts in
-    let fed = subst (λ s. FeedsOn limits z c.args.piece.now c.feed_on.new.parts (Ok (whole.taken, s))) whole.field-0-1-is
-    (subst (λ r. FeedsOn limits z c.args.piece.now c.feed_on.new.parts r) whole.is c.feed_on.ensures.feeds) in
-    rw c.state_after-self-inside.ensures (sound_behind _ _ _ whole.frame fed.1)
-
-pub returns-in-Ok-default-Whole-clause-feeds : goal.returns-in-Ok-default-Whole-clause-feeds
-returns-in-Ok-default-Whole-clause-feeds c =
-    let whole = c.in-Ok-default-Whole in
-    let limits = c.self.inside.limits in
-    let z = received_bytes c.self.inside.parts in
-    rw (← c.self.view_is, c.in-Reading.is, c.state_after-self-inside.ensures) (feeds_whole limits z _ _ _ whole.frame
-    (subst (λ s. FeedsOn limits z c.args.piece.now c.feed_on.new.parts (Ok (whole.taken, s))) whole.field-0-1-is
-    (subst (λ r. FeedsOn limits z c.args.piece.now c.feed_on.new.parts r) whole.is c.feed_on.ensures.feeds)))
+    (subst (λ r. Feeds c.self.inside.limits (taking (received_bytes c.self.inside.parts)) c.args.piece.now
+    (progress_of c.finish_step.new.parts c.finish_step.new.phase) (feed_result c.feed_on-taken.result.0 r))
+    c.in_ok-frame-in-Reading.was feeds)
