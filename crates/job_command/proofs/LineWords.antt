@@ -87,7 +87,6 @@ usage_told words fault (usage.Help text) is among = ⊎_elim
 usage_told words fault (usage.Wrong text) is among =
     ⊎_elim (λ e. absurd (is.2 e)) (λ a. inl (fault, a, is.0, is.1, is.3)) among
 usage_told words fault usage.OutOfMemory is among = tt
-hinted fault usage.OutOfMemory is hint = tt
 
 -- where the words are taken, a subcommand was found, and a value of it is wrong, the words ask for no job
 pub wrong_words : (words : List Text) (found : Option (Text × List Row)) (why : Usage) → fault_of arrowstream words ≡ []

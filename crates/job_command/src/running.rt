@@ -10,6 +10,7 @@ ghost use Rattle.job_command.specs.Jobs.{stop_of_csv};
 ghost use Rattle.job_command.specs.Lines.{ExplainsStop, PrintsStopLines, stop_text};
 ghost use Rattle.job_command.specs.Arguments.{HasGoodSize, IsBatchSize};
 ghost use Rattle.job_command.specs.declared.stop.Stop.{Stop};
+ghost use Rattle.job_print.specs.declared.form.Form.TheVariants.{Rows};
 
 use crate::arguments::{Invocation, Job};
 use crate::explain::explain_record;
@@ -135,14 +136,30 @@ fn csv_job<P: Source, S: Source, W: Sink>(
     (csv_result(result, schema), input, sink, file)
 }
 
-// The shape of rows that are printed as objects, or not.
-fn shape_of(objects: bool) -> RowShape
-    ensures { result ≡ shape_of objects }
+// The form of rows that are printed as objects or as arrays, with the metadata of batches or not.
+fn rows_form(objects: bool, pairs: bool) -> Form<'static>
+    ensures { result ≡ Rows (shape_of objects) pairs }
 {
-    if objects {
+    let shape = if objects {
         RowShape::Object
     } else {
         RowShape::Array
+    };
+    Form::Rows { shape, pairs }
+}
+
+// The options of a job that prints a stream.
+fn print_options(form: Form<'_>, limit: Option<u64>, require_mark: bool) -> PrintOptions<'_>
+    ensures { result ≡ record {
+      form = form.entry;
+      require_mark = require_mark;
+      limit = limit;
+    } }
+{
+    PrintOptions {
+        form,
+        require_mark,
+        limit,
     }
 }
 
@@ -170,11 +187,7 @@ fn do_job<P: Source, S: Source, W: Sink, N: Progress>(
             limits,
             require_mark,
         } => {
-            let options = PrintOptions {
-                form: Form::Counts,
-                require_mark,
-                limit: None,
-            };
+            let options = print_options(Form::Counts, None, require_mark);
             print_job(alloc, options, limits, input, sink, progress)
         }
         Job::Show {
@@ -184,14 +197,7 @@ fn do_job<P: Source, S: Source, W: Sink, N: Progress>(
             limit,
             require_mark,
         } => {
-            let options = PrintOptions {
-                form: Form::Rows {
-                    shape: shape_of(objects),
-                    pairs,
-                },
-                require_mark,
-                limit,
-            };
+            let options = print_options(rows_form(objects, pairs), limit, require_mark);
             print_job(alloc, options, limits, input, sink, progress)
         }
         Job::ToCsv {
@@ -200,11 +206,7 @@ fn do_job<P: Source, S: Source, W: Sink, N: Progress>(
             limit,
             require_mark,
         } => {
-            let options = PrintOptions {
-                form: Form::Records(dialect.dialect()),
-                require_mark,
-                limit,
-            };
+            let options = print_options(Form::Records(dialect.dialect()), limit, require_mark);
             print_job(alloc, options, limits, input, sink, progress)
         }
         Job::Rewrite {

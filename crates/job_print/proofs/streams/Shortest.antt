@@ -125,7 +125,7 @@ silent_none (more f (sets {o = o} {id = id} {body = body} {rows = rows} found r)
 -- no bytes are no message
 same_state : {limits : Limits} → {σ τ : State} {x : List ℕ} {es : List Event} → Run limits σ x es τ → x ≡ [] → σ ≡ τ
 same_state done is = refl
-same_state (more {x = x} {y = y} f p q) is = absurd (omega (arith, f.begun, length-append x y, ap length is))
+same_state (more {x = x} {y = y} f p q) is = absurd (omega (arith, f.prefix, length-append x y, ap length is))
 
 -- what is read of a stream before its first batch is one message, where no dictionary is in force
 one_opens : {limits : Limits} → {σ τ : State} {x : List ℕ} {es : List Event} → Run limits σ x es τ → (s : Schema) (p : InForce)
