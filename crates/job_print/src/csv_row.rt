@@ -100,8 +100,7 @@ fn put_bool(text: &mut [u8], at: usize, truth: bool) -> usize
     put_bool_word(text, at, truth)
 }
 
-// Writes what a slot holds, which is `value`, in a column of this type. Where a call names the
-// layout, only the arms of that layout are compiled for it.
+// Writes `value`, which a slot holds in a column of this type.
 #[inline(always)]
 fn put_slot_text(
     text: &mut [u8],
@@ -163,6 +162,39 @@ fn put_other(
     }
 }
 
+// Writes `value`, which a slot holds in a column of numbers, truth values or fixed-size binary.
+// Each call names a layout, so only the arms of that layout are compiled for it. `put_slot_text` in
+// its place takes two fifths more instructions.
+#[inline(always)]
+fn put_leaf(
+    text: &mut [u8],
+    at: usize,
+    dialect: &Dialect<'_>,
+    column: u64,
+    kind: &DataType,
+    tree: &ColumnTree<'_>,
+    slot: usize,
+    value: Slot<'_>,
+) -> Result<usize, TextFault>
+    requires room { at + 32 ≤ length text.old }
+    requires slot { slot < length (slot_values tree.now) }
+    requires value { slice_get (slot_values tree.now) slot
+        ≡ Some (value_in_slot (row (child_columns tree.now)) slot value) }
+    ensures inside { IfOk result (λ end. end ≤ length text.new) }
+    ensures ok { IfOk result (λ end. Appended dialect.now.delimiter (take at text.old)
+        (csv_text dialect.now kind.now (slot_value tree.now slot)) (take end text.new)) }
+    ensures refused { IfErr result
+        (RefusesValue column (csv_text dialect.now kind.now (slot_value tree.now slot))) }
+{
+    match value {
+        Slot::Int(number) => put_int(text, at, column, kind, number),
+        Slot::Bool(truth) => Ok(put_bool(text, at, truth)),
+        Slot::Bytes(bytes) => put_bytes_field(text, at, dialect, column, bytes),
+        Slot::Null => Ok(put_null(text, at, dialect)?),
+        _ => put_other(text, at, dialect, column, kind, tree, slot),
+    }
+}
+
 // What a slot holds, a text or null.
 #[inline(always)]
 fn put_text_slot(
@@ -217,7 +249,7 @@ fn put_cell(
                 },
                 slot,
             );
-            put_slot_text(text, at, dialect, column, kind, tree, slot, value)
+            put_leaf(text, at, dialect, column, kind, tree, slot, value)
         }
         SlotReader::Int32 => {
             let value = tree.at_layout(
@@ -227,16 +259,16 @@ fn put_cell(
                 },
                 slot,
             );
-            put_slot_text(text, at, dialect, column, kind, tree, slot, value)
+            put_leaf(text, at, dialect, column, kind, tree, slot, value)
         }
         SlotReader::Bool => {
             let value = tree.at_layout(Layout::Bits, slot);
-            put_slot_text(text, at, dialect, column, kind, tree, slot, value)
+            put_leaf(text, at, dialect, column, kind, tree, slot, value)
         }
         SlotReader::Utf8 => put_text_slot(text, at, dialect, column, tree, slot),
         SlotReader::Bytes(width) => {
             let value = tree.at_layout(Layout::FixedBytes(width), slot);
-            put_slot_text(text, at, dialect, column, kind, tree, slot, value)
+            put_leaf(text, at, dialect, column, kind, tree, slot, value)
         }
         SlotReader::Others => put_other(text, at, dialect, column, kind, tree, slot),
     }
