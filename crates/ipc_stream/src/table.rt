@@ -6,7 +6,7 @@ ghost use Rattle.ipc_stream.specs.Writing.{AcceptsTable, BreaksOff, IsWithinLimi
 
 use crate::open_stream::OpenStream;
 use crate::sending::send_end;
-use crate::sink::Sink;
+use ipc_device::Sink;
 use ipc_model::{Limits, Table, WriteFault};
 use std::alloc::Global;
 

@@ -16,13 +16,13 @@ ghost use Rattle.job_rewrite.specs.declared.stop.RewriteStop.TheVariants.{Write}
 ghost use Rattle.job_rewrite.specs.RewriteLimits.{at_least_standard};
 ghost use Rattle.job_rewrite.specs.Reporting.{ReportsSentBatches};
 ghost use Rattle.job_rewrite.specs.Rewriting.{AnswersRewrittenTable, CopiesBatches, Rewrites};
-ghost use Rattle.job_rewrite.specs.Rewriting.{as_required};
 ghost use Rattle.job_rewrite.specs.Rewriting.{CountsRewriteFailures};
 
 use crate::limits::at_least_standard;
 use crate::stop::RewriteStop;
-use ipc_model::{Fault, Items, Limits, Schema, Text, WriteFault};
-use ipc_stream::{Batch, End, Progress, Seed, Sink, Source, StreamReader, StreamWriter};
+use ipc_device::{Progress, Sink, Source};
+use ipc_model::{Items, Limits, Schema, Text, WriteFault};
+use ipc_stream::{Batch, End, Seed, StreamReader, StreamWriter};
 use std::alloc::Global;
 
 // Writes the rows of a batch, with these pairs.
@@ -47,21 +47,6 @@ fn copy_batch<W: Sink>(
     ensures works { OnOk result (writer.new.failed ≡ false) }
 {
     writer.write_columns(batch, pairs)
-}
-
-// The end of a stream that was read, or F4 if it is not the mark that is required.
-fn check_end(end: End, require_mark: bool) -> Result<End, Fault>
-    ensures { result ≡ as_required require_mark (Ok end) }
-{
-    match end {
-        End::Mark => Ok(End::Mark),
-        End::Closed => {
-            if require_mark {
-                return Err(Fault::Truncated);
-            }
-            Ok(End::Closed)
-        }
-    }
 }
 
 // Writes each batch that is read, and reports it then, to the end of the stream, which is F4 if it
@@ -99,7 +84,7 @@ fn copy_batches<R: Source, W: Sink, P: Progress>(
                 progress.batch_done(stream.taken(), batches, rows);
             }
             // `next` returned None, so `end` is Some: the default is never used.
-            Ok(None) => match check_end(stream.end().unwrap_or(End::Closed), require_mark) {
+            Ok(None) => match stream.end().unwrap_or(End::Closed).check_mark(require_mark) {
                 Ok(_) => return Ok(()),
                 Err(missing) => return Err(RewriteStop::Read(missing, stream.messages())),
             },
