@@ -93,42 +93,6 @@ fn copy_batches<R: Source, W: Sink, P: Progress>(
     }
 }
 
-// Begins the new stream, whose values of dictionaries are hashed with this seed.
-fn begin_stream<W: Sink>(
-    alloc: Global,
-    seed: Seed,
-    limits: &Limits,
-    sink: W,
-    schema: &Schema,
-) -> Result<StreamWriter<W>, (WriteFault, W)>
-    ensures started { IfOk result
-        (λ s. StartsWriter (at_least_standard limits.now) schema.now (W.written sink)
-        (W.failures sink) s) }
-    ensures seeded { IfOk result (λ s. s.seed ≡ seed) }
-    ensures refused { IfErr result (λ e. StartFails (at_least_standard limits.now) schema.now
-        (W.written sink) (W.written e.1) (W.failures sink) (W.failures e.1) e.0) }
-{
-    let mut writer = StreamWriter::start(alloc, at_least_standard(limits), sink, schema)?;
-    writer.set_seed(seed);
-    Ok(writer)
-}
-
-// Ends the new stream with its mark.
-fn end_stream<W: Sink>(writer: StreamWriter<W>) -> (Result<(), RewriteStop>, W)
-    requires { writer.failed ≡ false }
-    ensures ends { MatchResult result.0
-        (λ _. Sent EndsStream writer.written (W.written result.1) writer.failures
-        (W.failures result.1))
-        (λ stop. (stop ≡ Write WriteFault.Write)
-        × CutShort EndsStream writer.written (W.written result.1) (W.failures result.1)) }
-    ensures handed_on { OnOk result.0 (W.held_back result.1 ≡ Some []) }
-{
-    match writer.finish() {
-        Ok(sink) => (Ok(()), sink),
-        Err((fault, sink)) => (Err(RewriteStop::Write(fault)), sink),
-    }
-}
-
 // Writes a stream whose schema was read, and gives the sink back.
 fn copy_stream<R: Source, W: Sink, P: Progress>(
     alloc: Global,
@@ -151,12 +115,17 @@ fn copy_stream<R: Source, W: Sink, P: Progress>(
         → ReportsSentBatches limits start stream.new.remaining (P.reports progress.old)
         (P.reports progress.new) result.0 }
 {
-    let mut writer = match begin_stream(alloc, seed, &stream.limits(), sink, stream.schema()) {
+    let limits = at_least_standard(&stream.limits());
+    let started = StreamWriter::start_with_seed(alloc, seed, limits, sink, stream.schema());
+    let mut writer = match started {
         Ok(writer) => writer,
         Err((fault, sink)) => return (Err(RewriteStop::Write(fault)), sink),
     };
     match copy_batches(require_mark, stream, &mut writer, progress) {
-        Ok(()) => end_stream(writer),
+        Ok(()) => match writer.finish() {
+            Ok(sink) => (Ok(()), sink),
+            Err((fault, sink)) => (Err(RewriteStop::Write(fault)), sink),
+        },
         Err(stop) => (Err(stop), writer.into_inner()),
     }
 }
