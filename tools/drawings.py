@@ -14,7 +14,7 @@ from xml.sax.saxutils import escape
 
 TOP = pathlib.Path(__file__).resolve().parent.parent
 WIDTH, BOX_WIDTH, BOX_HEIGHT, MARGIN = 1000, 172, 52, 20
-TOPS = [MARGIN + 86 * (9 - row) for row in range(10)]  # the upper edge of each row's boxes
+TOPS = [MARGIN + 86 * (10 - row) for row in range(11)]  # the upper edge of each row's boxes
 FONT = "'DejaVu Sans', Verdana, Helvetica, Arial, sans-serif"
 MONO = "'DejaVu Sans Mono', Menlo, Consolas, monospace"
 INK, FAINT, LINE, FAULT = "#1f2328", "#57606a", "#6e7781", "#cf222e"
@@ -31,31 +31,33 @@ GROUPS = {
 }
 
 CRATES = {
-    "arrowstream": ("jobs", 9, 350, "the command"),
-    "job_command": ("jobs", 8, 350, "arguments and jobs"),
-    "job_rewrite": ("jobs", 7, 110, "stream to stream"),
-    "job_from_csv": ("jobs", 7, 300, "CSV to stream"),
-    "job_print": ("jobs", 7, 490, "stream to JSON, CSV"),
-    "arrowstream_c": ("streams", 8, 690, "the library for C"),
-    "ipc_text": ("text", 7, 886, "re-exports for users"),
-    "ipc_stream": ("streams", 6, 300, "writer, sinks, devices"),
-    "job_explain": ("jobs", 6, 490, "why it is refused"),
-    "ipc_stream_session": ("streams", 7, 690, "streams as values"),
-    "ipc_stream_read": ("streams", 5, 190, "reader and decoder"),
-    "ipc_dict": ("streams", 5, 410, "dictionaries to send"),
-    "ipc_text_csv": ("text", 5, 680, "CSV both ways"),
-    "ipc_text_json": ("text", 5, 880, "JSON of schema, rows"),
-    "ipc_dict_read": ("batches", 4, 300, "dictionaries in force"),
-    "ipc_encode": ("batches", 4, 520, "rows to buffers"),
-    "ipc_text_temporal": ("text", 4, 780, "dates, times, digits"),
-    "ipc_frame": ("batches", 3, 110, "bytes to messages"),
-    "ipc_column": ("batches", 3, 410, "buffers to columns"),
-    "ipc_meta": ("metadata", 2, 260, "metadata both ways"),
-    "ipc_flat": ("metadata", 1, 110, "reads FlatBuffers"),
-    "ipc_build": ("metadata", 1, 310, "writes FlatBuffers"),
-    "ipc_model": ("values", 1, 510, "types, values, faults"),
+    "arrowstream": ("jobs", 10, 300, "the command"),
+    "job_command": ("jobs", 9, 300, "jobs and their exits"),
+    "arrowstream_c": ("streams", 9, 490, "the library for C"),
+    "job_rewrite": ("jobs", 8, 110, "stream to stream"),
+    "job_from_csv": ("jobs", 8, 300, "CSV to stream"),
+    "ipc_stream_session": ("streams", 8, 490, "streams as values"),
+    "ipc_stream": ("streams", 7, 150, "writer"),
+    "job_explain": ("jobs", 7, 340, "why it is refused"),
+    "job_print": ("jobs", 7, 526, "stream to JSON, CSV"),
+    "job_arguments": ("jobs", 7, 712, "words of a command"),
+    "ipc_text": ("text", 7, 894, "re-exports for users"),
+    "ipc_dict": ("streams", 6, 150, "dictionaries to send"),
+    "ipc_stream_read": ("streams", 6, 400, "reader and decoder"),
+    "ipc_text_csv": ("text", 6, 660, "CSV both ways"),
+    "ipc_text_json": ("text", 6, 850, "JSON of schema, rows"),
+    "ipc_encode": ("batches", 5, 110, "rows to buffers"),
+    "ipc_dict_read": ("batches", 5, 310, "dictionaries in force"),
+    "ipc_text_temporal": ("text", 5, 780, "dates, times, digits"),
+    "ipc_column": ("batches", 4, 230, "buffers to columns"),
+    "ipc_frame": ("batches", 4, 450, "bytes to messages"),
+    "ipc_meta": ("metadata", 3, 270, "metadata both ways"),
+    "ipc_device": ("streams", 3, 500, "sources and sinks"),
+    "ipc_build": ("metadata", 2, 210, "writes FlatBuffers"),
+    "ipc_flat": ("metadata", 1, 210, "reads FlatBuffers"),
+    "ipc_model": ("values", 1, 540, "types, values, faults"),
     "ipc_scalar": ("metadata", 0, 210, "numbers and bits"),
-    "ipc_items": ("values", 0, 410, "lists and texts"),
+    "ipc_items": ("values", 0, 440, "lists and texts"),
     "test_layers": ("tests", 1, 736, "lower layers"),
     "test_streams": ("tests", 1, 888, "streams"),
     "test_texts": ("tests", 0, 736, "JSON and CSV"),

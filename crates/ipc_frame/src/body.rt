@@ -15,8 +15,8 @@ pub struct Body {
 }
 
 impl Body {
-    ghost use Rattle.std.specs.Prelude.{◌≡◌, ◌<◌, ◌≤◌, ◌+◌, ◌^◌, ◌++◌, [], length};
-    ghost use Rattle.std.specs.Prelude.{IfErr, IfOk, OnErr, OnOk, vec_capacity};
+    ghost use Rattle.std.specs.Prelude.{◌≡◌, ◌<◌, ◌≤◌, ◌+◌, ◌^◌, ◌++◌, [], length, IfErr, IfOk};
+    ghost use Rattle.std.specs.Prelude.{OnErr, OnOk, vec_capacity};
     ghost use Rattle.std.specs.Io.KnownBytes.{Keeps};
     ghost use Rattle.ipc_frame.specs.Bodies.{KeepsOne, body_bytes};
     ghost use Rattle.ipc_frame.specs.Failures.{FailsAs, IsOutside};

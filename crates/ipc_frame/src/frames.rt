@@ -100,8 +100,7 @@ impl Frames {
     ghost use Rattle.ipc_frame.specs.Parts.{no_capacity};
     ghost use Rattle.ipc_frame.specs.Pulled.{FailsWhile, TakesFromSource};
     ghost use Rattle.ipc_frame.specs.Pieces.{Closes, Feeds, DropsLists, TakesMemory, Wants};
-    ghost use Rattle.ipc_frame.specs.Pieces.{held_of};
-    ghost use Rattle.ipc_frame.specs.Pieces.{taking};
+    ghost use Rattle.ipc_frame.specs.Pieces.{held_of, taking};
 
     /// Starts at the beginning of a stream. All that it accepts, in each call, is within `limits`.
     pub fn new(alloc: Global, limits: Limits) -> Frames

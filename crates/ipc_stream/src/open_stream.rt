@@ -5,8 +5,7 @@ ghost use Rattle.ipc_dict.specs.Sending.{AreCounted, sent_after};
 ghost use Rattle.ipc_stream_read.specs.Stream.{OpensStream};
 ghost use Rattle.ipc_stream.specs.Dictionaries.{SendsBatch, kept_at_start};
 ghost use Rattle.ipc_stream.specs.PendingBatches.{BelongsTo, HoldsBatch, RefusesPending};
-ghost use Rattle.ipc_stream.specs.PendingBatches.{StaysInStream};
-ghost use Rattle.ipc_stream.specs.PendingBatches.{no_rows, with_row, with_rows};
+ghost use Rattle.ipc_stream.specs.PendingBatches.{StaysInStream, no_rows, with_row, with_rows};
 ghost use Rattle.ipc_stream.specs.Writing.{AcceptsBatch, AcceptsSchema, RefusesBatch};
 ghost use Rattle.ipc_stream.specs.Writing.{RefusesSchema, Sends};
 

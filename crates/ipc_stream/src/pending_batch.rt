@@ -1,5 +1,4 @@
-ghost use Rattle.std.specs.Prelude.{◌≡◌, ◌++◌, ℕ, List, [], ◌∷◌, false, IfErr, IfOk, OnOk};
-ghost use Rattle.std.specs.Prelude.{MatchResult};
+ghost use Rattle.std.specs.Prelude.{◌≡◌, ℕ, List, [], false, IfErr, IfOk, OnOk, MatchResult};
 ghost use Rattle.ipc_model.specs.Fits.{RowFits};
 ghost use Rattle.ipc_model.specs.RowFaults.{HasShortPaths};
 ghost use Rattle.ipc_model.specs.WellFormed.{WellFormed};
@@ -8,13 +7,11 @@ ghost use Rattle.ipc_model.specs.declared.schema.Schema.{Schema};
 ghost use Rattle.ipc_model.specs.declared.table.BatchRows.{BatchRows};
 ghost use Rattle.ipc_model.specs.declared.value.Value.{Value};
 ghost use Rattle.ipc_encode.specs.Limits.{IsWithin};
-ghost use Rattle.ipc_encode.specs.Faults.{write_fault};
 ghost use Rattle.ipc_dict.specs.Within.{HaveShortMessages};
 ghost use Rattle.ipc_stream.specs.Parts.{AcceptsPairs};
 ghost use Rattle.ipc_stream.specs.Writing.{RefusesBatch};
 ghost use Rattle.ipc_stream.specs.PendingBatches.{HoldsBatch, RefusesPending, RefusesRow};
-ghost use Rattle.ipc_stream.specs.PendingBatches.{StaysInStream};
-ghost use Rattle.ipc_stream.specs.PendingBatches.{no_rows, with_row, with_rows};
+ghost use Rattle.ipc_stream.specs.PendingBatches.{StaysInStream, no_rows, with_row, with_rows};
 
 use crate::messages::parts_message;
 use crate::row_rejection::RowRejection;

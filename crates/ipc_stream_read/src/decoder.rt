@@ -53,9 +53,8 @@ impl Decoder {
     ghost use Rattle.std.specs.Prelude.{option_copied};
     ghost use Rattle.ipc_frame.specs.Parts.{no_capacity};
     ghost use Rattle.ipc_stream_read.specs.Decoding.{ClosesAt, Draws, FailsWhile, Feeds};
-    ghost use Rattle.ipc_stream_read.specs.Decoding.{HasColumns};
-    ghost use Rattle.ipc_stream_read.specs.Decoding.{DropsLists};
-    ghost use Rattle.ipc_stream_read.specs.Decoding.{Wants, held_of, kept_bytes, schema_of, taking};
+    ghost use Rattle.ipc_stream_read.specs.Decoding.{HasColumns, DropsLists, Wants, held_of};
+    ghost use Rattle.ipc_stream_read.specs.Decoding.{kept_bytes, schema_of, taking};
     ghost use Rattle.ipc_stream_read.specs.MessageFeeds.{FeedsMessage, ForReported};
     ghost use Rattle.ipc_stream_read.specs.Reader.{phase_of};
 

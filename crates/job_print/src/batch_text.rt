@@ -1,6 +1,6 @@
 //! The rows of a batch as text, in each form.
-ghost use Rattle.std.specs.Prelude.{◌≡◌, ◌≤◌, [], length, take, IfOk, IfSome, IsSome, IsTrue};
-ghost use Rattle.std.specs.Prelude.{None, Some};
+ghost use Rattle.std.specs.Prelude.{◌≡◌, ◌≤◌, [], length, take, IfOk, IfSome, IsSome, IsTrue, None};
+ghost use Rattle.std.specs.Prelude.{Some};
 ghost use Rattle.job_print.specs.Columns as spec;
 ghost use Rattle.job_print.specs.Columns.{AreNumberColumns, IsApart};
 ghost use Rattle.job_print.specs.LentRows.{AreColumnsOfRows};

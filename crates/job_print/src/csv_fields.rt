@@ -1,6 +1,6 @@
 //! Writes fields of CSV into a buffer. A field that needs no quotes is read and copied in one pass.
-ghost use Rattle.std.specs.Prelude.{◌≡◌, ◌≤◌, ◌+◌, ◌++◌, ◌∷◌, [], length, take, decimal};
-ghost use Rattle.std.specs.Prelude.{IfErr, IfOk, IsTrue, Some};
+ghost use Rattle.std.specs.Prelude.{◌≡◌, ◌≤◌, ◌+◌, ◌++◌, ◌∷◌, [], length, take, decimal, IfErr};
+ghost use Rattle.std.specs.Prelude.{IfOk, IsTrue, Some, ℕ};
 ghost use Rattle.std.specs.Fmt.{signed_decimal};
 ghost use Rattle.csv.specs.Writing as csv;
 ghost use Rattle.csv.specs.Writing.{default_writer};
@@ -8,10 +8,7 @@ ghost use Rattle.hex.specs.Hex.{encode_lower};
 ghost use Rattle.ipc_text_csv.specs.declared.dialect.Dialect.{Dialect};
 ghost use Rattle.ipc_text_csv.specs.Dialects.{writer};
 ghost use Rattle.ipc_text_csv.specs.RowCsv.{Appended, Ended, RefusesValue, with_backslash};
-ghost use Rattle.ipc_text_csv.specs.RowCsv.{chars_text};
-ghost use Rattle.ipc_text_csv.specs.RowCsv.{null_text};
-ghost use Rattle.ipc_text_csv.specs.RowCsv.{unless_null, with_field};
-ghost use Rattle.std.specs.Prelude.{ℕ};
+ghost use Rattle.ipc_text_csv.specs.RowCsv.{chars_text, null_text, unless_null, with_field};
 ghost use Rattle.job_print.specs.Unquoted.{BeginsApart};
 
 use crate::bytes::{copy_up_to_3, put, put_word, reserve};

@@ -1,6 +1,6 @@
 //! A row of lent cells as a record of CSV.
-ghost use Rattle.std.specs.Prelude.{◌≡◌, ◌≤◌, ◌<◌, ◌+◌, ◌++◌, [], length, take, IfErr, IfOk};
-ghost use Rattle.std.specs.Prelude.{None, Ok, Some, slice_get, true};
+ghost use Rattle.std.specs.Prelude.{◌≡◌, ◌≤◌, ◌<◌, ◌+◌, ◌++◌, [], length, take, IfErr, IfOk, None};
+ghost use Rattle.std.specs.Prelude.{Ok, Some, slice_get, true};
 ghost use Rattle.csv.specs.Writing.{next_sep};
 ghost use Rattle.ipc_column.specs.Nested.{child_columns, slot_values};
 ghost use Rattle.ipc_column.specs.Slots.{value_in_slot};
@@ -10,11 +10,10 @@ ghost use Rattle.job_print.specs.LentRows.{HaveRow, row_at};
 ghost use Rattle.ipc_model.specs.declared.schema.DataType.{DataType};
 ghost use Rattle.ipc_text_temporal.specs.Temporals.{temporal_text};
 ghost use Rattle.ipc_text_csv.specs.RowCsv.{Appended, IsRefusal, RefusesValue, flat_fault};
-ghost use Rattle.ipc_text_csv.specs.RowCsv.{int_text};
+ghost use Rattle.ipc_text_csv.specs.RowCsv.{int_text, bool_text, put_texts, row_csv, csv_text};
+ghost use Rattle.ipc_text_csv.specs.RowCsv.{with_field};
 ghost use Rattle.ipc_text_csv.specs.declared.dialect.Dialect.{Dialect};
 ghost use Rattle.ipc_text_csv.specs.Dialects.{writer};
-ghost use Rattle.ipc_text_csv.specs.RowCsv.{bool_text, put_texts, row_csv, csv_text};
-ghost use Rattle.ipc_text_csv.specs.RowCsv.{with_field};
 
 use crate::bool_words::put_bool_word;
 use crate::bytes::{put, reserve};

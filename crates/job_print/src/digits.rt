@@ -8,7 +8,7 @@
 //! A part is cut in two by one product for all parts, whose factor is a little more than the
 //! reciprocal and gives the same quotients for numbers that are as small as these. A mask keeps the
 //! quotients and drops what the product of the part above has pushed in between.
-ghost use Rattle.std.specs.Prelude.{◌≡◌, ◌≤◌, ◌<◌, ◌+◌, ◌*◌, ◌++◌, ◌/◌, ◌%◌, length, take, drop};
+ghost use Rattle.std.specs.Prelude.{◌≡◌, ◌≤◌, ◌<◌, ◌+◌, ◌*◌, ◌++◌, ◌/◌, ◌%◌, length, take};
 ghost use Rattle.std.specs.Fmt.{decimal, signed_decimal};
 ghost use Rattle.std.specs.Int.{w64, to_le_bytes};
 ghost use Rattle.job_print.specs.Digits.{last_digits};

@@ -16,8 +16,7 @@ ghost use Rattle.job_print.specs.LentSlots.{HaveSlot, HasListSlots, list_values,
 ghost use Rattle.job_print.specs.LentSlots.{values_between};
 ghost use Rattle.job_print.specs.RowTexts.{name_text};
 ghost use Rattle.ipc_text_json.specs.RowJson.{cell_json, int_json, items_json, list_json};
-ghost use Rattle.ipc_text_json.specs.RowJson.{row_field};
-ghost use Rattle.ipc_text_json.specs.RowJson.{row_text, values_json};
+ghost use Rattle.ipc_text_json.specs.RowJson.{row_field, row_text, values_json};
 ghost use Rattle.ipc_text_json.specs.RowTokens.{closing, opening};
 ghost use Rattle.ipc_text_json.specs.declared.row.RowShape.{RowShape};
 

@@ -1,6 +1,6 @@
 //! Text on its way to a sink.
-ghost use Rattle.std.specs.Prelude.{◌≡◌, ◌≤◌, ◌+◌, ◌++◌, [], length, take, vec_len};
-ghost use Rattle.std.specs.Prelude.{IfErr, IfOk, IsFalse, IsTrue, MatchResult, OnOk, Some, None};
+ghost use Rattle.std.specs.Prelude.{◌≡◌, ◌≤◌, ◌+◌, ◌++◌, [], length, take, vec_len, IfErr, IfOk};
+ghost use Rattle.std.specs.Prelude.{IsFalse, IsTrue, MatchResult, OnOk, Some, None};
 ghost use Rattle.job_print.specs.Columns.{AreLent, IsApart, number_line};
 ghost use Rattle.job_print.specs.Forms.{HasLine, form_fault, line_of};
 ghost use Rattle.job_print.specs.LentRows.{HaveRow, row_at};

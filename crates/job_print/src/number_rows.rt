@@ -1,14 +1,14 @@
 //! Rows of signed 64-bit numbers: room is reserved once for a row, and not for each number.
-ghost use Rattle.std.specs.Prelude.{◌≡◌, ◌≤◌, ◌<◌, ◌+◌, ◌*◌, ◌++◌, [], ℕ, List, length, take};
-ghost use Rattle.std.specs.Prelude.{◌↔◌, IfOk, IfSome, IsTrue, slice_index_or, true};
+ghost use Rattle.std.specs.Prelude.{◌≡◌, ◌≤◌, ◌<◌, ◌+◌, ◌*◌, ◌++◌, [], ℕ, List, length, take, ◌↔◌};
+ghost use Rattle.std.specs.Prelude.{IfOk, IfSome, IsTrue, slice_index_or, true};
 ghost use Rattle.std.specs.Int.{cast_signed, from_le_bytes, w64};
 ghost use Rattle.ipc_model.specs.declared.value.Value.{Value};
 ghost use Rattle.ipc_column.specs.Lending.{AreNumbers};
 ghost use Rattle.ipc_column.specs.Lent.{AreOfColumn};
 ghost use Rattle.ipc_column.specs.Nested.{Nested, slot_values};
 ghost use Rattle.job_print.specs.Columns.{AreLent, AreLong, AreNumberColumns, IsApart, IsLane};
-ghost use Rattle.job_print.specs.Columns.{IsNumberColumn, closing_of};
-ghost use Rattle.job_print.specs.Columns.{delimiter_of, number_line, opening_of, row_in, separator};
+ghost use Rattle.job_print.specs.Columns.{IsNumberColumn, closing_of, delimiter_of, number_line};
+ghost use Rattle.job_print.specs.Columns.{opening_of, row_in, separator};
 ghost use Rattle.job_print.specs.Output.{PrintsAt, output};
 ghost use Rattle.job_print.specs.Rows.{lines};
 

@@ -13,11 +13,9 @@ ghost use Rattle.job_print.specs.Forms.{counts_text, form_fault, front_text};
 ghost use Rattle.job_print.specs.Output.{output, PrintsAs};
 ghost use Rattle.job_print.specs.Reporting.{ReportsPrintedBatches, ReportsOutcome};
 ghost use Rattle.job_print.specs.Streams.{AnswersFirst, AnswersPrintedTable, IsReadToEnd, Prints};
-ghost use Rattle.job_print.specs.Streams.{PrintsAll};
-ghost use Rattle.job_print.specs.Streams.{PrintsBatches};
-ghost use Rattle.job_print.specs.Streams.{PrintsSome, PrintsStream, ReachesLimit};
-ghost use Rattle.job_print.specs.Streams.{CountsPrintFailures};
-ghost use Rattle.job_print.specs.Streams.{outcome_tail, write_fault};
+ghost use Rattle.job_print.specs.Streams.{PrintsAll, PrintsBatches, PrintsSome, PrintsStream};
+ghost use Rattle.job_print.specs.Streams.{ReachesLimit, CountsPrintFailures, outcome_tail};
+ghost use Rattle.job_print.specs.Streams.{write_fault};
 
 use crate::batch_text::print_batch;
 use crate::form::{Form, PrintOptions, count_wanted, has_reached};

@@ -1,17 +1,15 @@
 //! Reads a stream batch by batch, and writes each batch as soon as it is read.
-ghost use Rattle.std.specs.Prelude.{◌≡◌, ◌++◌, ◌∷◌, ℕ, List, [], IfErr, IfOk, MatchResult};
-ghost use Rattle.std.specs.Prelude.{Ok, OnOk, Option, Some, false, true};
+ghost use Rattle.std.specs.Prelude.{◌≡◌, ◌++◌, ◌∷◌, ℕ, List, [], MatchResult, Ok, OnOk, Option};
+ghost use Rattle.std.specs.Prelude.{Some, false};
 ghost use Rattle.ipc_model.specs.declared.limits.Limits.{Limits};
 ghost use Rattle.ipc_model.specs.declared.table.Table.{Table};
 ghost use Rattle.ipc_stream_read.specs.declared.end.End.TheVariants.{Closed, Mark};
 ghost use Rattle.ipc_stream_read.specs.declared.stream_phase.StreamPhase.TheVariants.{Reading};
 ghost use Rattle.ipc_stream_read.specs.Found.{batch_rows};
 ghost use Rattle.ipc_stream_read.specs.Reader.{Opens};
-ghost use Rattle.ipc_stream_read.specs.Stream.{Denotes, EndsStream};
+ghost use Rattle.ipc_stream_read.specs.Stream.{Denotes};
 ghost use Rattle.ipc_stream.specs.Dictionaries.{SendsBatch, kept_after};
-ghost use Rattle.ipc_stream.specs.Writer.{StartsWriter, StartFails};
-ghost use Rattle.ipc_stream.specs.Writing.{AcceptsBatch, CutShort};
-ghost use Rattle.ipc_stream.specs.Writing.{RefusesBatch, Sends, Sent};
+ghost use Rattle.ipc_stream.specs.Writing.{AcceptsBatch, RefusesBatch, Sends};
 ghost use Rattle.job_rewrite.specs.declared.stop.RewriteStop.TheVariants.{Write};
 ghost use Rattle.job_rewrite.specs.RewriteLimits.{at_least_standard};
 ghost use Rattle.job_rewrite.specs.Reporting.{ReportsSentBatches};

@@ -1,7 +1,5 @@
 //! What a reader answers by calls: at a source that fails at each of its calls in turn, after a
 //! refusal and after the end. What it answers to streams is in `cases/`.
-ghost use Rattle.std.specs.Prelude.{◌≤◌, ◌+◌, length, IfOk};
-ghost use Rattle.std.specs.Io.KnownBytes.{ReadConsumes};
 
 use crate::pieces::{STREAM, nullable_stream};
 use crate::tables::{Column, NUMBERS};

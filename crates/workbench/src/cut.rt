@@ -1,6 +1,4 @@
 //! How the bytes of a stream are cut into pieces.
-ghost use Rattle.std.specs.Prelude.{◌≤◌, ◌+◌, length, IfOk};
-ghost use Rattle.std.specs.Io.KnownBytes.{ReadConsumes};
 
 use ipc_stream::{Failed, Limited, Memory, Source};
 
