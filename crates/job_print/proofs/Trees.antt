@@ -1,13 +1,14 @@
 -- Columns below a column.
 use Rattle.std.proofs.Common.{◌≡◌, ◌∙◌, refl, sym, ap, subst, ℕ, zero, suc, ◌+◌, ◌<◌, List, [], ◌∷◌, ◌++◌, length, map}
 use Rattle.std.proofs.Common.{Some, None, Option, arith, take, add-one, get_or}
-use Rattle.std.specs.Prelude.{slice_get}
+use Rattle.std.specs.Prelude.{slice_get, sum}
 use Rattle.std.proofs.lemmas.List.{length-map}
+use Rattle.std.proofs.lemmas.List.Sums.{sum_by-cons}
 use Rattle.std.proofs.lemmas.Option.{none-some, slice_get_read}
 use Rattle.ipc_column.specs.declared.ranges.ColumnRanges.{ColumnRanges}
 use Rattle.ipc_column.specs.Nested.{Nested}
 use Rattle.ipc_column.specs.Slots.{nested, nested_in}
-use Rattle.job_print.specs.Trees.{count, count_below, total}
+use Rattle.job_print.specs.Trees.{count, count_below}
 use Rattle.job_print.specs.TreeFalls.{count_is}
 
 some_same : (a b : Nested) → Some a ≡ Some b → a ≡ b
@@ -18,11 +19,13 @@ some_same a b h = ap (λ (o : Option Nested). out o) h
     out None = a
 
 fewer_at : (body : List ℕ) (ps : List ColumnRanges) (i : ℕ) (child : Nested) → slice_get (map (nested body) ps) i ≡ Some child
-    → count_below child < total (map count ps)
+    → count_below child < sum (map count ps)
 fewer_at body [] i child e = absurd (none-some child e)
 fewer_at body (p ∷ ps) zero child e =
-    subst (λ (n : Nested). count_below n < total (map count (p ∷ ps))) (some_same _ _ e) (omega (arith, count_is p))
-fewer_at body (p ∷ ps) (suc i) child e = let less = fewer_at body ps i child e in omega (arith, less)
+    subst (λ (n : Nested). count_below n < sum (map count (p ∷ ps))) (some_same _ _ e)
+    (omega (arith, count_is p, sum_by-cons (λ n. n) (count p) (map count ps)))
+fewer_at body (p ∷ ps) (suc i) child e =
+    let less = fewer_at body ps i child e in omega (arith, less, sum_by-cons (λ n. n) (count p) (map count ps))
 
 -- a child has fewer columns below it
 pub child_fewer : (n child : Nested) (i : ℕ) → slice_get (nested_in n) i ≡ Some child → count_below child < count_below n
