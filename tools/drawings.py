@@ -31,21 +31,21 @@ GROUPS = {
 }
 
 CRATES = {
-    "arrowstream": ("jobs", 10, 300, "the command"),
-    "job_command": ("jobs", 9, 300, "jobs and their exits"),
-    "arrowstream_c": ("streams", 9, 490, "the library for C"),
+    "arrowstream": ("jobs", 10, 430, "the command"),
+    "job_command": ("jobs", 9, 430, "jobs and their exits"),
+    "arrowstream_c": ("streams", 9, 890, "the library for C"),
     "job_rewrite": ("jobs", 8, 110, "stream to stream"),
-    "job_from_csv": ("jobs", 8, 300, "CSV to stream"),
-    "ipc_stream_session": ("streams", 8, 490, "streams as values"),
-    "ipc_stream": ("streams", 7, 150, "writer"),
-    "job_explain": ("jobs", 7, 340, "why it is refused"),
-    "job_print": ("jobs", 7, 526, "stream to JSON, CSV"),
-    "job_arguments": ("jobs", 7, 712, "words of a command"),
-    "ipc_text": ("text", 7, 894, "re-exports for users"),
+    "job_from_csv": ("jobs", 8, 292, "CSV to stream"),
+    "ipc_stream_session": ("streams", 8, 890, "streams as values"),
+    "ipc_stream": ("streams", 7, 130, "writer"),
+    "job_explain": ("jobs", 7, 350, "why it is refused"),
+    "job_print": ("jobs", 7, 540, "stream to JSON, CSV"),
+    "job_arguments": ("jobs", 8, 625, "words of a command"),
+    "ipc_text": ("text", 7, 742, "re-exports for users"),
     "ipc_dict": ("streams", 6, 150, "dictionaries to send"),
     "ipc_stream_read": ("streams", 6, 400, "reader and decoder"),
     "ipc_text_csv": ("text", 6, 660, "CSV both ways"),
-    "ipc_text_json": ("text", 6, 850, "JSON of schema, rows"),
+    "ipc_text_json": ("text", 6, 870, "JSON of schema, rows"),
     "ipc_encode": ("batches", 5, 110, "rows to buffers"),
     "ipc_dict_read": ("batches", 5, 310, "dictionaries in force"),
     "ipc_text_temporal": ("text", 5, 780, "dates, times, digits"),
@@ -151,7 +151,7 @@ def draw_crates():
     parts.append(rectangle(656, TOPS[1] - 30, 312, 178, "#f6f8fa", "#8c959f", dashes))
     parts.append(text(812, TOPS[1] - 10, GROUPS["tests"][2], 13, FAINT, anchor="middle"))
     parts += [it for name in CRATES for it in crate_box(name)]
-    parts += legend(690, MARGIN + 4)
+    parts += legend(MARGIN + 10, MARGIN + 4)
     return svg(TOPS[0] + BOX_HEIGHT + MARGIN, "The crates of arrowstream", parts)
 
 

@@ -2,4 +2,3 @@ pub mod Batches
 pub mod Leaving
 pub mod Complete
 pub mod Whole
-pub mod Reporting
