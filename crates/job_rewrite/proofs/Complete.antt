@@ -26,7 +26,8 @@ use Rattle.ipc_stream.specs.Writing.{AcceptsBatch, AcceptsTable, BreaksOff, CutS
 use Rattle.ipc_stream.specs.Writing.{RefusesBatch, RefusesSchema, Sent}
 use Rattle.ipc_stream_read.proofs.Answered.{answers_marked, answers_closed}
 use Rattle.ipc_stream_read.proofs.Runs.{reads_after}
-use Rattle.ipc_stream_read.proofs.Beginnings.{Holds, front_begins, holds_closed, holds_marked, left_of, reads_of, schema_begins, table_begins}
+use Rattle.ipc_stream_read.proofs.Beginnings.{Holds, front_begins, holds_closed, holds_marked, left_of}
+use Rattle.ipc_stream_read.proofs.Beginnings.{reads_of, schema_begins, table_begins}
 use Rattle.ipc_stream.proofs.TablesWritten.{IsOut, batch_breaks, end_broken, start_breaks}
 use Rattle.job_rewrite.specs.declared.stop.RewriteStop.{RewriteStop}
 use Rattle.job_rewrite.specs.declared.stop.RewriteStop.TheVariants as stop

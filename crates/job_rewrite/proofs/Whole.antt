@@ -148,8 +148,8 @@ module _ {limits : Limits} (start : Option (List ℕ)) (s t : Reader) (before : 
       (all_sent r.batches after.written after.failures r.sent) refl cut
 
   -- where the mark was not sent after all batches, the sink failed
-  pub end_refused : (required : Bool) (after : Writer) (end : End) (w1 : Option (List ℕ)) (f1 : ℕ) (fault : WriteFault) → after.failed ≡ false
-      → CopiesRest s t before after (Ok end) → FinishFails after w1 f1 fault
+  pub end_refused : (required : Bool) (after : Writer) (end : End) (w1 : Option (List ℕ)) (f1 : ℕ) (fault : WriteFault)
+      → after.failed ≡ false → CopiesRest s t before after (Ok end) → FinishFails after w1 f1 fault
       → Rewrites required limits start t.remaining w0 w1 f0 f1 (Err (stop.Write fault))
   end_refused required after end w1 f1 w.Write works r fails = mark_refused after end w1 f1 r fails.1
   end_refused required after end w1 f1 w.Failed works r fails = absurd (cc (works, fails.0))

@@ -21,7 +21,8 @@ use Rattle.ipc_stream_read.specs.Taken.{TakesTable}
 use Rattle.ipc_stream_read.proofs.Answered.{answers_marked, answers_closed}
 use Rattle.ipc_stream_read.proofs.OneReading.{at_eos, one_run}
 use Rattle.ipc_text_temporal.specs.declared.fault.TextFault.{TextFault}
-use Rattle.ipc_stream_read.proofs.Beginnings.{Holds, front_begins, holds_closed, holds_marked, left_of, reads_of, schema_begins, table_begins}
+use Rattle.ipc_stream_read.proofs.Beginnings.{Holds, front_begins, holds_closed, holds_marked, left_of}
+use Rattle.ipc_stream_read.proofs.Beginnings.{reads_of, schema_begins, table_begins}
 use Rattle.job_print.specs.declared.form.PrintOptions.{PrintOptions}
 use Rattle.job_print.specs.declared.stop.PrintStop.{PrintStop}
 use Rattle.job_print.specs.declared.stop.PrintStop.TheVariants as stop
