@@ -2,7 +2,7 @@
 use Rattle.std.proofs.Common.{◌≡◌, refl, sym, ap, ℕ, suc, ◌+◌, ◌*◌, ◌-◌, ◌<◌, List, [], ◌∷◌, ◌++◌, append_assoc, arith}
 use Rattle.std.specs.Prelude.{Result, Ok, Err}
 use Rattle.ipc_flat.specs.Views.{TableView, table_from}
-use Rattle.ipc_model.specs.Answers.{◌>>=◌}
+use Rattle.ipc_flat.specs.Faulty.{◌>>=◌}
 use Rattle.ipc_meta.specs.Budgets.{Reading}
 use Rattle.ipc_meta.specs.declared.budget.Budget.{Budget}
 use Rattle.ipc_model.specs.declared.fault.Fault.{Fault}
