@@ -28,7 +28,7 @@ module _ (len : ℕ) (out old new : List ℕ) (size : len ≡ length out) (same 
       → take len (new ++ drop (length new) out) ≡ (take here out ++ value) ++ drop (here + w) out
   number_put w here value inside before within after =
       let wide : here + w - here ≡ w = omega arith in
-      let rest : drop (here + w) out ≡ drop w (drop here new) = ap (drop (here + w)) (sym same) ∙ (sym after ∙ sym (drop-drop w here new)) in
+      let rest : drop (here + w) out ≡ drop w (drop here new) = ap (drop (here + w)) (sym same) ∙ sym after ∙ sym (drop-drop w here new) in
       rw (lent, rest, ← within, wide, ← same, ← before, append_assoc, take-append-drop w (drop here new), take-append-drop here new) refl
 
 -- w bytes of out are new from here on, and a tail stands behind it

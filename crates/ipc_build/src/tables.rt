@@ -1,10 +1,9 @@
 //! Writes tables, strings and vectors.
-ghost use Rattle.std.specs.Prelude.{◌≡◌, ◌≤◌, ◌<◌, ◌+◌, ◌-◌, ◌*◌, ◌^◌, ◌++◌, ℕ, length, take, IfOk};
+ghost use Rattle.std.specs.Prelude.{◌≡◌, ◌<◌, ◌+◌, ◌-◌, ◌*◌, ◌^◌, ◌++◌, length, take, IfOk};
 ghost use Rattle.std.specs.Int.{w64, cast_unsigned};
 ghost use Rattle.ipc_build.specs.Trees.{node, view, fields_view, tables_view};
 ghost use Rattle.ipc_build.specs.Layout.{little, padding, targets_end, target_end, target_bytes};
-ghost use Rattle.ipc_build.specs.Layout.{targets, inline_end, table_place, inline_bytes};
-ghost use Rattle.ipc_build.specs.Layout.{vtable_entries};
+ghost use Rattle.ipc_build.specs.Layout.{targets, inline_end, inline_bytes, vtable_entries};
 ghost use Rattle.ipc_build.specs.Layout.{head_bytes, own_bytes, struct_bytes, prefix_place};
 ghost use Rattle.ipc_build.specs.Layout.{string_end};
 ghost use Rattle.ipc_build.specs.Ascends.{fields, elements, Below, Writable};

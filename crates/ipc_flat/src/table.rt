@@ -1,5 +1,4 @@
-ghost use Rattle.std.specs.Prelude.{◌≡◌, ◌≤◌, ◌<◌, ◌+◌, ◌^◌, length, Option, Result, IfOk, IfSome};
-ghost use Rattle.std.specs.Prelude.{option_map};
+ghost use Rattle.std.specs.Prelude.{◌≡◌, ◌≤◌, ◌<◌, ◌+◌, ◌^◌, length, IfOk, IfSome, option_map};
 ghost use Rattle.ipc_scalar.specs.Bytes.{byte, int16, int32, int64};
 ghost use Rattle.ipc_flat.specs.Flat.{back_of, slot_of, text_of};
 ghost use Rattle.ipc_flat.specs.Views.{IsAnswer, table_at, table_from, scalar, field};

@@ -7,7 +7,12 @@ use Rattle.ipc_meta.specs.Budgets.{Reading}
 use Rattle.ipc_meta.specs.declared.budget.Budget.{Budget}
 use Rattle.ipc_model.specs.declared.fault.Fault.{Fault}
 use Rattle.ipc_meta.specs.FlatFaults.{map_fault}
-use Rattle.ipc_meta.specs.Reading.{each, with_front}
+use Rattle.ipc_meta.specs.Reading.{each}
+
+-- the list that was read, with `front` before it
+abbrev pub with_front : {X : Type 0} → List X → Result (List X × Budget) Fault
+    → Result (List X × Budget) Fault
+with_front front r = r >>= λ xs. Ok (front ++ xs.0, xs.1)
 
 -- the tables from the i-th of n on, with so many fields left
 abbrev pub from_ith : {X : Type 0} → (TableView → Reading X) → List ℕ → ℕ → ℕ → ℕ → Reading (List X)

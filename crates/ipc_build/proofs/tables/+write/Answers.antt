@@ -50,7 +50,8 @@ write_fields-loop-slot-init t c = fields_start c.args.slots.now c.args.at c.args
 pub write_fields-loop-slot-preserved : goal.write_fields-loop-slot-preserved
 write_fields-loop-slot-preserved t c =
     let put = number_put c.loop-slot.out.len c.loop-slot.out.items _ c.put_u64.new.bytes c.loop-slot.out.ok.0
-    c.as_mut_slice.ensures.value c.put_u64.auto.bytes 8 c.loop-slot.here _ (omega (arith, c.loop-slot.invariant.place, c.loop-slot.invariant.behind, c.loop-slot-test.true))
+    c.as_mut_slice.ensures.value c.put_u64.auto.bytes 8 c.loop-slot.here _
+    (omega (arith, c.loop-slot.invariant.place, c.loop-slot.invariant.behind, c.loop-slot-test.true))
     c.put_u64.ensures.before c.put_u64.ensures.bytes c.put_u64.ensures.after in
     field_put c.args.slots.now c.loop-slot.slot-index c.loop-slot-item.result c.loop-slot-item.is c.loop-slot-test.true c.loop-slot.here
     c.args.at c.len-next.result c.inline_value.result _ c.loop-slot.out.items _ c.write_target.new.out.items
@@ -104,7 +105,8 @@ write_elements-loop-tree-init t c = tables_start c.args.trees.now c.args.at c.ar
 pub write_elements-loop-tree-preserved : goal.write_elements-loop-tree-preserved
 write_elements-loop-tree-preserved t c =
     let put = number_put c.loop-tree.out.len c.loop-tree.out.items _ c.put_u32.new.bytes c.loop-tree.out.ok.0
-    c.as_mut_slice.ensures.value c.put_u32.auto.bytes 4 c.loop-tree.here _ (omega (arith, c.loop-tree.invariant.place, c.loop-tree.invariant.behind, c.loop-tree-test.true))
+    c.as_mut_slice.ensures.value c.put_u32.auto.bytes 4 c.loop-tree.here _
+    (omega (arith, c.loop-tree.invariant.place, c.loop-tree.invariant.behind, c.loop-tree-test.true))
     c.put_u32.ensures.before c.put_u32.ensures.bytes c.put_u32.ensures.after in
     table_put c.args.trees.now c.loop-tree.tree-index c.tree-item.result c.tree-item.is c.loop-tree-test.true c.loop-tree.here c.args.at
     c.len-next.result _ _ c.loop-tree.out.items _ c.write_table.new.out.items
