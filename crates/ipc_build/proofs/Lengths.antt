@@ -8,7 +8,7 @@ use Rattle.std.specs.Int.{Width, w8, w16, w32, w64, w128, byte_len, cast_unsigne
 use Rattle.std.proofs.Common.{FitsSigned}
 use Rattle.std.proofs.Math.Facts.{Fits-of_z}
 use Rattle.ipc_scalar.specs.Bytes.{num}
-use Rattle.ipc_scalar.specs.Flat.{vtable_of, vtable_entry}
+use Rattle.ipc_flat.specs.Flat.{vtable_of, vtable_entry}
 use Rattle.ipc_build.specs.Trees.{Content, Tree, none, field}
 use Rattle.ipc_build.specs.Trees as k
 use Rattle.ipc_build.specs.Layout.{little, padding, prefix_place, members, entry_count, table_place, inline_end, string_end, target_end}

@@ -1,7 +1,7 @@
 -- A loop that puts numbers into places kept for them, and what they point to behind all that stands.
 use Rattle.std.proofs.Common.{◌≡◌, ℕ, ◌+◌, ◌-◌, ◌*◌, ◌≤◌, ◌<◌, List, ◌++◌, length, take, drop, get_or, refl, ap, sym, ◌∙◌, append_assoc}
-use Rattle.std.proofs.Common.{arith}
-use Rattle.std.proofs.lemmas.List.{length-append, length-drop, length-take-le, take-append-drop, take_at, drop-append-le}
+use Rattle.std.proofs.Common.{arith, slice_range}
+use Rattle.std.proofs.lemmas.List.{length-append, length-drop, length-take-le, take-append-drop, take_at, drop-append-le, drop-drop}
 use Rattle.std.proofs.lemmas.Slice.{drop-append-drop}
 use Rattle.std.proofs.Math.Seq.{drop-length}
 use Rattle.ipc_build.specs.declared.tree.Slot.{Slot}
@@ -16,6 +16,20 @@ use Rattle.ipc_build.proofs.Lengths.{target_length, length_targets}
 use Rattle.ipc_build.proofs.Steps.{ends_step, inline_more, inline_done, targets_more, targets_done, table_ends_more, tables_more}
 use Rattle.ipc_build.proofs.Steps.{tables_done}
 use Rattle.ipc_build.proofs.Pieces.{field_below, table_each, offsets_more, offsets_done}
+
+module _ (len : ℕ) (out old new : List ℕ) (size : len ≡ length out) (same : old ≡ out) (as_long : length new ≡ length old) where
+  -- the bytes of a vector, lent and written, are what was written
+  pub lent : take len (new ++ drop (length new) out) ≡ new
+  lent = take_at new (drop (length new) out) len (omega (arith, size, as_long, ap length same))
+
+  -- they are as before, but for the w bytes from here on
+  pub number_put : (w here : ℕ) (value : List ℕ) → here + w ≤ length out → take here new ≡ take here old
+      → slice_range new here (here + w) ≡ value → drop (here + w) new ≡ drop (here + w) old
+      → take len (new ++ drop (length new) out) ≡ (take here out ++ value) ++ drop (here + w) out
+  number_put w here value inside before within after =
+      let wide : here + w - here ≡ w = omega arith in
+      let rest : drop (here + w) out ≡ drop w (drop here new) = ap (drop (here + w)) (sym same) ∙ sym after ∙ sym (drop-drop w here new) in
+      rw (lent, rest, ← within, wide, ← same, ← before, append_assoc, take-append-drop w (drop here new), take-append-drop here new) refl
 
 -- w bytes of out are new from here on, and a tail stands behind it
 record Patched (w here first : ℕ) (out value tail new : List ℕ) : Type 0 where

@@ -7,7 +7,7 @@ use Rattle.std.specs.Int.{w64, cast_signed, cast_unsigned}
 use Rattle.std.proofs.Common.{FitsSigned}
 use Rattle.std.proofs.lemmas.Int.{to_z-of_z}
 use Rattle.ipc_scalar.specs.Bytes.{num, int64}
-use Rattle.ipc_scalar.specs.Flat.{vtable_of, slot_of}
+use Rattle.ipc_flat.specs.Flat.{vtable_of, slot_of}
 use Rattle.ipc_build.specs.Trees.{Content, Tree, none, field}
 use Rattle.ipc_build.specs.Trees as k
 use Rattle.ipc_build.specs.Layout.{little, padding, prefix_place, members, entry_count, table_place, inline_end, target_end}

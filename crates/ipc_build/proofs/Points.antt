@@ -5,7 +5,7 @@ use Rattle.std.specs.Int.{w32, cast_signed}
 use Rattle.std.specs.Str.{is_utf8}
 use Rattle.std.proofs.Math.Dec.{eqb-suc-zero}
 use Rattle.ipc_scalar.specs.Bytes.{num}
-use Rattle.ipc_scalar.specs.Flat.{vtable_of, slot_of, points, table_position, elements_of, text_of, vtable_entry}
+use Rattle.ipc_flat.specs.Flat.{vtable_of, slot_of, points, table_position, elements_of, text_of, vtable_entry}
 use Rattle.ipc_build.proofs.Has.{Has, has_slice}
 
 positive : (d : ℕ) → 0 < d → (d == 0) ≡ false

@@ -5,7 +5,7 @@ use Rattle.std.specs.Prelude.{ℤ, ℕ, ◌+◌, ◌*◌, ◌<◌, ◌≤◌, �
 use Rattle.std.specs.Prelude.{Ok, ⊤}
 use Rattle.std.specs.Int.{byte_len, cast_signed}
 use Rattle.ipc_scalar.specs.Bytes.{num, byte, int64}
-use Rattle.ipc_scalar.specs.Flat.{vtable_of, slot_of, points, table_position, elements_of, text_of}
+use Rattle.ipc_flat.specs.Flat.{vtable_of, slot_of, points, table_position, elements_of, text_of}
 use Rattle.ipc_build.specs.Trees.{Content, Tree, none, field}
 use Rattle.ipc_build.specs.Trees as k
 use Rattle.ipc_build.specs.Layout.{members}

@@ -1,18 +1,18 @@
 //! Writes tables, strings and vectors.
-ghost use Rattle.std.specs.Prelude.{◌≡◌, ◌≤◌, ◌<◌, ◌+◌, ◌-◌, ◌*◌, ◌^◌, ◌++◌, ℕ, length, take, IfOk};
+ghost use Rattle.std.specs.Prelude.{◌≡◌, ◌<◌, ◌+◌, ◌-◌, ◌*◌, ◌^◌, ◌++◌, length, take, IfOk};
 ghost use Rattle.std.specs.Int.{w64, cast_unsigned};
 ghost use Rattle.ipc_build.specs.Trees.{node, view, fields_view, tables_view};
 ghost use Rattle.ipc_build.specs.Layout.{little, padding, targets_end, target_end, target_bytes};
-ghost use Rattle.ipc_build.specs.Layout.{targets, inline_end, table_place, inline_bytes};
-ghost use Rattle.ipc_build.specs.Layout.{vtable_entries};
+ghost use Rattle.ipc_build.specs.Layout.{targets, inline_end, inline_bytes, vtable_entries};
 ghost use Rattle.ipc_build.specs.Layout.{head_bytes, own_bytes, struct_bytes, prefix_place};
 ghost use Rattle.ipc_build.specs.Layout.{string_end};
 ghost use Rattle.ipc_build.specs.Ascends.{fields, elements, Below, Writable};
 
 use crate::inline::inline_value;
 use crate::places::{entry_count, prefix_place, table_place};
-use crate::scalars::{push_padding, push_u16, push_u32, push_u64, put_u32, put_u64};
+use crate::scalars::{push_padding, push_u16, push_u32, push_u64};
 use crate::tree::{FlatTree, Slot};
+use ipc_scalar::{put_u32, put_u64};
 use std::alloc::AllocError;
 
 // The entries of a table's vtable: the offset of each field from the table on, and 0 for a number
@@ -117,7 +117,7 @@ fn write_fields(out: &mut Vec<u8>, slots: &[(u16, Slot)], at: usize) -> Result<(
     let mut here = at;
     for (_, slot) in slots {
         let next = out.len();
-        put_u64(out, here, inline_value(slot, here, next));
+        put_u64(out.as_mut_slice(), here, inline_value(slot, here, next));
         write_target(out, slot, next)?;
         here += 8;
     }
@@ -176,7 +176,8 @@ fn write_elements(out: &mut Vec<u8>, trees: &[FlatTree], at: usize) -> Result<()
     let mut here = at;
     for tree in trees {
         let next = out.len();
-        put_u32(out, here, (table_place(tree, next) - here) as u32);
+        let offset = (table_place(tree, next) - here) as u32;
+        put_u32(out.as_mut_slice(), here, offset);
         write_table(out, tree, next)?;
         here += 4;
     }

@@ -35,11 +35,11 @@ use Rattle.ipc_column.specs.Lending.{AreAlone}
 use Rattle.ipc_column.specs.Lent.{HoldSlots, column_of_buffers, values_in}
 use Rattle.ipc_column.specs.Values.{first_of, is_valid, items, own_value, place_below, row, rows_of, value_at, value_of}
 use Rattle.ipc_column.specs.Sharing.{contents_of}
-use Rattle.ipc_column.specs.Views.{part_columns, column_of, children_of, own_column}
+use Rattle.ipc_column.specs.Views.{part_columns, column_of, children_of}
 use Rattle.ipc_column.proofs.Cells.{items_more}
 use Rattle.ipc_column.proofs.lending.Lent.{nested_layouts}
 use Rattle.ipc_column.proofs.Found.{column_holds, column_slots, items_first}
-use Rattle.ipc_column.proofs.Parts.{column_is}
+use Rattle.ipc_column.proofs.Parts.{own_column, column_is}
 use Rattle.ipc_column.proofs.lending.Slots.{items_length}
 
 -- ---- layouts that stand alone

@@ -8,12 +8,17 @@ use Rattle.ipc_model.specs.declared.layout.Layout.{Layout}
 use Rattle.ipc_model.specs.declared.layout.Layout.TheVariants as l
 use Rattle.ipc_column.specs.declared.ranges.ColumnRanges.{ColumnRanges}
 use Rattle.ipc_model.specs.Layouts.{own_buffers}
-use Rattle.ipc_column.specs.Columns.{Columns, none, column, beside, body_range}
+use Rattle.ipc_column.specs.Columns.{Columns, none, column, body_range}
 use Rattle.ipc_column.specs.Dictionaries.{Dictionaries}
 use Rattle.ipc_column.specs.Views.{part_columns, column_of, children_of}
 use Rattle.ipc_column.specs.Shapes.{Shape, bare, field, shape_of, field_step, field_layout, field_children, node_count, buffer_count}
 use Rattle.ipc_column.specs.Shapes.{assigned_columns}
 use Rattle.ipc_column.specs.Shapes.{column_at}
+
+-- the columns of one list, followed by those of another
+abbrev pub beside : Columns → Columns → Columns
+beside none after = after
+beside (column c children rest) after = column c children (beside rest after)
 
 -- the shape below a field is that of its children
 pub children_out : (f : Field) → field_children f ≡ shape_of (out-Field f).children

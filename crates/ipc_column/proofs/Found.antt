@@ -10,10 +10,10 @@ use Rattle.ipc_column.specs.Columns.{Column, Columns}
 use Rattle.ipc_column.specs.checks.Checks.{passes, top_passes, PassTests}
 use Rattle.ipc_column.specs.Lent.{HoldSlots, AreOfColumn, column_of_buffers, without_null_count, values_in}
 use Rattle.ipc_column.specs.Values.{row, rows_of, value_of, items}
-use Rattle.ipc_column.specs.Views.{part_columns, column_of, children_of, own_column}
+use Rattle.ipc_column.specs.Views.{part_columns, column_of, children_of}
 use Rattle.ipc_column.specs.Spans.{span_bytes}
 use Rattle.ipc_column.proofs.Cells.{row_cell, rows_at, rows_length}
-use Rattle.ipc_column.proofs.Parts.{children_out, column_is, every_at, every_top_at}
+use Rattle.ipc_column.proofs.Parts.{own_column, children_out, column_is, every_at, every_top_at}
 use Rattle.ipc_column.proofs.lending.Slots.{long, slot_value, row_values, items_length, items_at}
 
 from_zero : (i : ℕ) → 0 + i ≡ i

@@ -2,7 +2,7 @@
 use Rattle.std.proofs.Common.{◌≡◌, refl, ap, ℕ, zero, suc, ◌+◌, ◌<◌, Bool, true, false, List, [], ◌∷◌, length, drop, get_or, add-one}
 use Rattle.std.proofs.Common.{drop-cons, arith, Result, Ok}
 use Rattle.std.proofs.Common.{Err}
-use Rattle.std.specs.Prelude.{◌&&◌, ◌||◌}
+use Rattle.std.specs.Prelude.{◌&&◌}
 use Rattle.std.proofs.lemmas.Bool.{and_parts, and_from, and_right}
 use Rattle.ipc_column.specs.declared.ranges.ColumnRanges.{ColumnRanges}
 use Rattle.ipc_column.specs.declared.ranges.ColumnRanges.TheViews.{out-ColumnRanges}
@@ -10,7 +10,23 @@ use Rattle.ipc_column.specs.declared.ranges.ColumnRanges.TheFolds.{fold_out-Colu
 use Rattle.ipc_column.specs.declared.cause.Cause.{Cause}
 use Rattle.ipc_column.specs.Columns.{Column, Columns, column, every, every_top}
 use Rattle.ipc_column.specs.checks.Checks.{Judges}
-use Rattle.ipc_column.specs.Views.{part_columns, part_step, column_of, children_of, own_column}
+use Rattle.ipc_column.specs.Views.{part_columns, part_step, column_of, children_of}
+use Rattle.ipc_column.specs.Spans.{span_bytes}
+
+-- the column of a part, member by member
+abbrev pub own_column : List ℕ → ColumnRanges → Column
+own_column body p = record {
+  layout = (out-ColumnRanges p).layout;
+  slots = (out-ColumnRanges p).slots;
+  nulls = (out-ColumnRanges p).nulls;
+  validity =
+      span_bytes body (out-ColumnRanges p).validity;
+  offsets =
+      span_bytes body (out-ColumnRanges p).offsets;
+  values =
+      span_bytes body (out-ColumnRanges p).values;
+  dictionary = (out-ColumnRanges p).dictionary;
+}
 
 -- the columns below a part are those of its children
 pub children_out : (body : List ℕ) (p : ColumnRanges) → children_of body p ≡ part_columns body (out-ColumnRanges p).children.items

@@ -1,13 +1,12 @@
 -- Each test says what the standard asks.
 use Rattle.std.proofs.Common.{◌≡◌, refl, ap, ℕ, zero, suc, ◌+◌, ◌*◌, ◌/◌, ◌<◌, ◌≤◌, Bool, true, false, cond, not, List, length, arith}
-use Rattle.std.proofs.Common.{◌-◌, le-leb, subst, Some, None}
-use Rattle.std.specs.Prelude.{◌&&◌, ◌||◌, ◌==◌, nat_le, nat_lt, is_some, ℤ, ◌+ℤ◌, pos, negsuc, int_le, ◌≤ℤ◌, ◌<ℤ◌, unsigned_abs, T, ⊤}
+use Rattle.std.proofs.Common.{le-leb}
+use Rattle.std.specs.Prelude.{◌&&◌, ◌||◌, ◌==◌, nat_le, ℤ, ◌+ℤ◌, pos, negsuc, int_le, ◌≤ℤ◌, ◌<ℤ◌, unsigned_abs, T, ⊤}
 use Rattle.std.specs.Bool.{Decides}
 use Rattle.std.specs.List.{All}
-use Rattle.std.proofs.lemmas.Bool.{and_parts, and_from, false≢true, ne_eqb, leb-true}
+use Rattle.std.proofs.lemmas.Bool.{and_parts, and_from, ne_eqb, leb-true}
 use Rattle.std.proofs.lemmas.Bool.Decides.{nat_tests, Decides-eqb, Decides-and, Decides-at, Decides-like, Decides-by_and}
 use Rattle.std.proofs.lemmas.Int.{ints}
-use Rattle.std.proofs.lemmas.Str.{IsUtf8-from_is_utf8, is_utf8-from_IsUtf8}
 use Rattle.ipc_model.specs.declared.schema.Field.{Field}
 use Rattle.ipc_meta.specs.declared.head.BatchHead.{BatchHead}
 use Rattle.ipc_model.specs.declared.layout.Layout.{Layout}
@@ -21,17 +20,12 @@ use Rattle.ipc_column.specs.checks.Rules.{HasNodes, HasBuffers, HasLengths, HasR
 use Rattle.ipc_column.specs.checks.Rules.{IsSlotCount}
 use Rattle.ipc_column.specs.checks.Rules.{IsFieldNode, IsWithinBody, HoldValues, HoldOffsets, IsLongEnough, CountsNulls, AreOffsets}
 use Rattle.ipc_column.specs.checks.Rules.{HasOffsets}
-use Rattle.ipc_column.specs.checks.Rules.{IsText}
-use Rattle.ipc_column.specs.checks.Rules.{HasUtf8Texts, HasLongChildren, IsIndex, HasIndex, HoldsIndices, HasIndices}
+use Rattle.ipc_column.specs.checks.Rules.{HasUtf8Texts, HasLongChildren, HoldsIndices, HasIndices}
 use Rattle.ipc_column.specs.Dictionaries.{Dictionaries}
-use Rattle.ipc_model.specs.declared.value.Value.{Value}
 use Rattle.ipc_column.specs.checks.Checks.{is_slot_count, is_node, is_within_body, all, all_below, holds_values, holds_offsets}
 use Rattle.ipc_column.specs.checks.Checks.{is_ascending_at}
-use Rattle.ipc_column.specs.checks.Checks.{are_ascending, in_order, passes, top_passes, fits, have_slots, children_have_slots, all_slots}
-use Rattle.ipc_column.specs.checks.Checks.{good}
-use Rattle.ipc_column.specs.checks.Checks.{good_slot}
-use Rattle.ipc_column.specs.checks.Checks.{good_below}
-use Rattle.ipc_column.specs.Values.{offset, offset_position, is_valid, number_in, place_below}
+use Rattle.ipc_column.specs.checks.Checks.{are_ascending, in_order, passes, top_passes, fits, have_slots, children_have_slots}
+use Rattle.ipc_column.specs.Values.{offset, offset_position}
 use Rattle.ipc_column.proofs.Below.{below_from, decides_below}
 use Rattle.ipc_column.proofs.visited.Shown.{of_good, of_indexed, of_when}
 use Rattle.ipc_column.proofs.lending.Slices.{above}

@@ -41,11 +41,6 @@ abbrev pub every_top : (Column → Bool) → Columns → Bool
 every_top test none = true
 every_top test (column c children rest) = test c && every_top test rest
 
--- the columns of one list, followed by those of another
-abbrev pub beside : Columns → Columns → Columns
-beside none after = after
-beside (column c children rest) after = column c children (beside rest after)
-
 -- the columns of a list, each with its children
 abbrev pub forest : List (Column × Columns) → Columns
 forest [] = none

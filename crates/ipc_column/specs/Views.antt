@@ -4,7 +4,6 @@ use Rattle.std.specs.Prelude.{ℕ, List, map}
 use Rattle.ipc_column.specs.declared.ranges.ColumnRanges.{ColumnRanges}
 use Rattle.ipc_column.specs.declared.ranges.ColumnRanges.TheOpen.{ColumnRanges-F}
 use Rattle.ipc_column.specs.declared.ranges.ColumnRanges.TheFolds.{fold-ColumnRanges}
-use Rattle.ipc_column.specs.declared.ranges.ColumnRanges.TheViews.{out-ColumnRanges}
 use Rattle.ipc_column.specs.Columns.{Column, Columns, none, column, forest}
 use Rattle.ipc_column.specs.Spans.{span_bytes}
 
@@ -39,21 +38,6 @@ column_of body p = (view body p).0
 -- the columns of a part's children
 abbrev pub children_of : List ℕ → ColumnRanges → Columns
 children_of body p = (view body p).1
-
--- the column of a part, member by member
-abbrev pub own_column : List ℕ → ColumnRanges → Column
-own_column body p = record {
-  layout = (out-ColumnRanges p).layout;
-  slots = (out-ColumnRanges p).slots;
-  nulls = (out-ColumnRanges p).nulls;
-  validity =
-      span_bytes body (out-ColumnRanges p).validity;
-  offsets =
-      span_bytes body (out-ColumnRanges p).offsets;
-  values =
-      span_bytes body (out-ColumnRanges p).values;
-  dictionary = (out-ColumnRanges p).dictionary;
-}
 
 -- the column of a part with its children, as the only one of a list
 abbrev pub one : List ℕ → ColumnRanges → Columns

@@ -1,9 +1,8 @@
 ghost use Rattle.std.specs.Prelude.{◌≡◌, ◌≤◌, ◌<◌, ◌+◌, ◌^◌, ℕ, List, length, IfOk};
 ghost use Rattle.ipc_model.specs.Layouts.{own_buffers};
 ghost use Rattle.ipc_column.specs.Shapes.{assigned_columns, shape_of, field_layout, field_children};
-ghost use Rattle.ipc_column.specs.Shapes.{node_count};
-ghost use Rattle.ipc_column.specs.Shapes.{buffer_count, column_at, buffer_at, validity_at};
-ghost use Rattle.ipc_column.specs.Shapes.{dictionary_at, offsets_at, values_at};
+ghost use Rattle.ipc_column.specs.Shapes.{node_count, buffer_count, column_at, buffer_at};
+ghost use Rattle.ipc_column.specs.Shapes.{validity_at, dictionary_at, offsets_at, values_at};
 ghost use Rattle.ipc_column.specs.DictionaryBatches.{AreDictionaries, dictionaries_in};
 ghost use Rattle.ipc_column.specs.Dictionaries.{values_for};
 ghost use Rattle.ipc_column.specs.Views.{part_columns, column_of, children_of};

@@ -1,6 +1,5 @@
-ghost use Rattle.std.specs.Prelude.{◌≡◌, ◌≤◌, ◌<◌, ℕ, length, map, true, List, [], IfOk, IfErr};
-ghost use Rattle.std.specs.Prelude.{IfSome, IsTrue, MatchResult, OnOk, Some, slice_get};
-ghost use Rattle.std.specs.Prelude.{slice_index_or};
+ghost use Rattle.std.specs.Prelude.{◌≡◌, ◌≤◌, ◌<◌, ℕ, length, map, List, [], IfOk, IfErr, IfSome};
+ghost use Rattle.std.specs.Prelude.{IsTrue, MatchResult, OnOk, Some, slice_get, slice_index_or};
 ghost use Rattle.std.specs.List.{AllByRecursion};
 ghost use Rattle.ipc_model.specs.declared.value.Value.{Value};
 ghost use Rattle.ipc_model.specs.Entries.{entries};

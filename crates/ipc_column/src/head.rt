@@ -1,8 +1,6 @@
-ghost use Rattle.std.specs.Prelude.{◌≡◌, ◌≤◌, true, IfErr};
+ghost use Rattle.std.specs.Prelude.{◌≡◌, ◌≤◌, IfErr};
 ghost use Rattle.ipc_column.specs.checks.Checks.{Judges, AreCountsRight, all, is_slot_count};
-ghost use Rattle.ipc_column.specs.checks.Checks.{is_node};
-ghost use Rattle.ipc_column.specs.checks.Checks.{is_within_body};
-ghost use Rattle.ipc_column.specs.checks.Checks.{head_passes};
+ghost use Rattle.ipc_column.specs.checks.Checks.{is_node, is_within_body, head_passes};
 ghost use Rattle.ipc_column.specs.Shapes.{shape_of, node_count};
 
 use crate::assign::{Cursor, count};

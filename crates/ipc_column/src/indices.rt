@@ -1,6 +1,6 @@
 //! Checks that the indices of a column are those of values in its dictionary.
-ghost use Rattle.std.specs.Prelude.{◌≡◌, ◌≤◌, ◌<◌, ◌+◌, ◌-◌, ◌*◌, ◌^◌, [], length, true};
-ghost use Rattle.std.specs.Prelude.{IsTrue, is_some};
+ghost use Rattle.std.specs.Prelude.{◌≡◌, ◌≤◌, ◌<◌, ◌+◌, ◌-◌, ◌*◌, ◌^◌, [], length, true, IsTrue};
+ghost use Rattle.std.specs.Prelude.{is_some};
 ghost use Rattle.ipc_model.specs.Layouts.{number_bytes};
 ghost use Rattle.ipc_column.specs.checks.Checks.{all_slots, has_bitmap, index_good};
 ghost use Rattle.ipc_column.specs.Values.{number_in, place_below};

@@ -1,5 +1,4 @@
-ghost use Rattle.std.specs.Prelude.{◌≡◌, ◌≤◌, ◌<◌, ◌+◌, ◌*◌, ◌^◌, ℕ, List, length, true, pos};
-ghost use Rattle.std.specs.Prelude.{int_le};
+ghost use Rattle.std.specs.Prelude.{◌≡◌, ◌≤◌, ◌<◌, ◌+◌, ◌*◌, ◌^◌, ℕ, List, length, true};
 ghost use Rattle.ipc_column.specs.checks.Checks.{are_ascending, have_slots};
 ghost use Rattle.ipc_column.specs.Values.{offset, offset_position, between};
 ghost use Rattle.ipc_column.specs.Views.{part_columns};
@@ -23,16 +22,6 @@ pub(crate) fn place_at(offsets: &[u8], i: usize) -> usize
     ensures { result ≡ offset_position offsets.now i }
 {
     offset_at(offsets, i).unsigned_abs() as usize
-}
-
-/// Returns the position that offset `i` states, which is not negative.
-#[inline(always)]
-pub(crate) fn start_at(offsets: &[u8], i: usize) -> usize
-    requires bytes { 4 * (i + 1) ≤ length offsets.now }
-    requires positive { int_le (pos 0) (offset offsets.now i) ≡ true }
-    ensures { result ≡ offset_position offsets.now i }
-{
-    u32_at(offsets, i) as usize
 }
 
 /// Returns the first slot of the child that belongs to a slot of fixed-size lists, or 0 if there is

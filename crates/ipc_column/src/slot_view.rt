@@ -1,7 +1,7 @@
 //! The slots of a column and of its descendants, whose buffers are found in the body once.
 ghost use Rattle.std.specs.Prelude.{◌≡◌, ◌<◌, ℕ, List, length, slice_get, Some, true, IfSome};
-ghost use Rattle.std.specs.Prelude.{is_some, slice_index, take, ◌≤◌, ◌+◌, ◌*◌, ℤ, Bool, []};
-ghost use Rattle.std.specs.Prelude.{IfNone, map};
+ghost use Rattle.std.specs.Prelude.{is_some, slice_index, take, ◌≤◌, ◌+◌, ◌*◌, ℤ, Bool, [], IfNone};
+ghost use Rattle.std.specs.Prelude.{map};
 ghost use Rattle.std.specs.List.{AllByRecursion};
 ghost use Rattle.ipc_scalar.specs.Bytes.{clear};
 ghost use Rattle.ipc_model.specs.declared.schema.IntBits.{IntBits};
@@ -11,8 +11,7 @@ ghost use Rattle.ipc_model.specs.declared.value.Value.TheVariants.{Null};
 ghost use Rattle.ipc_column.specs.Cells.{cell_value, is_leaf};
 ghost use Rattle.ipc_column.specs.Columns.{Columns};
 ghost use Rattle.ipc_column.specs.checks.Checks.{PassTests, children_have_slots, holds_offsets};
-ghost use Rattle.ipc_column.specs.checks.Checks.{holds_values, in_order};
-ghost use Rattle.ipc_column.specs.checks.Checks.{are_ascending};
+ghost use Rattle.ipc_column.specs.checks.Checks.{holds_values, in_order, are_ascending};
 ghost use Rattle.ipc_column.specs.Lending.{AreBuffers, AreNumbers, HoldsEntry, are_numbers};
 ghost use Rattle.ipc_column.specs.Lent.{AreFound, AreOfColumn, column_of_buffers};
 ghost use Rattle.ipc_column.specs.Slots.{HasChildSlots, is_null, nested, nested_in, value_in_slot};

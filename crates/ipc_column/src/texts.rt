@@ -1,12 +1,10 @@
-ghost use Rattle.std.specs.Prelude.{◌≡◌, ◌≤◌, ◌<◌, ◌+◌, ◌-◌, ◌*◌, ◌^◌, [], length, true};
-ghost use Rattle.std.specs.Prelude.{IsTrue, IsUtf8};
+ghost use Rattle.std.specs.Prelude.{◌≡◌, ◌≤◌, ◌<◌, ◌+◌, ◌-◌, ◌*◌, ◌^◌, [], length, true, IsTrue};
 ghost use Rattle.std.specs.Str.{is_utf8};
 ghost use Rattle.ipc_column.specs.checks.Checks.{AreCharBoundaries, all_slots, has_bitmap};
-ghost use Rattle.ipc_column.specs.checks.Checks.{are_ascending};
-ghost use Rattle.ipc_column.specs.checks.Checks.{text_good};
+ghost use Rattle.ipc_column.specs.checks.Checks.{are_ascending, text_good};
 ghost use Rattle.ipc_column.specs.Values.{offset_position};
 
-use crate::offsets::{bytes_between, start_at};
+use crate::offsets::{bytes_between, place_at};
 use crate::visit::visit;
 use simdutf8::basic::from_utf8;
 
@@ -32,9 +30,9 @@ fn are_char_boundaries(text: &str, offsets: &[u8], slots: usize) -> bool
     requires order { are_ascending offsets.now slots (offset_position offsets.now slots) ≡ true }
     ensures { IsTrue result → AreCharBoundaries offsets.now text.now 0 slots }
 {
-    let first = start_at(offsets, 0);
+    let first = place_at(offsets, 0);
     for slot in 0..slots {
-        if !text.is_char_boundary(start_at(offsets, slot) - first) {
+        if !text.is_char_boundary(place_at(offsets, slot) - first) {
             return false;
         }
     }
@@ -48,7 +46,7 @@ pub(crate) fn are_texts(offsets: &[u8], values: &[u8], slots: usize) -> bool
     requires order { are_ascending offsets.now slots (length values.now) ≡ true }
     ensures { IsTrue result → all_slots (text_good [] offsets.now values.now) 0 slots ≡ true }
 {
-    match from_utf8(&values[start_at(offsets, 0)..start_at(offsets, slots)]) {
+    match from_utf8(&values[place_at(offsets, 0)..place_at(offsets, slots)]) {
         Ok(text) => are_char_boundaries(text, offsets, slots),
         Err(_) => false,
     }

@@ -2,8 +2,8 @@ ghost use Rattle.std.specs.Prelude.{◌≡◌, ◌≤◌, ◌<◌, ◌+◌, ◌*
 ghost use Rattle.std.specs.Prelude.{true, IfOk, IfErr};
 ghost use Rattle.ipc_column.specs.checks.Checks.{Judges, has_bitmap, holds_values, holds_offsets};
 ghost use Rattle.ipc_column.specs.checks.Checks.{in_order, is_shown, nulls_in, passes, top_passes};
-ghost use Rattle.ipc_column.specs.checks.Checks.{all_pass};
-ghost use Rattle.ipc_column.specs.checks.Checks.{have_slots, children_have_slots, are_ascending};
+ghost use Rattle.ipc_column.specs.checks.Checks.{all_pass, have_slots, children_have_slots};
+ghost use Rattle.ipc_column.specs.checks.Checks.{are_ascending};
 ghost use Rattle.ipc_column.specs.Columns.{every, every_top};
 ghost use Rattle.ipc_column.specs.checks.Rules.{visits_in};
 ghost use Rattle.ipc_column.specs.Values.{offset_position};

@@ -6,7 +6,7 @@ use Rattle.std.proofs.lemmas.List.Quantifiers.{position-Some}
 use Rattle.ipc_model.specs.declared.schema.Dictionary.{Dictionary}
 use Rattle.ipc_model.specs.declared.schema.Field.{Field, roll-Field, ind-Field, fold-roll-Field, map-Field}
 use Rattle.ipc_model.specs.declared.schema.Field.TheOpen.{Field-F}
-use Rattle.ipc_dict_read.specs.ConcatLists.{concat_lists}
+use Rattle.std.specs.List.{flat_map}
 use Rattle.ipc_dict_read.specs.ValuesColumns.{Listed, own_columns, columns_step, field_dictionary_columns, dictionary_columns, columns_for}
 use Rattle.ipc_dict_read.specs.ValuesColumns.{IsOneColumn}
 use Rattle.ipc_dict_read.proofs.ValuesColumns as law
@@ -35,11 +35,11 @@ alone f (Some d) = (refl, tt)
 abbrev Shown : Type 0
 Shown = (f : Field) × Beside (field_dictionary_columns f) (of_field f)
 
-below : (cs : List Shown) → Beside (concat_lists (map field_dictionary_columns (map (λ c. c.0) cs)))
-    (concat_lists (map of_field (map (λ c. c.0) cs)))
+below : (cs : List Shown) → Beside (flat_map (λ c. c) (map field_dictionary_columns (map (λ c. c.0) cs)))
+    (flat_map (λ c. c) (map of_field (map (λ c. c.0) cs)))
 below [] = tt
-below (c ∷ cs) = both (field_dictionary_columns c.0) (concat_lists (map field_dictionary_columns (map (λ x. x.0) cs))) (of_field c.0)
-    (concat_lists (map of_field (map (λ x. x.0) cs))) c.1 (below cs)
+below (c ∷ cs) = both (field_dictionary_columns c.0) (flat_map (λ c. c) (map field_dictionary_columns (map (λ x. x.0) cs))) (of_field c.0)
+    (flat_map (λ c. c) (map of_field (map (λ x. x.0) cs))) c.1 (below cs)
 
 layer : (y : Field-F Shown) → Beside (field_dictionary_columns (roll-Field (map-Field Shown Field (λ c. c.0) y)))
     (of_field (roll-Field (map-Field Shown Field (λ c. c.0) y)))
@@ -50,7 +50,8 @@ layer y =
     let mine = alone w w.dictionary in
     subst (λ (l : Listed). Beside l (of_field (roll-Field z))) (sym (fold-roll-Field Listed columns_step z))
     (subst (λ (l : List Dictionary). Beside (columns_step w) l) (sym (fold-roll-Field (List Dictionary) field_step z))
-    (both (own_columns w w.dictionary) (concat_lists w.children) (own v.dictionary) (concat_lists v.children) mine (below y.children)))
+    (both (own_columns w w.dictionary) (flat_map (λ c. c) w.children) (own v.dictionary) (flat_map (λ c. c) v.children) mine
+    (below y.children)))
 
 of_one : (f : Field) → Beside (field_dictionary_columns f) (of_field f)
 of_one = ind-Field (λ f. Beside (field_dictionary_columns f) (of_field f))

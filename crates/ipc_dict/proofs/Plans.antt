@@ -6,12 +6,13 @@ use Rattle.ipc_dict.specs.declared.entry.TallyEntry.{TallyEntry}
 use Rattle.ipc_dict.specs.declared.kept.KeptEntry.{KeptEntry}
 use Rattle.ipc_dict.specs.Distinct.{first_index}
 use Rattle.ipc_dict.specs.Planning.{IsSettled, AllSettled, number_at, kept_number, number, values_after, index, after_all}
-use Rattle.ipc_dict.specs.Planning.{sent_for, SameIds, FindsAll, FindsNoted, KnowsAll}
+use Rattle.ipc_dict.specs.Planning.{sent_for, FindsAll, FindsNoted, KnowsAll}
 use Rattle.ipc_dict.specs.Noting.{values_noted_for, place_of_value}
 use Rattle.ipc_encode.specs.Numbers.{number_or}
 use Rattle.std.specs.List.{Contains}
 use Rattle.std.specs.Option.{IsSome}
 use Rattle.ipc_dict.proofs.Finds.{finds, knows, renumbered}
+use Rattle.ipc_dict.proofs.ids.Ids.{SameIds}
 
 -- one more dictionary is settled
 pub settled-push : (ss : List KeptEntry) (ns : List TallyEntry) (os : List (Option (List ℕ))) (s : KeptEntry) (n : TallyEntry)

@@ -17,13 +17,13 @@ use Rattle.ipc_dict.specs.declared.kept.KeptEntry.{KeptEntry}
 use Rattle.ipc_dict.specs.Distinct.{same, is_among, first_index}
 use Rattle.ipc_dict.specs.Counted.{HoldsRows}
 use Rattle.ipc_dict.specs.Noting.{AllFit, values_noted_for}
-use Rattle.ipc_dict.specs.Planning.{AreFirstIndices, IsSettled, AllSettled, SameIds, values_after, after_all, own_send, sends_of, sent_for}
+use Rattle.ipc_dict.specs.Planning.{AreFirstIndices, IsSettled, AllSettled, values_after, after_all, own_send, sends_of, sent_for}
 use Rattle.ipc_dict.specs.Pairs.{rows_pairs}
 use Rattle.ipc_dict.specs.SchemaIds.{index_capacity, ids_of, kept_ids, of_fields, tally_ids, nothing_sent, empty_entries}
 use Rattle.ipc_dict.specs.Sending.{AreAddressed, AreCounted, batch_values, dictionaries_to_send, needed_of, tally_of_rows, sent_next}
 use Rattle.ipc_dict.specs.Sending.{sent_after}
 use Rattle.ipc_dict.proofs.pairs.CoveredIndices.{has_entry, noted_counts}
-use Rattle.ipc_dict.proofs.ids.Ids.{same_ids}
+use Rattle.ipc_dict.proofs.ids.Ids.{same_ids, SameIds}
 use Rattle.ipc_dict.proofs.Rows.{holds_rows, ids_note_all}
 use Rattle.ipc_dict.proofs.ids.UniqueIds.{IsOther, AreUnique, unique_ids, flipped}
 

@@ -90,12 +90,6 @@ abbrev pub sent_for : List KeptEntry → ℤ → Option (List Value)
 sent_for [] id = None
 sent_for (s ∷ ss) id = if int_eq s.id id then s.values else sent_for ss id
 
--- the ids are equal, index by index
-abbrev pub SameIds : List KeptEntry → List TallyEntry → Type 0
-SameIds [] [] = Unit {0}
-SameIds (s ∷ ss) (n ∷ ns) = (s.id ≡ n.id) × SameIds ss ns
-SameIds _ _ = ⊥
-
 -- each index that a plan gives refers to its value in what is sent once the batch was
 abbrev pub FindsAll : List KeptEntry → List TallyEntry → List (Option (List ℕ)) → Type 0
 FindsAll ss ns os = (id : ℤ) (v : Value) (i : ℕ) → index ns os id v ≡ Some i

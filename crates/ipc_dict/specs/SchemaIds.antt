@@ -7,7 +7,7 @@ use Rattle.ipc_model.specs.declared.schema.IntBits.TheVariants as b
 use Rattle.ipc_model.specs.declared.schema.Dictionary.{Dictionary}
 use Rattle.ipc_model.specs.declared.schema.Field.{Field, fold-Field}
 use Rattle.ipc_model.specs.declared.schema.Field.TheOpen.{Field-F}
-use Rattle.ipc_dict_read.specs.ConcatLists.{concat_lists}
+use Rattle.std.specs.List.{flat_map}
 use Rattle.ipc_dict.specs.declared.entry.TallyEntry.{TallyEntry}
 use Rattle.ipc_dict.specs.declared.kept.KeptEntry.{KeptEntry}
 
@@ -18,7 +18,7 @@ own None = []
 
 -- a field's own dictionary, then those of its children
 abbrev pub field_step : Field-F (List Dictionary) → List Dictionary
-field_step f = own f.dictionary ++ concat_lists f.children
+field_step f = own f.dictionary ++ flat_map (λ c. c) f.children
 
 -- the dictionaries of a field and of all below it, in pre-order
 abbrev pub of_field : Field → List Dictionary
@@ -26,7 +26,7 @@ of_field = fold-Field (List Dictionary) field_step
 
 -- the dictionaries of several fields and of all below them, in pre-order
 abbrev pub of_fields : List Field → List Dictionary
-of_fields fields = concat_lists (map of_field fields)
+of_fields fields = flat_map (λ c. c) (map of_field fields)
 
 -- how many values indices of this width and sign can address, from 0 up to the greatest number of
 -- the type (Schema.fbs, table DictionaryEncoding, `indexType`)

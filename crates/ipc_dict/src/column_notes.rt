@@ -1,7 +1,7 @@
 //! Counts the dictionary values of a batch that was read, column by column; each value of its
 //! dictionaries is looked up once.
-ghost use Rattle.std.specs.Prelude.{◌≡◌, ◌<◌, ◌+◌, ◌⊎◌, List, [], true, length, Some, slice_get};
-ghost use Rattle.std.specs.Prelude.{slice_index_or, slice_set, IfErr, IfOk, IsTrue, OnOk};
+ghost use Rattle.std.specs.Prelude.{◌≡◌, ◌<◌, ◌⊎◌, List, [], length, Some, slice_get};
+ghost use Rattle.std.specs.Prelude.{slice_index_or, IfErr, IfOk, IsTrue, OnOk};
 ghost use Rattle.ipc_model.specs.declared.value.Value.{Value};
 ghost use Rattle.ipc_column.specs.Lent.{AreOfColumn};
 ghost use Rattle.ipc_column.specs.Nested.{slot_values};

@@ -1,6 +1,5 @@
 //! The sizes of dictionaries, as the columns in which they are sent.
-ghost use Rattle.std.specs.Prelude.{◌≡◌, ◌<◌, List, [], ◌∷◌, length, Some, IfOk, IfErr, OnOk};
-ghost use Rattle.std.specs.Prelude.{OnErr, ◌⊎◌};
+ghost use Rattle.std.specs.Prelude.{◌≡◌, List, [], length, Some, IfOk, IfErr, OnOk, OnErr, ◌⊎◌};
 ghost use Rattle.ipc_model.specs.declared.schema.Field.{Field};
 ghost use Rattle.ipc_encode.specs.ColumnSizes.{CountsRows};
 ghost use Rattle.ipc_encode.specs.Faults.{write_fault};

@@ -1,7 +1,7 @@
 //! The distinct values of one dictionary.
 ghost use Rattle.std.specs.Prelude.{◌≡◌, [], not, length, take, drop, IfOk, OnOk, OnErr, IsTrue};
 ghost use Rattle.std.specs.Prelude.{Some};
-ghost use Rattle.ipc_dict.specs.Distinct.{same, is_among, with_distinct, first_index};
+ghost use Rattle.ipc_dict.specs.Distinct.{is_among, with_distinct, first_index};
 
 use crate::seed::Seed;
 use indexmap::IndexSet;

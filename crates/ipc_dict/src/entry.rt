@@ -1,12 +1,11 @@
 //! The distinct values of each dictionary.
-ghost use Rattle.std.specs.Prelude.{◌≡◌, ◌<◌, ◌≤◌, length, IfOk, IfErr, OnOk, OnErr, ◌⊎◌, ℕ, true};
-ghost use Rattle.std.specs.Prelude.{false, slice_index_or, IfSome, IfNone};
+ghost use Rattle.std.specs.Prelude.{◌≡◌, ◌<◌, ◌≤◌, length, IfErr, OnOk, ◌⊎◌, ℕ, true, false};
+ghost use Rattle.std.specs.Prelude.{slice_index_or, IfSome, IfNone};
 ghost use Rattle.std.specs.Ordering.{int_eq};
 ghost use Rattle.ipc_dict.specs.declared.entry.TallyEntry.{TallyEntry};
 ghost use Rattle.ipc_dict.specs.Distinct.{first_index};
 ghost use Rattle.ipc_dict.specs.Noting.{note_entry, note_one, place_of_value, AllFit};
-ghost use Rattle.ipc_dict.specs.Noting.{IsIndexOverflow};
-ghost use Rattle.ipc_dict.specs.Noting.{GrowsEntry, AllGrow};
+ghost use Rattle.ipc_dict.specs.Noting.{IsIndexOverflow, GrowsEntry, AllGrow};
 
 use crate::distinct::DistinctValues;
 use crate::recent_values::{RecentValues, slot_of_hash};

@@ -1,5 +1,5 @@
 //! What a writer has sent of each dictionary.
-ghost use Rattle.std.specs.Prelude.{◌≡◌, IfOk, IfErr, map};
+ghost use Rattle.std.specs.Prelude.{◌≡◌, IfOk, IfErr};
 ghost use Rattle.ipc_dict.specs.SchemaIds.{ids_of, kept_ids, tally_ids, nothing_sent};
 ghost use Rattle.ipc_dict.specs.Sending.{AreCounted};
 

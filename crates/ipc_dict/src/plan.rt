@@ -1,8 +1,8 @@
 //! Plans which dictionaries a batch sends, and the indices of its values.
 ghost use Rattle.std.specs.Prelude.{◌≡◌, ◌≢◌, ◌⊎◌, List, length, IfOk, IfErr};
 ghost use Rattle.ipc_model.specs.declared.schema.Field.{Field};
-ghost use Rattle.ipc_dict.specs.Planning.{after_all, sends_of, AllSettled, FindsAll};
-ghost use Rattle.ipc_dict.specs.Planning.{FindsNoted, KnowsAll};
+ghost use Rattle.ipc_dict.specs.Planning.{after_all, sends_of, AllSettled, FindsAll, FindsNoted};
+ghost use Rattle.ipc_dict.specs.Planning.{KnowsAll};
 ghost use Rattle.ipc_dict.specs.Counted.{HoldsRows};
 ghost use Rattle.ipc_dict.specs.Noting.{note_all, AllFit, IsIndexOverflow};
 ghost use Rattle.ipc_dict.specs.Pairs.{rows_pairs};

@@ -1,10 +1,9 @@
 //! Plans each dictionary; the lists of dictionaries are all in one order.
 ghost use Rattle.std.specs.Prelude.{◌≡◌, ◌∷◌, ◌++◌, [], map, length, IfOk, OnOk, IfNone, IfSome};
 ghost use Rattle.ipc_dict.specs.Planning.{AreFirstIndices, LacksValue, IsSettled, AllSettled};
-ghost use Rattle.ipc_dict.specs.Planning.{number_at};
-ghost use Rattle.ipc_dict.specs.Planning.{index, number, kept_number, values_after, after_all};
-ghost use Rattle.ipc_dict.specs.Planning.{own_send};
-ghost use Rattle.ipc_dict.specs.Planning.{sends_of, FindsAll, FindsNoted, KnowsAll};
+ghost use Rattle.ipc_dict.specs.Planning.{number_at, index, number, kept_number, values_after};
+ghost use Rattle.ipc_dict.specs.Planning.{after_all, own_send, sends_of, FindsAll, FindsNoted};
+ghost use Rattle.ipc_dict.specs.Planning.{KnowsAll};
 ghost use Rattle.ipc_dict.specs.SchemaIds.{kept_ids, tally_ids};
 ghost use Rattle.ipc_dict.specs.Distinct.{first_index};
 

@@ -1,10 +1,10 @@
 //! The distinct values of a batch, counted row by row.
-ghost use Rattle.std.specs.Prelude.{◌↔◌, [], IsTrue};
-ghost use Rattle.std.specs.Prelude.{◌≡◌, true, false, length, IfOk, IfErr, OnOk, OnErr, ◌⊎◌, Err};
+ghost use Rattle.std.specs.Prelude.{◌↔◌, [], IsTrue, ◌≡◌, true, false, length, IfOk, IfErr, OnOk};
+ghost use Rattle.std.specs.Prelude.{OnErr, ◌⊎◌, Err};
 ghost use Rattle.ipc_dict.specs.Noting.{note_all, AllFit, IsIndexOverflow, HoldsDistinct};
-ghost use Rattle.ipc_dict.specs.Noting.{tally_lengths, truncated_tally};
+ghost use Rattle.ipc_dict.specs.Noting.{tally_lengths, truncated_tally, AllGrow, KeepsPlaces};
+ghost use Rattle.ipc_dict.specs.Noting.{PlacesAll};
 ghost use Rattle.ipc_dict.specs.NotesPairs.{NotesPairs};
-ghost use Rattle.ipc_dict.specs.Noting.{AllGrow, KeepsPlaces, PlacesAll};
 ghost use Rattle.ipc_dict.specs.Pairs.{row_pairs, rows_pairs};
 ghost use Rattle.ipc_dict.specs.SchemaIds.{ids_of, empty_entries, kept_ids, tally_bounds};
 ghost use Rattle.ipc_dict.specs.SchemaIds.{tally_ids};

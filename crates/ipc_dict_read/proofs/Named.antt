@@ -1,5 +1,5 @@
 -- What the entries of fields say of the columns that their dictionaries are read by, and back.
-use Rattle.std.proofs.Common.{◌≡◌, ◌≢◌, refl, sym, ap, ◌∙◌, subst, ℕ, ◌+◌, ◌≤◌, ℤ, Bool, true, false, cond, List, [], ◌∷◌, ◌++◌, map}
+use Rattle.std.proofs.Common.{◌≡◌, ◌≢◌, refl, sym, ◌∙◌, subst, ℕ, ◌+◌, ◌≤◌, ℤ, true, false, cond, List, [], ◌∷◌, ◌++◌, map}
 use Rattle.std.proofs.Common.{length, int_eq, Option, Some, None, arith, length-append}
 use Rattle.std.specs.List.{AllByRecursion}
 use Rattle.std.proofs.lemmas.Bool.Decides.{Decides-int_eq}
@@ -7,7 +7,7 @@ use Rattle.ipc_model.specs.Entries.{Entry, Listing, all_at, entries, entry_of, p
 use Rattle.ipc_model.specs.declared.schema.Dictionary.{Dictionary}
 use Rattle.ipc_model.specs.declared.schema.Field.{Field, roll-Field, ind-Field, fold-roll-Field, map-Field}
 use Rattle.ipc_model.specs.declared.schema.Field.TheOpen.{Field-F}
-use Rattle.ipc_dict_read.specs.ConcatLists.{concat_lists}
+use Rattle.std.specs.List.{flat_map}
 use Rattle.ipc_dict_read.specs.ValuesColumns.{Listed, own_columns, columns_step, field_dictionary_columns, dictionary_columns, columns_for}
 use Rattle.ipc_dict_read.specs.ValuesColumns.{values_column}
 
@@ -36,11 +36,11 @@ module _ (Q : Entry → Type 0) (P : ℤ × List Field → Type 0)
   own_given f e (Some d) is same h = (subst (λ k. P (d.id, values_column f.name k ∷ [])) same (gives e d f.name is h), tt)
 
   below_given : (depth : ℕ) (cs : List Giving) → AllByRecursion Q (all_at depth (map preorder (map (λ c. c.0) cs)))
-      → AllByRecursion P (concat_lists (map field_dictionary_columns (map (λ c. c.0) cs)))
+      → AllByRecursion P (flat_map (λ c. c) (map field_dictionary_columns (map (λ c. c.0) cs)))
   below_given depth [] h = tt
   below_given depth (c ∷ cs) h =
       let parts = all_parts Q (preorder c.0 depth) (all_at depth (map preorder (map (λ x. x.0) cs))) h in
-      all_both P (field_dictionary_columns c.0) (concat_lists (map field_dictionary_columns (map (λ x. x.0) cs))) (c.1 depth parts.0)
+      all_both P (field_dictionary_columns c.0) (flat_map (λ c. c) (map field_dictionary_columns (map (λ x. x.0) cs))) (c.1 depth parts.0)
       (below_given depth cs parts.1)
 
   layer_given : (y : Field-F Giving) → Gives (roll-Field (map-Field Giving Field (λ c. c.0) y))
@@ -50,7 +50,7 @@ module _ (Q : Entry → Type 0) (P : ℤ × List Field → Type 0)
       let v : Field-F Listing = map-Field Field Listing preorder z in
       let all = subst (λ (l : Listing). AllByRecursion Q (l depth)) (fold-roll-Field Listing preorder_step z) h in
       subst (AllByRecursion P) (sym (fold-roll-Field Listed columns_step z))
-      (all_both P (own_columns w w.dictionary) (concat_lists w.children) (own_given w (entry_of v depth) w.dictionary refl refl all.0)
+      (all_both P (own_columns w w.dictionary) (flat_map (λ c. c) w.children) (own_given w (entry_of v depth) w.dictionary refl refl all.0)
       (below_given (depth + 1) y.children all.1))
 
   given : (f : Field) → Gives f
@@ -79,11 +79,11 @@ module _ (Q : Entry → Type 0) (P : ℤ × List Field → Type 0)
   own_shown f e None is same h = plain e is
   own_shown f e (Some d) is same h = shows e d f.name is (subst (λ k. P (d.id, values_column f.name k ∷ [])) (sym same) h.0)
 
-  below_shown : (depth : ℕ) (cs : List Showing) → AllByRecursion P (concat_lists (map field_dictionary_columns (map (λ c. c.0) cs)))
+  below_shown : (depth : ℕ) (cs : List Showing) → AllByRecursion P (flat_map (λ c. c) (map field_dictionary_columns (map (λ c. c.0) cs)))
       → AllByRecursion Q (all_at depth (map preorder (map (λ c. c.0) cs)))
   below_shown depth [] h = tt
   below_shown depth (c ∷ cs) h =
-      let parts = all_parts P (field_dictionary_columns c.0) (concat_lists (map field_dictionary_columns (map (λ x. x.0) cs))) h in
+      let parts = all_parts P (field_dictionary_columns c.0) (flat_map (λ c. c) (map field_dictionary_columns (map (λ x. x.0) cs))) h in
       all_both Q (preorder c.0 depth) (all_at depth (map preorder (map (λ x. x.0) cs))) (c.1 parts.0 depth) (below_shown depth cs parts.1)
 
   layer_shown : (y : Field-F Showing) → Shows (roll-Field (map-Field Showing Field (λ c. c.0) y))
@@ -92,7 +92,7 @@ module _ (Q : Entry → Type 0) (P : ℤ × List Field → Type 0)
       let w : Field-F Listed = map-Field Field Listed field_dictionary_columns z in
       let v : Field-F Listing = map-Field Field Listing preorder z in
       let all = subst (AllByRecursion P) (fold-roll-Field Listed columns_step z) h in
-      let parts = all_parts P (own_columns w w.dictionary) (concat_lists w.children) all in
+      let parts = all_parts P (own_columns w w.dictionary) (flat_map (λ c. c) w.children) all in
       subst (λ (l : Listing). AllByRecursion Q (l depth)) (sym (fold-roll-Field Listing preorder_step z))
       (own_shown w (entry_of v depth) w.dictionary refl refl parts.0, below_shown (depth + 1) y.children parts.1)
 

@@ -14,7 +14,7 @@ use Rattle.std.proofs.lemmas.List.Sums.{sum_by-cons}
 use Rattle.std.proofs.lemmas.Map.Made.{lookup-map_values}
 use Rattle.ipc_column.specs.Contents.{Contents}
 use Rattle.ipc_column.specs.DictionaryBatches.{IsDictionary}
-use Rattle.ipc_dict_read.specs.InForce.{put, in_force, total, body_len_of, AreValues}
+use Rattle.ipc_dict_read.specs.InForce.{put, in_force, total, body_len_of}
 
 module _ {X Z : Type 0} where
   -- what is shared is put as what it holds
@@ -56,15 +56,11 @@ module _ {Z : Type 0} where
       e1 ∙ ap (λ o. unwrap_or (option_map f o) 0) (ap (option_map g) found ∙ sym (lookup-map_values g (is_at (int_cmp k)) m.entries))
       ∙ ap (body_len_of (in_force m)) same
 
-  -- the values of a shared map are those that it shares
-  pub shared_values : (es : List (ℤ × Arc Contents Z)) → AreValues (map (λ e. (e.0, e.1.value)) es)
-      → AllByRecursion (λ (e : ℤ × Arc Contents Z). IsDictionary e.1.value) es
-  shared_values [] all = tt
-  shared_values (e ∷ es) all = (all.0, shared_values es all.1)
-
--- a map of dictionaries' values is one with those of one more
-pub values-put : (m : List (ℤ × Contents)) (k : ℤ) (v : Contents) → AreValues m → IsDictionary v → AreValues (put m k v)
-values-put [] k v all one = (one, tt)
-values-put (e ∷ es) k v all one =
-    elim (int_cmp k e.0) as (λ o. AreValues (match_ordering o ((k, v) ∷ e ∷ es) ((e.0, v) ∷ es) (e ∷ insert_entry int_cmp es k v)))
-    [ Less ↦ (one, all) | Equal ↦ (one, all.1) | Greater ↦ (all.0, values-put es k v all.1 one) ]
+  -- a map of dictionaries' values is one with those of one more
+  pub values-put : (es : List (ℤ × Arc Contents Z)) (k : ℤ) (r : Arc Contents Z) → AllByRecursion (λ e. IsDictionary e.1.value) es
+      → IsDictionary r.value → AllByRecursion (λ (e : ℤ × Arc Contents Z). IsDictionary e.1.value) (insert_entry int_cmp es k r)
+  values-put [] k r all one = (one, tt)
+  values-put (e ∷ es) k r all one =
+      elim (int_cmp k e.0) as (λ o. AllByRecursion (λ (x : ℤ × Arc Contents Z). IsDictionary x.1.value)
+      (match_ordering o ((k, r) ∷ e ∷ es) ((e.0, r) ∷ es) (e ∷ insert_entry int_cmp es k r)))
+      [ Less ↦ (one, all) | Equal ↦ (one, all.1) | Greater ↦ (all.0, values-put es k r all.1 one) ]

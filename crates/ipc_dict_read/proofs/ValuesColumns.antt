@@ -5,7 +5,7 @@ use Rattle.std.specs.Option.{IfSome}
 use Rattle.ipc_model.specs.declared.schema.Dictionary.{Dictionary}
 use Rattle.ipc_model.specs.declared.schema.Field.{Field, roll-Field, ind-Field, fold-roll-Field, map-Field}
 use Rattle.ipc_model.specs.declared.schema.Field.TheOpen.{Field-F}
-use Rattle.ipc_dict_read.specs.ConcatLists.{concat_lists}
+use Rattle.std.specs.List.{flat_map}
 use Rattle.ipc_dict_read.specs.ValuesColumns.{Listed, own_columns, columns_step, field_dictionary_columns, dictionary_columns, columns_for}
 use Rattle.ipc_dict_read.specs.ValuesColumns.{IsOneColumn}
 use Rattle.ipc_dict_read.specs.ValuesColumns.{AreOneColumn}
@@ -25,16 +25,16 @@ own f (Some d) = ((f.name, f.kind, refl), tt)
 abbrev Shown : Type 0
 Shown = (f : Field) × AllOne (field_dictionary_columns f)
 
-below : (cs : List Shown) → AllOne (concat_lists (map field_dictionary_columns (map (λ c. c.0) cs)))
+below : (cs : List Shown) → AllOne (flat_map (λ c. c) (map field_dictionary_columns (map (λ c. c.0) cs)))
 below [] = tt
-below (c ∷ cs) = both (field_dictionary_columns c.0) (concat_lists (map field_dictionary_columns (map (λ c. c.0) cs))) c.1 (below cs)
+below (c ∷ cs) = both (field_dictionary_columns c.0) (flat_map (λ c. c) (map field_dictionary_columns (map (λ c. c.0) cs))) c.1 (below cs)
 
 layer : (y : Field-F Shown) → AllOne (field_dictionary_columns (roll-Field (map-Field Shown Field (λ c. c.0) y)))
 layer y =
     let z : Field-F Field = map-Field Shown Field (λ c. c.0) y in
     let w : Field-F Listed = map-Field Field Listed field_dictionary_columns z in
     subst AllOne (sym (fold-roll-Field Listed columns_step z))
-    (both (own_columns w w.dictionary) (concat_lists w.children) (own w w.dictionary) (below y.children))
+    (both (own_columns w w.dictionary) (flat_map (λ c. c) w.children) (own w w.dictionary) (below y.children))
 
 of_field : (f : Field) → AllOne (field_dictionary_columns f)
 of_field = ind-Field (λ f. AllOne (field_dictionary_columns f)) (λ x y is. subst (λ z. AllOne (field_dictionary_columns (roll-Field z))) is

@@ -1,14 +1,14 @@
 -- The finite map from ids to the values in force, with the length of the body that set them; its
 -- entries are in the order of the ids (Arrow Columnar Format, "Dictionary Messages").
 use Rattle.std.specs.Prelude.{◌≡◌, ℕ, ℤ, List, map, Option}
-use Rattle.std.specs.List.{sum_by, AllByRecursion}
+use Rattle.std.specs.List.{sum_by}
 use Rattle.std.specs.Ordering.{int_cmp}
 use Rattle.std.specs.Map.{lookup, values_of}
 use Rattle.std.specs.Option.{option_map, unwrap_or}
 use Rattle.std.specs.BTreeMap.{BTreeMap, insert_entry, is_at}
 use Rattle.std.specs.declared.sync.Arc.{Arc}
 use Rattle.ipc_column.specs.Contents.{Contents}
-use Rattle.ipc_column.specs.DictionaryBatches.{IsDictionary}
+use Rattle.ipc_column.specs.DictionaryBatches.{AreDictionaries}
 
 module _ {X : Type 0} where
   -- the map after v is set for the id
@@ -31,12 +31,8 @@ total m = sum_by (λ v. v.body_len) (values_of m)
 abbrev pub body_len_of : List (ℤ × Contents) → ℤ → ℕ
 body_len_of m id = unwrap_or (option_map (λ v. v.body_len) (at m id)) 0
 
--- each of these batches is one column that stores its values itself
-abbrev pub AreValues : List (ℤ × Contents) → Type 0
-AreValues m = AllByRecursion (λ e. IsDictionary e.1) m
-
 -- what is stored about a map: `held` is how many bytes its bodies have, and each entry is a
 -- dictionary's values
-pub record IsKept (m : List (ℤ × Contents)) (held : ℕ) : Type 0 where
-  pub bytes : held ≡ total m
-  pub values : AreValues m
+pub record IsKept {Z : Type 0} (m : BTreeMap ℤ (Arc Contents Z)) (held : ℕ) : Type 0 where
+  pub bytes : held ≡ total (in_force m)
+  pub values : AreDictionaries m

@@ -1,4 +1,3 @@
-pub mod ConcatLists
 pub mod InForce
 pub mod ValuesColumns
 pub mod DictionariesState

@@ -8,7 +8,7 @@ use Rattle.ipc_model.specs.declared.schema.DataType.{DataType}
 use Rattle.ipc_model.specs.declared.schema.Dictionary.{Dictionary}
 use Rattle.ipc_model.specs.declared.schema.Field.{Field, fold-Field, roll-Field}
 use Rattle.ipc_model.specs.declared.schema.Field.TheOpen.{Field-F}
-use Rattle.ipc_dict_read.specs.ConcatLists.{concat_lists}
+use Rattle.std.specs.List.{flat_map}
 
 -- ids, each with the columns of its dictionary
 abbrev pub Listed : Type 0
@@ -34,7 +34,7 @@ own_columns f None = []
 
 -- the columns of a field's own dictionary, then those of its children
 abbrev pub columns_step : Field-F Listed → Listed
-columns_step f = own_columns f f.dictionary ++ concat_lists f.children
+columns_step f = own_columns f f.dictionary ++ flat_map (λ c. c) f.children
 
 -- the columns of the dictionaries of a field and all below it, in pre-order
 abbrev pub field_dictionary_columns : Field → Listed
@@ -42,7 +42,7 @@ field_dictionary_columns = fold-Field Listed columns_step
 
 -- the columns of the dictionaries of several fields and all below them, in pre-order
 abbrev pub dictionary_columns : List Field → Listed
-dictionary_columns fields = concat_lists (map field_dictionary_columns fields)
+dictionary_columns fields = flat_map (λ c. c) (map field_dictionary_columns fields)
 
 -- the column of the dictionary with the id: that of the first field that names it
 abbrev pub columns_for : Listed → ℤ → Option (List Field)

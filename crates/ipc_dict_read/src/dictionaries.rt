@@ -38,7 +38,7 @@ impl Model for Dictionaries {
 
     ghost view = { λ d. record { columns = d.columns.items; current = in_force d.current } };
 
-    ghost invariant = { λ d. IsKept (in_force d.current) d.held };
+    ghost invariant = { λ d. IsKept d.current d.held };
 }
 
 impl Dictionaries {

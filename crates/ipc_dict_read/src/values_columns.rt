@@ -2,8 +2,7 @@
 ghost use Rattle.std.specs.Prelude.{◌≡◌, ◌++◌, ◌∷◌, [], IfOk, OnOk};
 ghost use Rattle.ipc_model.specs.declared.schema.Field.{out-Field};
 ghost use Rattle.ipc_dict_read.specs.ValuesColumns.{values_column, field_dictionary_columns};
-ghost use Rattle.ipc_dict_read.specs.ValuesColumns.{dictionary_columns};
-ghost use Rattle.ipc_dict_read.specs.ValuesColumns.{AreOneColumn, own_columns};
+ghost use Rattle.ipc_dict_read.specs.ValuesColumns.{dictionary_columns, AreOneColumn, own_columns};
 
 use ipc_model::{Field, Items};
 use std::alloc::{AllocError, Global};

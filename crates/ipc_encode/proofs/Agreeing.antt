@@ -3,6 +3,11 @@ use Rattle.ipc_column.specs.Shapes.{shape_of}
 use Rattle.ipc_encode.specs.Buffers.{row_columns}
 use Rattle.ipc_encode.specs.Built.{HoldsAgreeing}
 use Rattle.ipc_encode.proofs.Indexed.{columns_agree}
+use Rattle.ipc_encode.specs.Numbers.{Numbering}
+
+-- the numbering with index 0 for every value
+abbrev pub no_indices : Numbering
+no_indices id value = 0
 
 pub holds_agreeing : HoldsAgreeing
 holds_agreeing known others limits fields rows builder same h = record {

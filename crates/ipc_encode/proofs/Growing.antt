@@ -18,7 +18,7 @@ use Rattle.ipc_encode.specs.Buffers.{padded_buffer, padded_bytes, ranges_from, c
 use Rattle.ipc_encode.specs.Buffers.{rows_body, nodes_of}
 use Rattle.ipc_encode.specs.Built.{AreNodes, IsNode, HasTaken, IsPushRefused, ArePushesRefused, data_layout}
 use Rattle.ipc_encode.specs.Cells.{nulls}
-use Rattle.ipc_encode.specs.Columns.{bits_length, padded_length, validity_length, offsets_length, values_length, column_length, data_in}
+use Rattle.ipc_encode.specs.Columns.{bits_length, padded_length, validity_length, offsets_length, values_length, data_in}
 use Rattle.ipc_encode.specs.Columns.{ExceedsOffsets}
 use Rattle.ipc_encode.specs.Limits.{HasLongData, HasLongItems, HasLongNode, HasExcessData, AreRowsRefused, SomeColumn, SomeExcessData}
 use Rattle.ipc_encode.specs.Numbers.{Numbering}
@@ -32,7 +32,7 @@ use Rattle.ipc_encode.specs.declared.tree.Node.{Node, out-Node}
 use Rattle.ipc_encode.specs.declared.tree.Node.TheOpen.{Node-F}
 use Rattle.ipc_encode.specs.declared.tree.Node.TheViews.{out-roll-Node, roll-Node}
 use Rattle.ipc_encode.specs.declared.parts.Draft.{Draft}
-use Rattle.ipc_encode.proofs.Sizes.{column_short, column_size, long_is, long_from}
+use Rattle.ipc_encode.proofs.Sizes.{column_short, column_size, long_is, long_from, column_length}
 use Rattle.ipc_encode.proofs.Steps.{below_none, nulls_push, data_push, below_append, cells_append}
 
 -- ---- buffers that are added one after another

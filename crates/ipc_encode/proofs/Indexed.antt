@@ -23,7 +23,7 @@ use Rattle.ipc_encode.specs.Cells.{is_null, is_set, flags, nulls, slots, slot_by
 use Rattle.ipc_encode.specs.Buffers.{child_values, column_buffers, padded_bytes, buffers_of, buffers_with, written_values, rows_body}
 use Rattle.ipc_encode.specs.Buffers.{body_with, data_buffers}
 use Rattle.ipc_encode.specs.Buffers.{piece_bytes, row_columns}
-use Rattle.ipc_encode.specs.Columns.{validity_bytes, validity_in, data_in, column_length, values_length}
+use Rattle.ipc_encode.specs.Columns.{validity_bytes, validity_in, data_in, values_length}
 use Rattle.ipc_encode.specs.declared.column.ColumnData.{ColumnData}
 use Rattle.ipc_encode.specs.declared.column.ColumnData.TheVariants as kind
 use Rattle.ipc_encode.specs.Numbers.{Numbering, number_or, new_indices, index_unless_null, index_of, indices_of, as_number, numbers_of}
@@ -33,7 +33,7 @@ use Rattle.ipc_encode.specs.Limits.{IsWithin}
 use Rattle.ipc_encode.specs.Built.{HoldColumns, HoldsValues, IsColumn, data_layout}
 use Rattle.ipc_encode.proofs.Growing.{joined_append, IsAt, first}
 use Rattle.ipc_encode.proofs.Steps.{slots_push}
-use Rattle.ipc_encode.proofs.Sizes.{column_size}
+use Rattle.ipc_encode.proofs.Sizes.{column_size, column_length}
 
 -- ---- the number of one value
 

@@ -30,7 +30,7 @@ use Rattle.ipc_encode.specs.Bitmaps.{bitmap}
 use Rattle.ipc_encode.specs.Buffers.{piece_bytes}
 use Rattle.ipc_encode.specs.Cells.{is_set, flags, nulls, number_bits, content, fixed_bytes, SpellsOut, slot_bytes, slots, extent, ends}
 use Rattle.ipc_encode.specs.Cells.{offsets, items, all_items, is_null}
-use Rattle.ipc_encode.specs.Columns.{validity_bytes, validity_in, offsets_in}
+use Rattle.ipc_encode.specs.Columns.{validity_bytes, validity_in}
 use Rattle.ipc_encode.specs.Indices.{InColumn, FindsIndex, IsIndexWithin}
 use Rattle.ipc_encode.specs.Numbers.{Numbering, numbers_of, index_unless_null, as_number}
 use Rattle.ipc_encode.specs.Pieces.{Valid, True, Run, ValueSlot, Number, Fixed, Content}
@@ -38,6 +38,18 @@ use Rattle.ipc_encode.specs.Pieces as p
 use Rattle.ipc_encode.proofs.Bits.{length_bytes, bit_of, flags_length, clear_is}
 use Rattle.ipc_encode.proofs.Indexed.{numbers_length, number_out, number_at}
 use Rattle.ipc_encode.proofs.Ranges.{cut_behind}
+
+-- the bytes of the offsets in a column of this layout
+abbrev pub offsets_in : Layout → List Value → List ℕ
+offsets_in (l.VariableBytes utf8) values = offsets p.Bytes values
+offsets_in l.Null values = []
+offsets_in l.Bits values = []
+offsets_in (l.Numbers bits signed) values = []
+offsets_in (l.FixedBytes width) values = []
+offsets_in l.Lists values = offsets p.Items values
+offsets_in l.Structs values = []
+offsets_in (l.FixedLists size) values = []
+offsets_in (l.Indices bits signed id) values = []
 
 -- ---- what is read back of the buffers of a column, buffer by buffer
 

@@ -28,14 +28,15 @@ use Rattle.ipc_column.specs.Dictionaries.{Dictionaries, values_for}
 use Rattle.ipc_column.specs.Rows.{Rows}
 use Rattle.ipc_column.specs.checks.Rules.{IsFieldNode, IsWithinBody, IsLongEnough, CountsNulls, HasOffsets, HasLongChildren, IsText}
 use Rattle.ipc_column.specs.checks.Rules.{HasUtf8Texts}
-use Rattle.ipc_column.specs.checks.Rules.{HasIndex, HoldsIndices, IsIndex}
+use Rattle.ipc_scalar.specs.Bytes.{IsBelow}
+use Rattle.ipc_column.specs.checks.Rules.{HasIndex, HoldsIndices}
 use Rattle.ipc_column.specs.Shapes.{dictionary_at, Shape, bare, field, shape_of, node_at, buffer_at, field_columns}
 use Rattle.ipc_column.specs.Values.{is_valid, offset_position, first_of, own_value, value_of, items as slots_from, row}
 use Rattle.ipc_encode.specs.Buffers.{child_values, nodes_of, row_columns, row_nodes, row_buffers_with, ranges_from, body_with}
 use Rattle.ipc_encode.specs.Cells.{is_null, is_true, bits_in, bytes_in, fixed_in, slots, offsets, items, items_in, all_items}
 use Rattle.ipc_encode.specs.Cells.{struct_member, part_in, all_parts, fixed_items, fixed_items_in, all_fixed_items, is_set, cell, cells}
 use Rattle.ipc_encode.specs.Cells.{extent, HasUtf8}
-use Rattle.ipc_encode.specs.Columns.{validity_bytes, validity_in, offsets_in}
+use Rattle.ipc_encode.specs.Columns.{validity_bytes, validity_in}
 use Rattle.ipc_encode.specs.Indices.{InColumn, FindsIndex, InColumns, FindsRows}
 use Rattle.ipc_encode.specs.Limits.{HasLongData, HasLongNode, SomeColumn, IsWithin}
 use Rattle.ipc_encode.specs.Numbers.{Numbering}
@@ -50,7 +51,7 @@ use Rattle.ipc_encode.proofs.Ranges.{buffer_back, ranges_length, ranges_inside}
 use Rattle.ipc_encode.proofs.ReadbackParts.{column_of, written_values, Holds, AllHeld, held_at, valid_is, number_back, fixed_back}
 use Rattle.ipc_encode.proofs.ReadbackParts.{between_is, IsShort, reach, reach_items, place_is, place_next, number_is, signed_is, found_at}
 use Rattle.ipc_encode.proofs.ReadbackParts.{index_back, HasItsChild, reach_bytes, front_most, front_more, each_at, nulls_most, in_order}
-use Rattle.ipc_encode.proofs.ReadbackParts.{spelled, index_number, long_enough, counts_nulls}
+use Rattle.ipc_encode.proofs.ReadbackParts.{spelled, index_number, long_enough, counts_nulls, offsets_in}
 use Rattle.ipc_encode.proofs.Steps.{cells_length}
 
 -- ---- what is read back of the buffers of a column
@@ -483,9 +484,9 @@ index_is ds known most (l.Indices bits signed id) n vs i under g k valid more =
     let flag : is_set Valid value ≡ true = sym (valid_is vs i v.Null k) ∙ valid in
     let here = found_at (FindsIndex ds known) bits signed id vs i k g.finds flag in
     let there = slice_get_within (values_for ds id) (known id value) value here.value_is in
-    subst (λ (z : ℤ). IsIndex (values_for ds id) z)
+    subst (λ (z : ℤ). IsBelow (length (values_for ds id)) z)
     (sym (index_number (known id) bits signed vs i (out-Value value) k refl (not_null (is_null (out-Value value)) flag) here.within))
-    (record { from = omega (arith, ints); to = omega (arith, ints, there) })
+    (omega (arith, ints), omega (arith, ints, there))
 index_is ds known most l.Lists n vs i under g k valid more = λ j from to.
     let next = place_next p.Items vs i v.Null k g.short in
     let within : offset_position (offsets_in l.Lists vs) (i + 1) ≤ reach p.Items vs =

@@ -19,13 +19,13 @@ use Rattle.ipc_model.specs.declared.value.Value.{Value, out-Value}
 use Rattle.ipc_model.specs.declared.value.Value.TheOpen.{Value-F}
 use Rattle.ipc_column.specs.Shapes.{Shape, bare, field}
 use Rattle.ipc_encode.specs.Bitmaps.{bitmap}
-use Rattle.ipc_encode.specs.Buffers.{padded_buffer, padded_bytes, piece_bytes, column_buffers, child_values}
-use Rattle.ipc_encode.specs.Built.{AreCountsOf, AreColumnsWithin, HoldsValues, IsColumn, TakeAtMost, data_layout}
+use Rattle.ipc_encode.specs.Buffers.{padded_buffer, padded_bytes, piece_bytes, column_buffers, child_values, buffers_of}
+use Rattle.ipc_encode.specs.Built.{AreCountsOf, AreColumnsWithin, HoldsValues, IsColumn, data_layout}
 use Rattle.ipc_encode.specs.Cells.{flags, nulls, content, fixed_bytes, items, slot_bytes, slots, ends, offsets, extent, number_bits}
 use Rattle.ipc_encode.specs.Cells.{all_items}
-use Rattle.ipc_encode.specs.Columns.{validity_bytes, bits_length, padded_length, data_in, values_length, column_length}
+use Rattle.ipc_encode.specs.Columns.{validity_bytes, bits_length, padded_length, data_in, values_length}
 use Rattle.ipc_encode.specs.Columns.{ExceedsOffsets, offsets_length, validity_length}
-use Rattle.ipc_encode.specs.Limits.{HasExcessData, HasLongData, HasLongItems, SomeColumn, SomeExcessData}
+use Rattle.ipc_encode.specs.Limits.{HasExcessData, HasLongData, HasLongItems, SomeColumn, SomeExcessData, HasLongNode}
 use Rattle.ipc_encode.specs.Numbers.{Numbering}
 use Rattle.ipc_encode.specs.Writing.{AreStored}
 use Rattle.ipc_encode.specs.Pieces.{Valid, True, Number, Fixed, Content}
@@ -35,6 +35,21 @@ use Rattle.ipc_encode.specs.declared.column.ColumnCounts.{ColumnCounts}
 use Rattle.ipc_encode.specs.declared.column.ColumnData.{ColumnData}
 use Rattle.ipc_encode.specs.declared.column.ColumnData.TheVariants as kind
 use Rattle.ipc_encode.proofs.Bits.{length_bytes, flags_length}
+
+-- how many bytes a column's buffers take in a body: `count` slots, `null_count` of them null, and
+-- `value_bytes` bytes of values
+abbrev pub column_length : Layout → ℕ → ℕ → ℕ → ℕ
+column_length layout count null_count value_bytes =
+    padded_length (validity_length layout count null_count)
+    + padded_length (offsets_length layout count) + padded_length value_bytes
+
+-- columns of this shape with these values are within the limits of slots and offsets, and their
+-- buffers take at most `most` bytes
+pub record TakeAtMost (limits : Limits) (most : ℕ) (shape : Shape) (given : ℕ
+    → List Value) : Type 0 where
+  pub few : ¬ HasLongNode limits.slots shape given
+  pub short : ¬ SomeExcessData shape given
+  pub bytes : length (padded_bytes (buffers_of shape given)) ≤ most
 
 -- ---- how long the buffers of a column are
 

@@ -29,7 +29,7 @@ use Rattle.ipc_model.specs.declared.value.Value.TheVariants as v
 use Rattle.ipc_model.specs.declared.value.Value.TheViews.{out-Value, roll-Value, out-roll-Value, roll-out-Value}
 use Rattle.ipc_column.specs.Shapes.{Shape, bare, field, shape_of, field_children, field_layout, field_shape, field_step}
 use Rattle.ipc_encode.specs.Buffers.{child_values, padded_bytes, buffers_of, nulls_below, row_columns}
-use Rattle.ipc_encode.specs.Built.{TakeAtMost, AreColumnsWithin, HasHeadroom}
+use Rattle.ipc_encode.specs.Built.{AreColumnsWithin, HasHeadroom}
 use Rattle.ipc_encode.specs.Cells.{cell, items, items_in, fixed_items}
 use Rattle.ipc_encode.specs.Columns.{data_in, ExceedsOffsets, value_len}
 use Rattle.ipc_encode.specs.Limits.{HasLongNode, SomeExcessData}
@@ -37,7 +37,7 @@ use Rattle.ipc_encode.specs.Weights.{weight_of, field_weight, row_weight, capped
 use Rattle.ipc_encode.proofs.Growing.{parts_length, IsAt, first}
 use Rattle.ipc_encode.proofs.Held.{columns_push}
 use Rattle.ipc_encode.proofs.HeldValues.{all_left, all_right}
-use Rattle.ipc_encode.proofs.Sizes.{long_from, buffers_few, nothing_inside}
+use Rattle.ipc_encode.proofs.Sizes.{long_from, buffers_few, nothing_inside, TakeAtMost}
 use Rattle.ipc_encode.proofs.Steps.{fixed_are, parts_are, below_append, below_none, null_gives}
 
 -- ---- the weight of columns, by which lists and structs are surely within the limits

@@ -176,14 +176,6 @@ ArePushesRefused limits shape given fault.OutOfMemory = ⊤
 ArePushesRefused limits shape given fault.DictionaryFull = ⊥
 ArePushesRefused limits shape given fault.Failed = ⊥
 
--- columns of this shape with these values are within the limits of slots and offsets, and their
--- buffers take at most `most` bytes
-pub record TakeAtMost (limits : Limits) (most : ℕ) (shape : Shape) (given : ℕ
-    → List Value) : Type 0 where
-  pub few : ¬ HasLongNode limits.slots shape given
-  pub short : ¬ SomeExcessData shape given
-  pub bytes : length (padded_bytes (buffers_of shape given)) ≤ most
-
 -- a growth of the builder's memory was refused earlier
 abbrev pub HasFailed : Builder → Type 0
 HasFailed builder = builder.failed ≡ true

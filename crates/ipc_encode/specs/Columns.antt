@@ -7,8 +7,7 @@ use Rattle.ipc_model.specs.declared.value.Value.{Value}
 use Rattle.ipc_model.specs.declared.layout.Layout.{Layout}
 use Rattle.ipc_model.specs.declared.layout.Layout.TheVariants as l
 use Rattle.ipc_model.specs.Layouts.{number_bytes}
-use Rattle.ipc_encode.specs.Pieces as p
-use Rattle.ipc_encode.specs.Cells.{nulls, content, fixed_bytes, items, offsets}
+use Rattle.ipc_encode.specs.Cells.{nulls, content, fixed_bytes, items}
 use Rattle.ipc_encode.specs.Buffers.{validity, piece_bytes}
 
 -- the bytes of a validity bitmap, or none if no value is null
@@ -26,18 +25,6 @@ validity_in (l.VariableBytes utf8) values = validity_bytes values
 validity_in l.Lists values = validity_bytes values
 validity_in l.Structs values = validity_bytes values
 validity_in (l.FixedLists size) values = validity_bytes values
-
--- the bytes of the offsets in a column of this layout
-abbrev pub offsets_in : Layout → List Value → List ℕ
-offsets_in (l.VariableBytes utf8) values = offsets p.Bytes values
-offsets_in l.Null values = []
-offsets_in l.Bits values = []
-offsets_in (l.Numbers bits signed) values = []
-offsets_in (l.FixedBytes width) values = []
-offsets_in l.Lists values = offsets p.Items values
-offsets_in l.Structs values = []
-offsets_in (l.FixedLists size) values = []
-offsets_in (l.Indices bits signed id) values = []
 
 -- ---- lengths
 
@@ -77,13 +64,6 @@ abbrev pub offsets_length : Layout → ℕ → ℕ
 offsets_length (l.VariableBytes utf8) count = 4 * (count + 1)
 offsets_length l.Lists count = 4 * (count + 1)
 offsets_length _ count = 0
-
--- how many bytes a column's buffers take in a body: `count` slots, `null_count` of them null, and
--- `value_bytes` bytes of values
-abbrev pub column_length : Layout → ℕ → ℕ → ℕ → ℕ
-column_length layout count null_count value_bytes =
-    padded_length (validity_length layout count null_count)
-    + padded_length (offsets_length layout count) + padded_length value_bytes
 
 -- how many bytes a column's values take: `count` slots with this amount of data
 abbrev pub values_length : Layout → ℕ → ℕ → ℕ

@@ -47,7 +47,3 @@ numbers_of indices values = map as_number (indices_of indices values)
 abbrev pub new_index : (ℕ → Option ℕ) → Option ℕ → Option ℕ
 new_index number (Some i) = Some (number_or (number i) i)
 new_index number None = None
-
--- the numbering with index 0 for every value
-abbrev pub no_indices : Numbering
-no_indices id value = 0

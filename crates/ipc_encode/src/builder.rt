@@ -1,8 +1,7 @@
 //! Builds a record batch from rows.
 ghost use Rattle.std.specs.List.{AllByRecursion};
-ghost use Rattle.std.specs.Prelude.{◌≡◌, ◌≤◌, ◌<◌, ◌↔◌, ◌+◌, ◌++◌, List, [], ◌∷◌, true, pos};
-ghost use Rattle.std.specs.Prelude.{length, IsTrue, Ok, Err, IfOk, IfErr, OnOk};
-ghost use Rattle.std.specs.Prelude.{◌^◌};
+ghost use Rattle.std.specs.Prelude.{◌≡◌, ◌≤◌, ◌<◌, ◌↔◌, ◌++◌, List, [], ◌∷◌, pos, length, IsTrue};
+ghost use Rattle.std.specs.Prelude.{Err, IfOk, IfErr, OnOk};
 ghost use Rattle.ipc_model.specs.Entries.{entries};
 ghost use Rattle.ipc_model.specs.Fits.{RowFits};
 ghost use Rattle.ipc_model.specs.WellFormed.{IsFieldWellFormed};
@@ -13,8 +12,8 @@ ghost use Rattle.ipc_column.specs.Dictionaries.{Dictionaries};
 ghost use Rattle.ipc_column.specs.Rows.{Rows};
 ghost use Rattle.ipc_column.specs.Shapes.{Shape, shape_of};
 ghost use Rattle.ipc_encode.specs.Buffers.{AreLaidOut, row_columns};
-ghost use Rattle.ipc_encode.specs.Built.{HoldColumns, ArePushesRefused};
-ghost use Rattle.ipc_encode.specs.Built.{HasFailed, StoresRows, HoldsAgreeing};
+ghost use Rattle.ipc_encode.specs.Built.{HoldColumns, ArePushesRefused, HasFailed, StoresRows};
+ghost use Rattle.ipc_encode.specs.Built.{HoldsAgreeing};
 ghost use Rattle.ipc_encode.specs.Faults.{write_fault};
 ghost use Rattle.ipc_encode.specs.Indices.{FindsRows};
 ghost use Rattle.ipc_encode.specs.Limits.{AreRowsRefused, AreColumnsTooLong, IsWithin};

@@ -1,7 +1,7 @@
 //! The buffers of a column, borrowed from the batch where they lie as they are written.
 ghost use Rattle.std.specs.Prelude.{◌≡◌, ◌≤◌, ◌<◌, ◌+◌, ◌*◌, ℕ, false, length, IfSome, IsTrue};
-ghost use Rattle.std.specs.Prelude.{slice_index, take, List, [], ◌⊎◌, drop, replicate, IfErr};
-ghost use Rattle.std.specs.Prelude.{IfOk, OnOk};
+ghost use Rattle.std.specs.Prelude.{slice_index, take, List, [], ◌⊎◌, drop, replicate, IfErr, IfOk};
+ghost use Rattle.std.specs.Prelude.{OnOk};
 ghost use Rattle.ipc_scalar.specs.Bytes.{num};
 ghost use Rattle.ipc_model.specs.Limits.{max_data};
 ghost use Rattle.ipc_model.specs.declared.layout.Layout.TheVariants.{Bits, FixedBytes, Lists};

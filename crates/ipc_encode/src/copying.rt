@@ -1,6 +1,6 @@
 //! Takes the values of a column of a batch that was read into a column without values.
-ghost use Rattle.std.specs.Prelude.{◌≡◌, ◌≤◌, ◌<◌, ℕ, List, [], length, map, Option};
-ghost use Rattle.std.specs.Prelude.{Some, slice_get, slice_index_or, IfErr, IfOk, IfSome, OnOk};
+ghost use Rattle.std.specs.Prelude.{◌≡◌, ◌≤◌, ◌<◌, ℕ, List, [], length, map, Option, Some};
+ghost use Rattle.std.specs.Prelude.{slice_get, slice_index_or, IfErr, IfOk, IfSome, OnOk};
 ghost use Rattle.ipc_model.specs.declared.layout.Layout.{Layout};
 ghost use Rattle.ipc_model.specs.declared.layout.Layout.TheVariants.{Indices};
 ghost use Rattle.ipc_model.specs.declared.value.Value.{Value};

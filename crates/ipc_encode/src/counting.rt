@@ -1,9 +1,8 @@
 //! What a value is for the buffers of a column, and the sizes of columns with more values.
-ghost use Rattle.std.specs.Prelude.{◌≤◌, ◌≡◌, ◌<◌, ◌^◌, ◌++◌, List, [], ◌∷◌, length, IfOk};
-ghost use Rattle.std.specs.Prelude.{IfErr, OnOk, ◌+◌, ◌*◌, if◌then◌else◌};
+ghost use Rattle.std.specs.Prelude.{◌≤◌, ◌≡◌, ◌<◌, ◌^◌, ◌++◌, List, [], ◌∷◌, length, IfOk, IfErr};
+ghost use Rattle.std.specs.Prelude.{OnOk, ◌+◌, ◌*◌, if◌then◌else◌};
 ghost use Rattle.ipc_model.specs.MaxLimits.{max_body, max_slots};
 ghost use Rattle.ipc_model.specs.declared.layout.Layout.{Layout};
-ghost use Rattle.ipc_model.specs.declared.layout.Layout.TheVariants.{Lists};
 ghost use Rattle.ipc_model.specs.declared.limits.Limits.{Limits};
 ghost use Rattle.ipc_model.specs.declared.value.Value.{Value};
 ghost use Rattle.ipc_encode.specs.Buffers.{column_buffers, padded_bytes};

@@ -1,6 +1,6 @@
 //! Encodes a batch that was read, column by column, as parts whose body is a list of segments.
-ghost use Rattle.std.specs.Prelude.{◌≡◌, ◌<◌, ◌≤◌, ◌+◌, ◌^◌, ◌++◌, [], ◌∷◌, ℕ, List, length};
-ghost use Rattle.std.specs.Prelude.{◌+ℤ◌, pos, slice_get, Some, IfErr, IfOk, OnOk};
+ghost use Rattle.std.specs.Prelude.{◌≡◌, ◌<◌, ◌≤◌, ◌+◌, ◌^◌, ◌++◌, [], ◌∷◌, ℕ, List, length, ◌+ℤ◌};
+ghost use Rattle.std.specs.Prelude.{pos, slice_get, Some, IfErr, IfOk, OnOk};
 ghost use Rattle.std.specs.List.{AllByRecursion};
 ghost use Rattle.ipc_model.specs.Entries.{entries};
 ghost use Rattle.ipc_model.specs.Fits.{RowFits};

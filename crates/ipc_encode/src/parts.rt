@@ -1,12 +1,12 @@
 //! The encoded rows of a record batch, with one list of bytes as the body.
-ghost use Rattle.std.specs.Prelude.{◌≡◌, ℕ, ◌-◌, ◌%◌, ◌++◌, List, [], ◌∷◌, pos, length};
-ghost use Rattle.std.specs.Prelude.{replicate, OnOk, map};
+ghost use Rattle.std.specs.Prelude.{◌≡◌, ℕ, ◌-◌, ◌%◌, ◌++◌, List, [], ◌∷◌, pos, length, replicate};
+ghost use Rattle.std.specs.Prelude.{OnOk, map};
 ghost use Rattle.ipc_model.specs.declared.layout.Layout.{Layout};
 ghost use Rattle.ipc_model.specs.declared.limits.Limits.{Limits};
 ghost use Rattle.ipc_model.specs.declared.value.Value.{Value};
 ghost use Rattle.ipc_column.specs.Shapes.{Shape, bare, field};
-ghost use Rattle.ipc_encode.specs.Buffers.{column_buffers, nodes_of, buffers_with};
-ghost use Rattle.ipc_encode.specs.Buffers.{data_buffers, written_values};
+ghost use Rattle.ipc_encode.specs.Buffers.{column_buffers, nodes_of, buffers_with, data_buffers};
+ghost use Rattle.ipc_encode.specs.Buffers.{written_values};
 ghost use Rattle.ipc_encode.specs.Built.{HoldColumns, HoldsValues, IsColumn, IsNode, data_layout};
 ghost use Rattle.ipc_encode.specs.Cells.{nulls, slots};
 ghost use Rattle.ipc_encode.specs.Numbers.{Numbering, as_number, new_index, new_indices};

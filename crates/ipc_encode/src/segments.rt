@@ -1,6 +1,6 @@
 //! A body as a list of segments, which borrow bytes that already lie as they are written.
-ghost use Rattle.std.specs.Prelude.{◌≡◌, ◌+◌, ◌-◌, ◌%◌, ◌≤◌, ◌<◌, ◌^◌, ◌↔◌, ◌++◌, [], ◌∷◌};
-ghost use Rattle.std.specs.Prelude.{pos, length, replicate, IfErr, IsTrue, OnOk};
+ghost use Rattle.std.specs.Prelude.{◌≡◌, ◌+◌, ◌-◌, ◌%◌, ◌≤◌, ◌<◌, ◌^◌, ◌↔◌, ◌++◌, [], ◌∷◌, pos};
+ghost use Rattle.std.specs.Prelude.{length, replicate, IfErr, IsTrue, OnOk};
 ghost use Rattle.ipc_encode.specs.Buffers.{padded_bytes};
 ghost use Rattle.ipc_encode.specs.Segments.{AddsBuffers, IsBodyRefused, bytes_of_segments};
 ghost use Rattle.ipc_encode.specs.Segments.{segment_bytes};

@@ -1,8 +1,8 @@
 //! Appends the slots of a column that was read to the buffers of another, without a value for
 //! each.
 ghost use Rattle.std.specs.Prelude.{◌≡◌, ◌++◌, ℕ, List, OnOk, length, replicate, ◌≤◌, ◌+◌};
-ghost use Rattle.std.specs.Prelude.{slice_index_or, ◌⊎◌, ◌<◌, IfErr, IfOk, ◌*◌, ◌&&◌, Bool};
-ghost use Rattle.std.specs.Prelude.{false, [], take};
+ghost use Rattle.std.specs.Prelude.{slice_index_or, ◌⊎◌, ◌<◌, IfErr, IfOk, ◌*◌, ◌&&◌, Bool, false};
+ghost use Rattle.std.specs.Prelude.{[], take};
 ghost use Rattle.ipc_scalar.specs.Bytes.{bit, num};
 ghost use Rattle.ipc_model.specs.Layouts.{number_bytes};
 ghost use Rattle.ipc_model.specs.Limits.{max_data};

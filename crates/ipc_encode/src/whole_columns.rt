@@ -1,8 +1,8 @@
 //! Adds columns that were read with all their slots, where they have the layouts of a field and
 //! of its descendants.
 ghost use Rattle.std.specs.Prelude.{◌≡◌, ◌<◌, ℕ, List, Some, false, length, slice_get};
-ghost use Rattle.std.specs.Prelude.{slice_index_or, IsTrue, ◌≤◌, ◌+◌, ◌++◌, ◌^◌, ◌⊎◌, [], ◌∷◌};
-ghost use Rattle.std.specs.Prelude.{pos, replicate, IfErr, OnOk};
+ghost use Rattle.std.specs.Prelude.{slice_index_or, IsTrue, ◌≤◌, ◌+◌, ◌++◌, ◌^◌, ◌⊎◌, [], ◌∷◌, pos};
+ghost use Rattle.std.specs.Prelude.{replicate, IfErr, OnOk};
 ghost use Rattle.ipc_model.specs.Limits.{max_data};
 ghost use Rattle.ipc_model.specs.declared.layout.Layout.{Layout};
 ghost use Rattle.ipc_model.specs.declared.limits.Limits.{Limits};

@@ -1,1 +1,4 @@
+pub mod Faulty
+pub mod Flat
+pub mod Texts
 pub mod Views

@@ -2,9 +2,9 @@
 -- "Tables").
 use Rattle.std.specs.Prelude.{ℕ, ◌≡◌, ◌+◌, ◌≤◌, length, List, Option, None, Some, Result, Ok, Err}
 use Rattle.ipc_scalar.specs.Bytes.{num}
-use Rattle.ipc_scalar.specs.declared.fault.FlatFault.{FlatFault}
-use Rattle.ipc_scalar.specs.Faulty.{◌>>=◌, where_some}
-use Rattle.ipc_scalar.specs.Flat.{vtable_of, slot_of, table_position, elements_of}
+use Rattle.ipc_flat.specs.declared.fault.FlatFault.{FlatFault}
+use Rattle.ipc_flat.specs.Faulty.{◌>>=◌, where_some}
+use Rattle.ipc_flat.specs.Flat.{vtable_of, slot_of, table_position, elements_of}
 
 -- a table: the bytes, and the table's place in them
 pub record TableView : Type 0 where

@@ -1,8 +1,8 @@
 ghost use Rattle.std.specs.Prelude.{◌≡◌};
 ghost use Rattle.ipc_flat.specs.Views.{table_from};
 
+use crate::fault::FlatFault;
 use crate::table::TableRef;
-use ipc_scalar::FlatFault;
 
 /// Bytes in the FlatBuffers binary format.
 ///

@@ -2,14 +2,15 @@
 //! vectors (FlatBuffers binary format).
 #![tactic(auto)]
 
+mod fault;
 mod flat;
 mod offset;
 mod struct_vec;
 mod table;
 mod table_vec;
 
+pub use fault::FlatFault;
 pub use flat::Flat;
-pub use ipc_scalar::FlatFault;
 pub use struct_vec::StructVec;
 pub use table::TableRef;
 pub use table_vec::TableVec;

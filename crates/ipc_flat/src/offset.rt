@@ -1,15 +1,16 @@
 ghost use Rattle.std.specs.Prelude.{◌≡◌, ◌≤◌, ◌+◌, ◌*◌, length, IfOk};
 ghost use Rattle.std.specs.Str.{is_utf8};
-ghost use Rattle.ipc_scalar.specs.Flat.{points, elements_of, text_of};
-ghost use Rattle.ipc_scalar.specs.Faulty.{ok_if};
-ghost use Rattle.ipc_scalar.specs.declared.fault.FlatFault.TheVariants.{NotUtf8};
+ghost use Rattle.ipc_flat.specs.Flat.{points, elements_of, text_of};
+ghost use Rattle.ipc_flat.specs.Faulty.{ok_if};
+ghost use Rattle.ipc_flat.specs.declared.fault.FlatFault.TheVariants.{NotUtf8};
 ghost use Rattle.ipc_flat.specs.Views.{IsAnswer};
 
-use ipc_scalar::{FlatFault, get_u32};
+use crate::fault::FlatFault;
+use ipc_scalar::get_u32;
 use std::str;
 
 // Where the offset at `at` points: so far forward from `at` itself.
-#[tactic(auto, unfolding(ipc_scalar::specs::Flat::points))]
+#[tactic(auto, unfolding(crate::specs::Flat::points))]
 pub(crate) fn target(bytes: &[u8], at: usize) -> Result<usize, FlatFault>
     ensures place { result ≡ points bytes.now at }
     ensures inside { IfOk result (λ q. q ≤ length bytes.now) }
@@ -26,7 +27,7 @@ pub(crate) fn target(bytes: &[u8], at: usize) -> Result<usize, FlatFault>
 
 // The place of the first element, and the number of elements, of the vector to which the offset at
 // `at` points, where each element takes `width` bytes.
-#[tactic(auto, unfolding(ipc_scalar::specs::Flat::elements_of))]
+#[tactic(auto, unfolding(crate::specs::Flat::elements_of))]
 pub(crate) fn elements_at(
     bytes: &[u8],
     at: usize,
@@ -53,7 +54,7 @@ fn text_of_bytes(bytes: &[u8]) -> Result<&str, FlatFault>
 }
 
 // The text to which the offset at `at` points.
-#[tactic(auto, unfolding(ipc_scalar::specs::Flat::text_of))]
+#[tactic(auto, unfolding(crate::specs::Flat::text_of))]
 pub(crate) fn text_at(bytes: &[u8], at: usize) -> Result<&str, FlatFault>
     ensures { IsAnswer (λ s. s.now) result (text_of bytes.now at) }
 {

@@ -1,8 +1,8 @@
 ghost use Rattle.std.specs.Prelude.{◌≡◌, ◌+◌, ◌*◌, ◌<◌, slice_range, length};
 ghost use Rattle.ipc_flat.specs.Views.{structs_from};
 
+use crate::fault::FlatFault;
 use crate::offset::elements_at;
-use ipc_scalar::FlatFault;
 use std::marker::Model;
 
 /// A vector of structs in borrowed bytes: each of one width, one after another ("Structs", "Strings

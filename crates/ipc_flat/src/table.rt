@@ -1,14 +1,14 @@
-ghost use Rattle.std.specs.Prelude.{◌≡◌, ◌≤◌, ◌<◌, ◌+◌, ◌^◌, length, Option, Result, IfOk, IfSome};
-ghost use Rattle.std.specs.Prelude.{option_map};
+ghost use Rattle.std.specs.Prelude.{◌≡◌, ◌≤◌, ◌<◌, ◌+◌, ◌^◌, length, IfOk, IfSome, option_map};
 ghost use Rattle.ipc_scalar.specs.Bytes.{byte, int16, int32, int64};
-ghost use Rattle.ipc_scalar.specs.Flat.{back_of, slot_of, text_of};
+ghost use Rattle.ipc_flat.specs.Flat.{back_of, slot_of, text_of};
 ghost use Rattle.ipc_flat.specs.Views.{IsAnswer, table_at, table_from, scalar, field};
 ghost use Rattle.ipc_flat.specs.Views.{elements_from, structs_from};
 
+use crate::fault::FlatFault;
 use crate::offset::{target, text_at};
 use crate::struct_vec::StructVec;
 use crate::table_vec::TableVec;
-use ipc_scalar::{FlatFault, get_i32, get_i64, get_u16};
+use ipc_scalar::{get_i32, get_i64, get_u16};
 use std::marker::Model;
 
 /// A table in borrowed bytes, whose vtable was found ("Tables"). Contracts describe it as a
@@ -51,7 +51,7 @@ fn back_from(at: usize, distance: i32) -> Option<usize>
 
 impl<'a> TableRef<'a> {
     // The table at a place.
-    #[tactic(auto, unfolding(ipc_scalar::specs::Flat::vtable_of, crate::specs::Views::table_at))]
+    #[tactic(auto, unfolding(crate::specs::Flat::vtable_of, crate::specs::Views::table_at))]
     fn at(bytes: &'a [u8], at: usize) -> Result<TableRef<'a>, FlatFault>
         ensures { result ≡ table_at bytes.now at }
     {
@@ -70,7 +70,7 @@ impl<'a> TableRef<'a> {
     }
 
     // The place of a field of `width` bytes, or `None` where the field is absent.
-    #[tactic(auto, unfolding(ipc_scalar::specs::Flat::slot_of))]
+    #[tactic(auto, unfolding(crate::specs::Flat::slot_of))]
     fn place(&self, slot: u16, width: usize) -> Result<Option<usize>, FlatFault>
         requires { width ≤ 8 }
         ensures place { result ≡ slot_of self.now.bytes self.now.at slot width }
@@ -198,7 +198,7 @@ impl<'a> TableRef<'a> {
     }
 
     // The table to which the offset at a place points.
-    #[tactic(auto, unfolding(ipc_scalar::specs::Flat::table_position, crate::specs::Views::table_from, crate::specs::Views::table_at))]
+    #[tactic(auto, unfolding(crate::specs::Flat::table_position, crate::specs::Views::table_from, crate::specs::Views::table_at))]
     pub(crate) fn from(bytes: &'a [u8], at: usize) -> Result<TableRef<'a>, FlatFault>
         ensures { result ≡ table_from bytes.now at }
     {

@@ -1,9 +1,9 @@
 ghost use Rattle.std.specs.Prelude.{◌≡◌, ◌+◌, ◌*◌, ◌<◌};
 ghost use Rattle.ipc_flat.specs.Views.{elements_from, table_from};
 
+use crate::fault::FlatFault;
 use crate::offset::elements_at;
 use crate::table::TableRef;
-use ipc_scalar::FlatFault;
 use std::marker::Model;
 
 /// A vector of tables in borrowed bytes: offsets of four bytes, one after another ("Strings and

@@ -1,8 +1,8 @@
 -- Steps of a reading, one after another.
 use Rattle.std.proofs.Common.{◌≡◌, refl, Bool, true, false}
 use Rattle.std.specs.Prelude.{Option, None, Some, Result, Ok, Err, if◌then◌else◌}
-use Rattle.ipc_scalar.specs.declared.fault.FlatFault.{FlatFault}
-use Rattle.ipc_model.specs.Answers.{◌>>=◌}
+use Rattle.ipc_flat.specs.declared.fault.FlatFault.{FlatFault}
+use Rattle.ipc_flat.specs.Faulty.{◌>>=◌}
 use Rattle.ipc_model.specs.declared.fault.Fault.{Fault}
 use Rattle.ipc_meta.specs.FlatFaults.{map_fault}
 use Rattle.ipc_meta.specs.Tables.{ok_or}

@@ -2,12 +2,17 @@
 use Rattle.std.proofs.Common.{◌≡◌, refl, sym, ap, ℕ, suc, ◌+◌, ◌*◌, ◌-◌, ◌<◌, List, [], ◌∷◌, ◌++◌, append_assoc, arith}
 use Rattle.std.specs.Prelude.{Result, Ok, Err}
 use Rattle.ipc_flat.specs.Views.{TableView, table_from}
-use Rattle.ipc_model.specs.Answers.{◌>>=◌}
+use Rattle.ipc_flat.specs.Faulty.{◌>>=◌}
 use Rattle.ipc_meta.specs.Budgets.{Reading}
 use Rattle.ipc_meta.specs.declared.budget.Budget.{Budget}
 use Rattle.ipc_model.specs.declared.fault.Fault.{Fault}
 use Rattle.ipc_meta.specs.FlatFaults.{map_fault}
-use Rattle.ipc_meta.specs.Reading.{each, with_front}
+use Rattle.ipc_meta.specs.Reading.{each}
+
+-- the list that was read, with `front` before it
+abbrev pub with_front : {X : Type 0} → List X → Result (List X × Budget) Fault
+    → Result (List X × Budget) Fault
+with_front front r = r >>= λ xs. Ok (front ++ xs.0, xs.1)
 
 -- the tables from the i-th of n on, with so many fields left
 abbrev pub from_ith : {X : Type 0} → (TableView → Reading X) → List ℕ → ℕ → ℕ → ℕ → Reading (List X)

@@ -1,6 +1,6 @@
 -- Empty metadata states nothing.
 use Rattle.std.proofs.Common.{ℕ, []}
-use Rattle.ipc_scalar.specs.Flat.{points, table_position}
+use Rattle.ipc_flat.specs.Flat.{points, table_position}
 use Rattle.ipc_flat.specs.Views.{table_from}
 use Rattle.ipc_meta.specs.declared.head.Head.{Head}
 use Rattle.ipc_meta.specs.Heads.{HeadOf}

@@ -4,10 +4,10 @@ use Rattle.std.specs.Prelude.{pos, negsuc, ◌<◌, nat_lt, List, Option, None, 
 use Rattle.std.specs.Int.{w32, cast_signed}
 use Rattle.std.proofs.lemmas.Bool.Decides.{nat_tests}
 use Rattle.ipc_scalar.specs.Bytes.{int32}
-use Rattle.ipc_scalar.specs.Flat.{slot_of}
-use Rattle.ipc_scalar.specs.declared.fault.FlatFault.{FlatFault}
+use Rattle.ipc_flat.specs.Flat.{slot_of}
+use Rattle.ipc_flat.specs.declared.fault.FlatFault.{FlatFault}
 use Rattle.ipc_flat.specs.Views.{TableView, or_default, scalar}
-use Rattle.ipc_scalar.specs.Faulty.{◌>>=◌ as ◌flat_then◌}
+use Rattle.ipc_flat.specs.Faulty.{◌>>=◌}
 use Rattle.ipc_model.specs.WellFormed.{HasGoodType}
 use Rattle.ipc_model.specs.declared.schema.DataType.{DataType}
 use Rattle.ipc_model.specs.declared.schema.DataType.TheVariants as type
@@ -30,7 +30,7 @@ stated : (t : TableView) (n : ℕ) → scalar t 0 4 int32 (pos 0) ≡ Ok (pos n)
 unfolding scalar
 stated t n i = within (slot_of t.bytes t.at 0 4) i
   where
-    within : (r : Result (Option ℕ) FlatFault) → (r flat_then (λ o. Ok (or_default (int32 t.bytes) (pos 0) o))) ≡ Ok (pos n)
+    within : (r : Result (Option ℕ) FlatFault) → (r >>= (λ o. Ok (or_default (int32 t.bytes) (pos 0) o))) ≡ Ok (pos n)
         → n ≤ 2 ^ 31 - 1
     within (Ok o) e = stated_small t.bytes o n (cc)
     within (Err d) e = absurd (cc)

@@ -1,9 +1,9 @@
 -- Numbers in a part of the bytes, and structs one after another.
 use Rattle.std.proofs.Common.{subst, ◌≡◌, ◌∙◌, refl, sym, ap, ℕ, zero, suc, ◌+◌, ◌*◌, ◌-◌, ◌<◌, ◌≤◌, List, [], ◌∷◌, ◌++◌, take, drop}
 use Rattle.std.proofs.Common.{get_or, append_assoc, Option, None, Some, Result, Ok, Err, arith}
-use Rattle.ipc_scalar.specs.declared.fault.FlatFault.{FlatFault}
-use Rattle.ipc_scalar.specs.Faulty.{◌>>=◌, where_some}
-use Rattle.ipc_scalar.specs.Flat.{slot_of, elements_of}
+use Rattle.ipc_flat.specs.declared.fault.FlatFault.{FlatFault}
+use Rattle.ipc_flat.specs.Faulty.{◌>>=◌, where_some}
+use Rattle.ipc_flat.specs.Flat.{slot_of, elements_of}
 use Rattle.ipc_flat.specs.Views.{TableView, Structs, field, structs_from}
 use Rattle.ipc_meta.specs.FlatFaults.{map_fault}
 use Rattle.std.specs.Prelude.{slice_range, ℤ}

@@ -5,9 +5,9 @@ use Rattle.std.proofs.lemmas.Bool.Decides.{Decides-int_eq}
 use Rattle.std.specs.Ordering.{int_eq}
 use Rattle.std.specs.Prelude.{ℤ, pos, negsuc, ◌==◌, Option, None, Some, Ok}
 use Rattle.ipc_scalar.specs.Bytes.{int16, int32}
-use Rattle.ipc_scalar.specs.Flat.{text_of}
+use Rattle.ipc_flat.specs.Flat.{text_of}
 use Rattle.ipc_flat.specs.Views.{TableView, table_from, scalar, field}
-use Rattle.ipc_model.specs.Answers.{◌>>=◌}
+use Rattle.ipc_flat.specs.Faulty.{◌>>=◌}
 use Rattle.ipc_model.specs.Layouts.{time_bits}
 use Rattle.ipc_model.specs.Ranges.{width}
 use Rattle.ipc_model.specs.TypeCodes.{type_code}

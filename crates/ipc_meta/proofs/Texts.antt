@@ -2,11 +2,11 @@
 use Rattle.std.proofs.Common.{◌≡◌, ap, ℕ, ◌+◌, ◌*◌, Bool, true, false, List, length, Option, None, Some}
 use Rattle.std.specs.Prelude.{◌==◌, nat_le, Result, Ok, Err, if◌then◌else◌}
 use Rattle.ipc_scalar.specs.Bytes.{num, int32}
-use Rattle.ipc_scalar.specs.Faulty.{◌>>=◌, ok_if, where_some}
-use Rattle.ipc_scalar.specs.Flat.{back_of, is_vtable, vtable_behind, vtable_of, vtable_entry, place_of, slot_of, points, table_position}
-use Rattle.ipc_scalar.specs.Flat.{elements_of}
-use Rattle.ipc_scalar.specs.declared.fault.FlatFault.{FlatFault}
-use Rattle.ipc_scalar.specs.declared.fault.FlatFault.TheVariants.{OffsetZero, OutOfBounds, BadVtable, NotUtf8}
+use Rattle.ipc_flat.specs.Faulty.{◌>>=◌, ok_if, where_some}
+use Rattle.ipc_flat.specs.Flat.{back_of, is_vtable, vtable_behind, vtable_of, vtable_entry, place_of, slot_of, points, table_position}
+use Rattle.ipc_flat.specs.Flat.{elements_of}
+use Rattle.ipc_flat.specs.declared.fault.FlatFault.{FlatFault}
+use Rattle.ipc_flat.specs.declared.fault.FlatFault.TheVariants.{OffsetZero, OutOfBounds, BadVtable, NotUtf8}
 use Rattle.ipc_flat.specs.Views.{TableView, table_from, field, elements_from, structs_from}
 
 -- the answer is no text's

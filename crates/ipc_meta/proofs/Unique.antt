@@ -2,7 +2,7 @@
 use Rattle.std.proofs.Common.{◌≡◌, ◌∙◌, refl, sym, ap, subst, ℕ, List, arith}
 use Rattle.std.specs.Prelude.{pos, ℤ, Option, None, Some, Result, Ok, Err}
 use Rattle.ipc_scalar.specs.Bytes.{byte, int64}
-use Rattle.ipc_scalar.specs.declared.fault.FlatFault.{FlatFault}
+use Rattle.ipc_flat.specs.declared.fault.FlatFault.{FlatFault}
 use Rattle.ipc_flat.specs.Views.{TableView, table_from, scalar, field}
 use Rattle.ipc_model.specs.Answers.{Fails}
 use Rattle.ipc_model.specs.declared.fault.Fault.{Fault}

@@ -2,7 +2,7 @@
 -- Schema.fbs).
 use Rattle.std.specs.Prelude.{◌≡◌, ◌≢◌, ℕ, ◌<◌, ◌⊎◌, ℤ, true, false, pos, int_lt, List, None, Some}
 use Rattle.std.specs.Prelude.{Result, Ok}
-use Rattle.ipc_scalar.specs.declared.fault.FlatFault.{FlatFault}
+use Rattle.ipc_flat.specs.declared.fault.FlatFault.{FlatFault}
 use Rattle.ipc_scalar.specs.Bytes.{byte, int16, int32, int64}
 use Rattle.ipc_flat.specs.Views.{TableView, Elements, table_from, scalar, field}
 use Rattle.ipc_model.specs.declared.fault.Fault.{Fault}

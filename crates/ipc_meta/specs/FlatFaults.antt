@@ -1,7 +1,7 @@
 -- Faults of the FlatBuffers binary format as faults of a message.
 use Rattle.std.specs.Prelude.{Result, Ok, Err}
-use Rattle.ipc_scalar.specs.declared.fault.FlatFault.{FlatFault}
-use Rattle.ipc_scalar.specs.declared.fault.FlatFault.TheVariants as flat
+use Rattle.ipc_flat.specs.declared.fault.FlatFault.{FlatFault}
+use Rattle.ipc_flat.specs.declared.fault.FlatFault.TheVariants as flat
 use Rattle.ipc_model.specs.declared.fault.Fault.{Fault}
 use Rattle.ipc_model.specs.declared.fault.Fault.TheVariants.{BadFlat, NameNotUtf8}
 

@@ -2,11 +2,11 @@
 -- ill-formed.
 use Rattle.std.specs.Prelude.{◌≡◌, ℕ, ◌+◌, ◌*◌, ◌<◌, true, List, Some, Result, Ok, Err, ◌⊎◌}
 use Rattle.ipc_scalar.specs.Bytes.{byte}
-use Rattle.ipc_scalar.specs.Flat.{slot_of, text_of}
+use Rattle.ipc_flat.specs.Flat.{slot_of, text_of}
 use Rattle.ipc_flat.specs.Views.{TableView, Elements, table_from, scalar, field, elements_from}
 use Rattle.ipc_flat.specs.Views.{structs_from}
-use Rattle.ipc_scalar.specs.declared.fault.FlatFault.{FlatFault}
-use Rattle.ipc_scalar.specs.declared.fault.FlatFault.TheVariants.{NotUtf8}
+use Rattle.ipc_flat.specs.declared.fault.FlatFault.{FlatFault}
+use Rattle.ipc_flat.specs.declared.fault.FlatFault.TheVariants.{NotUtf8}
 use Rattle.ipc_model.specs.declared.fault.Fault.TheVariants.{BadFlat}
 use Rattle.ipc_meta.specs.FlatFaults.{map_fault}
 use Rattle.ipc_meta.specs.Tables.{vector_at, code_at, is_type_code}

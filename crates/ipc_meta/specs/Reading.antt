@@ -1,10 +1,10 @@
 -- The fields and batches that tables state (Schema.fbs, Message.fbs) as functions in the code's
 -- order: they read under a budget and return the first fault. Laws join them to the relations
 -- FieldAt and BatchAt.
-use Rattle.std.specs.Prelude.{pos, ℕ, zero, suc, ◌+◌, List, [], ◌∷◌, ◌++◌, length, Option, None}
+use Rattle.std.specs.Prelude.{pos, ℕ, zero, suc, ◌+◌, List, [], ◌∷◌, length, Option, None}
 use Rattle.std.specs.Prelude.{Some, Result, Ok, Err}
 use Rattle.ipc_flat.specs.Views.{TableView, table_from, scalar, field}
-use Rattle.ipc_model.specs.Answers.{◌>>=◌}
+use Rattle.ipc_flat.specs.Faulty.{◌>>=◌}
 use Rattle.ipc_model.specs.Entries.{kind_text}
 use Rattle.ipc_model.specs.declared.limits.Limits.{Limits}
 use Rattle.ipc_model.specs.declared.fault.Fault.{Fault}
@@ -14,7 +14,6 @@ use Rattle.ipc_meta.specs.declared.head.BatchHead.{BatchHead}
 use Rattle.ipc_meta.specs.Heads.{numbers_at}
 use Rattle.ipc_model.specs.declared.schema.DataType.{DataType}
 use Rattle.ipc_model.specs.declared.schema.Field.{Field, roll-Field}
-use Rattle.ipc_meta.specs.declared.budget.Budget.{Budget}
 use Rattle.ipc_meta.specs.Budgets.{Reading, less_fields, less_text, less_pairs}
 use Rattle.ipc_meta.specs.FlatFaults.{map_fault}
 use Rattle.ipc_meta.specs.Tables.{text_at, flag_at, vector_at, type_at, dictionary_at}
@@ -25,11 +24,6 @@ each f b p zero left = Ok ([], left)
 each f b p (suc n) left = map_fault (table_from b p) >>= λ t. f t left >>= λ x.
     each f b (p + 4) n x.1
     >>= λ xs. Ok (x.0 ∷ xs.0, xs.1)
-
--- the list that was read, with `front` before it
-abbrev pub with_front : {X : Type 0} → List X → Result (List X × Budget) Fault
-    → Result (List X × Budget) Fault
-with_front front r = r >>= λ xs. Ok (front ++ xs.0, xs.1)
 
 -- the text in field k; its bytes are counted
 unfoldable pub text_read : TableView → ℕ → Reading (List ℕ)

@@ -4,9 +4,9 @@ use Rattle.std.specs.Prelude.{ℕ, ◌==◌, ◌||◌, Bool, true, nat_lt, ℤ, 
 use Rattle.std.specs.Prelude.{None, Some, Result, Ok, Err, if◌then◌else◌}
 use Rattle.std.specs.Ordering.{int_eq}
 use Rattle.ipc_scalar.specs.Bytes.{byte, int16, int32, int64}
-use Rattle.ipc_scalar.specs.Flat.{text_of}
+use Rattle.ipc_flat.specs.Flat.{text_of}
 use Rattle.ipc_flat.specs.Views.{TableView, Elements, table_from, scalar, field, elements_from}
-use Rattle.ipc_model.specs.Answers.{◌>>=◌}
+use Rattle.ipc_flat.specs.Faulty.{◌>>=◌}
 use Rattle.ipc_model.specs.Layouts.{time_bits}
 use Rattle.ipc_model.specs.Ranges.{width}
 use Rattle.ipc_model.specs.declared.fault.Fault.{Fault}

@@ -1,7 +1,7 @@
 -- Which type a Field table states (Schema.fbs, union Type): a line for each type.
 use Rattle.std.specs.Prelude.{◌≡◌, ⊤, ℤ, pos, Some, Ok}
 use Rattle.ipc_scalar.specs.Bytes.{int16, int32}
-use Rattle.ipc_scalar.specs.Flat.{text_of}
+use Rattle.ipc_flat.specs.Flat.{text_of}
 use Rattle.ipc_flat.specs.Views.{TableView, table_from, scalar, field}
 use Rattle.ipc_model.specs.Layouts.{time_bits}
 use Rattle.ipc_model.specs.Ranges.{width}

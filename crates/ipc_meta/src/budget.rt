@@ -1,4 +1,3 @@
-ghost use Rattle.std.specs.Prelude.{◌≡◌};
 ghost use Rattle.ipc_model.specs.Answers.{AnswersUnlessOutOfMemory};
 ghost use Rattle.ipc_meta.specs.Budgets.{less_text, less_pairs, less_fields};
 

@@ -1,4 +1,3 @@
-ghost use Rattle.std.specs.Prelude.{◌≡◌};
 ghost use Rattle.ipc_model.specs.Answers.{AnswersUnlessOutOfMemory};
 ghost use Rattle.ipc_meta.specs.Reading.{text_read, pair_read, pairs_read, fields_read, field_read};
 ghost use Rattle.ipc_meta.specs.Reading.{only_field};

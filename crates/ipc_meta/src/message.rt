@@ -1,5 +1,5 @@
-ghost use Rattle.std.specs.Prelude.{◌≡◌, ◌<◌, ◌≤◌, ℕ, List, IfOk, IfErr, OnOk, Ok, pos};
-ghost use Rattle.std.specs.Prelude.{IsTrue, MatchResult};
+ghost use Rattle.std.specs.Prelude.{◌≡◌, ◌<◌, ◌≤◌, ℕ, List, IfOk, IfErr, OnOk, Ok, pos, IsTrue};
+ghost use Rattle.std.specs.Prelude.{MatchResult};
 ghost use Rattle.ipc_scalar.specs.Bytes.{int16, int64};
 ghost use Rattle.ipc_flat.specs.Views.{scalar};
 ghost use Rattle.ipc_model.specs.Answers.{UnlessOutOfMemory, AnswersUnlessOutOfMemory};
@@ -148,7 +148,7 @@ fn read_header(alloc: Global, limits: &Limits, root: &TableRef<'_>) -> Result<He
             let (batch, pairs) = read_record_batch(alloc, limits, root, &table)?;
             Ok(Head::Batch(batch, pairs))
         }
-        _ => Err(Fault::BadHeader),
+        _ => unreachable!(),
     }
 }
 

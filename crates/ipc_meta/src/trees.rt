@@ -1,11 +1,11 @@
 //! The tables of schemas, batches and messages that the writer makes.
-ghost use Rattle.std.specs.Prelude.{◌≡◌, ◌≤◌, ◌^◌, map, IfOk};
+ghost use Rattle.std.specs.Prelude.{◌≡◌, ◌≤◌, map, IfOk};
 ghost use Rattle.ipc_build.specs.Trees.{view};
 ghost use Rattle.ipc_model.specs.MaxLimits.{max_body};
 ghost use Rattle.ipc_model.specs.declared.schema.Field.{out-Field};
 ghost use Rattle.ipc_meta.specs.Written.{field_tree, schema_tree, batch_tree, message_tree};
-ghost use Rattle.ipc_meta.specs.Written.{schema_message, batch_message};
-ghost use Rattle.ipc_meta.specs.Written.{dictionary_batch_tree, dictionary_message};
+ghost use Rattle.ipc_meta.specs.Written.{schema_message, batch_message, dictionary_batch_tree};
+ghost use Rattle.ipc_meta.specs.Written.{dictionary_message};
 
 use crate::head::BatchHead;
 use crate::slots::{push_pairs, table_of, text_slot};

@@ -1,10 +1,10 @@
 //! The tables of types and dictionaries that the writer makes.
-ghost use Rattle.std.specs.Prelude.{◌≡◌, IfOk, pos};
+ghost use Rattle.std.specs.Prelude.{◌≡◌, IfOk};
 ghost use Rattle.ipc_build.specs.Trees.{Tree, fields_view};
 ghost use Rattle.ipc_model.specs.declared.schema.DataType.TheVariants as t;
 ghost use Rattle.ipc_meta.specs.Types.{date_code, time_code};
-ghost use Rattle.ipc_meta.specs.Written.{fields_then, int_tree, type_tree};
-ghost use Rattle.ipc_meta.specs.Written.{dictionary_tree, time_tree, with_dictionary};
+ghost use Rattle.ipc_meta.specs.Written.{fields_then, int_tree, type_tree, dictionary_tree};
+ghost use Rattle.ipc_meta.specs.Written.{time_tree, with_dictionary};
 
 use crate::slots::{Slots, table_of, text_slot};
 use ipc_build::Slot;

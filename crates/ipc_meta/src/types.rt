@@ -1,10 +1,9 @@
-ghost use Rattle.std.specs.Prelude.{◌≡◌, ℤ, Ok, option_map, pos};
+ghost use Rattle.std.specs.Prelude.{◌≡◌, true};
 ghost use Rattle.ipc_model.specs.Answers.{AnswersUnlessOutOfMemory};
-ghost use Rattle.ipc_model.specs.Entries.{kind_text};
 ghost use Rattle.ipc_meta.specs.Tables.{bits_of, unit_of, int_at, fixed_at, date_at, timestamp_at};
-ghost use Rattle.ipc_meta.specs.Tables.{fixed_list_at, time_at, duration_at};
-ghost use Rattle.ipc_meta.specs.Tables.{type_of, is_type_code, type_at, code_at, flag_at, index_at};
-ghost use Rattle.ipc_meta.specs.Tables.{dictionary_in, dictionary_at, map_ok};
+ghost use Rattle.ipc_meta.specs.Tables.{fixed_list_at, time_at, duration_at, type_of, is_type_code};
+ghost use Rattle.ipc_meta.specs.Tables.{type_at, code_at, flag_at, index_at, dictionary_in};
+ghost use Rattle.ipc_meta.specs.Tables.{dictionary_at, map_ok};
 ghost use Rattle.ipc_meta.specs.Reading.{type_read};
 
 use crate::budget::Budget;
@@ -141,9 +140,10 @@ fn read_timestamp(alloc: Global, table: &TableRef<'_>) -> Result<DataType, Fault
     Ok(DataType::Timestamp { unit, timezone })
 }
 
-// The type with this code and this table (Schema.fbs, union Type).
-#[tactic(auto, unfolding(crate::specs::Tables::type_of))]
+// The type with this code, which is a type's, and this table (Schema.fbs, union Type).
+#[tactic(auto, unfolding(crate::specs::Tables::type_of, crate::specs::Tables::is_type_code))]
 fn type_of(alloc: Global, code: u8, table: &TableRef<'_>) -> Result<DataType, Fault>
+    requires { is_type_code code ≡ true }
     ensures { AnswersUnlessOutOfMemory (λ κ. κ) result (type_of code table.now) }
 {
     match code {
@@ -163,7 +163,7 @@ fn type_of(alloc: Global, code: u8, table: &TableRef<'_>) -> Result<DataType, Fa
         15 => fixed_of(map_fault(table.scalar_i32(0, 0))?),
         16 => fixed_list_of(map_fault(table.scalar_i32(0, 0))?),
         18 => read_duration(table),
-        _ => Err(Fault::UnsupportedType(code)),
+        _ => unreachable!(),
     }
 }
 
@@ -202,19 +202,6 @@ fn read_type(alloc: Global, field: &TableRef<'_>) -> Result<DataType, Fault>
     }
 }
 
-// How many bytes the timezone of a type has.
-fn text_len(kind: &DataType) -> usize
-    ensures { result ≡ kind_text kind.now }
-{
-    match kind {
-        DataType::Timestamp {
-            timezone: Some(zone),
-            ..
-        } => zone.len(),
-        _ => 0,
-    }
-}
-
 /// Reads the type of a field, and counts the bytes of its timezone.
 #[tactic(auto, unfolding(crate::specs::Reading::type_read))]
 pub(crate) fn read_counted_type(
@@ -226,7 +213,7 @@ pub(crate) fn read_counted_type(
         (type_read field.now budget.old) }
 {
     let kind = read_type(alloc, field)?;
-    budget.take_text(text_len(&kind))?;
+    budget.take_text(kind.text_len())?;
     Ok(kind)
 }
 

@@ -1,7 +1,7 @@
 //! Writes the metadata of messages.
-ghost use Rattle.std.specs.Prelude.{◌≡◌, ◌⊎◌, ◌<◌, ◌≤◌, ◌+◌, ◌*◌, ◌/◌, ◌^◌, ◌++◌, ℕ, List, length};
-ghost use Rattle.std.specs.Prelude.{IfOk, IfErr, OnOk};
-ghost use Rattle.ipc_build.specs.Trees.{Tree, view};
+ghost use Rattle.std.specs.Prelude.{◌≡◌, ◌⊎◌, ◌<◌, ◌≤◌, ◌+◌, ◌*◌, ◌/◌, ◌++◌, ℕ, List, length, IfOk};
+ghost use Rattle.std.specs.Prelude.{IfErr, OnOk};
+ghost use Rattle.ipc_build.specs.Trees.{view};
 ghost use Rattle.ipc_build.specs.Encodes.{Encodes, Aligned};
 ghost use Rattle.ipc_build.specs.Ascends.{Ascends, fields};
 ghost use Rattle.ipc_build.specs.Room.{room, size};

@@ -1,14 +1,15 @@
 -- How the slots of a field are laid out in its buffers (Arrow Columnar Format, "Physical Memory
 -- Layout").
-use Rattle.std.specs.Prelude.{ℕ, Bool, true, false, Option, Some, None}
+use Rattle.std.specs.Prelude.{ℕ, ◌/◌, Bool, true, false, Option, Some, None}
 use Rattle.ipc_model.specs.declared.schema.IntBits.{IntBits}
-use Rattle.ipc_model.specs.declared.schema.IntBits.TheVariants.{B8, B16, B32, B64}
+use Rattle.ipc_model.specs.declared.schema.IntBits.TheVariants.{B32, B64}
 use Rattle.ipc_model.specs.declared.schema.DateUnit.TheVariants.{Day, Millisecond}
 use Rattle.ipc_model.specs.declared.schema.TimeUnit.{TimeUnit}
 use Rattle.ipc_model.specs.declared.schema.TimeUnit.TheVariants as u
 use Rattle.ipc_model.specs.declared.schema.DataType.{DataType}
 use Rattle.ipc_model.specs.declared.schema.DataType.TheVariants as t
 use Rattle.ipc_model.specs.declared.schema.Dictionary.{Dictionary}
+use Rattle.ipc_model.specs.Ranges.{width}
 use Rattle.ipc_model.specs.declared.layout.Layout.{Layout}
 use Rattle.ipc_model.specs.declared.layout.Layout.TheVariants as l
 
@@ -98,7 +99,4 @@ needs_slot_checks l.Structs = false
 
 -- how many bytes a number of this width takes
 abbrev pub number_bytes : IntBits → ℕ
-number_bytes B8 = 1
-number_bytes B16 = 2
-number_bytes B32 = 4
-number_bytes B64 = 8
+number_bytes bits = width bits / 8

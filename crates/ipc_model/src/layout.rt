@@ -1,8 +1,7 @@
 //! The layouts of types: which buffers each needs, and how wide numbers are.
 ghost use Rattle.std.specs.Prelude.{◌≡◌};
 ghost use Rattle.ipc_model.specs.Layouts.{type_layout, layout, own_buffers, has_validity};
-ghost use Rattle.ipc_model.specs.Layouts.{needs_slot_checks, is_texts, number_bytes};
-ghost use Rattle.ipc_model.specs.Layouts.{time_bits};
+ghost use Rattle.ipc_model.specs.Layouts.{needs_slot_checks, is_texts, number_bytes, time_bits};
 ghost use Rattle.ipc_model.specs.Ranges.{width};
 
 use crate::schema::{DataType, DateUnit, Dictionary, IntBits, TimeUnit};
@@ -182,11 +181,6 @@ impl IntBits {
     pub fn bytes(self) -> usize
         ensures { result ≡ number_bytes self }
     {
-        match self {
-            IntBits::B8 => 1,
-            IntBits::B16 => 2,
-            IntBits::B32 => 4,
-            IntBits::B64 => 8,
-        }
+        usize::from(self.width() / 8)
     }
 }

@@ -1,8 +1,7 @@
 //! Limits on what one stream, schema or batch may hold.
-ghost use Rattle.std.specs.Prelude.{◌≤◌, ◌^◌, ◌-◌};
-ghost use Rattle.ipc_model.specs.MaxLimits.{max_metadata, max_body, max_slots};
-ghost use Rattle.ipc_model.specs.MaxLimits.{max_fields, max_depth, max_text};
-ghost use Rattle.ipc_model.specs.MaxLimits.{max_pairs};
+ghost use Rattle.std.specs.Prelude.{◌≤◌};
+ghost use Rattle.ipc_model.specs.MaxLimits.{max_metadata, max_body, max_slots, max_fields};
+ghost use Rattle.ipc_model.specs.MaxLimits.{max_depth, max_text, max_pairs};
 
 use crate::check::pair_text;
 use ipc_items::Text;

@@ -1,6 +1,6 @@
 //! A test of adjacent numbers, 64 bytes at a time: whether each is the index of a value.
-ghost use Rattle.std.specs.Prelude.{◌≡◌, ◌≤◌, ◌<◌, ◌-◌, ◌*◌, ◌/◌, ◌%◌, ◌^◌, ◌↔◌, ◌++◌, ℕ};
-ghost use Rattle.std.specs.Prelude.{length, replicate, IsTrue};
+ghost use Rattle.std.specs.Prelude.{◌≡◌, ◌≤◌, ◌<◌, ◌-◌, ◌*◌, ◌/◌, ◌%◌, ◌^◌, ◌↔◌, ◌++◌, ℕ, length};
+ghost use Rattle.std.specs.Prelude.{replicate, IsTrue};
 ghost use Rattle.ipc_scalar.specs.Bytes.{num, number, IsWidth, IsBelow};
 
 use crate::lanes::Lanes;

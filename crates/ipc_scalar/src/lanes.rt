@@ -1,6 +1,5 @@
 //! Vectors of 64 bytes, one type for each width of a number.
-ghost use Rattle.std.specs.Prelude.{◌≡◌, ◌≤◌, ◌<◌, ◌*◌, ◌^◌, ◌↔◌, ℕ, length, refl};
-ghost use Rattle.std.specs.Prelude.{IsTrue};
+ghost use Rattle.std.specs.Prelude.{◌≡◌, ◌≤◌, ◌<◌, ◌*◌, ◌^◌, ◌↔◌, ℕ, length, refl, IsTrue};
 ghost use Rattle.std.specs.Simd.Lanes.{Each1};
 ghost use Rattle.ipc_scalar.specs.Bytes.{num};
 

@@ -17,12 +17,13 @@ use Rattle.ipc_column.specs.Values.{first_of}
 use Rattle.ipc_dict_read.specs.InForce.{at, put}
 use Rattle.ipc_dict.specs.declared.entry.TallyEntry.{TallyEntry}
 use Rattle.ipc_dict.specs.declared.kept.KeptEntry.{KeptEntry}
-use Rattle.ipc_dict.specs.Planning.{SameIds, values_after, after_all, sends_of, sent_for}
+use Rattle.ipc_dict.specs.Planning.{values_after, after_all, sends_of, sent_for}
 use Rattle.ipc_dict.specs.SchemaIds.{tally_ids}
 use Rattle.ipc_dict.proofs.ids.UniqueIds.{IsOther, AreUnique}
 use Rattle.ipc_stream_read.specs.Stream.{InForce, DictionaryInForce, Run, done, more, values_in, with_dictionary}
 use Rattle.ipc_stream.specs.declared.message.Message.{Message}
 use Rattle.ipc_stream.specs.Messages.{SetDictionaries, all_bytes}
+use Rattle.ipc_dict.proofs.ids.Ids.{SameIds}
 
 -- ---- a map with one entry more
 

@@ -3,7 +3,7 @@ use Rattle.std.proofs.Common.{◌≡◌, ◌∙◌, ◌↔◌, ℕ, ◌<◌, ref
 use Rattle.std.proofs.Common.{IfOk, OnOk, ◌+◌, ◌*◌}
 use Rattle.std.specs.Result.{result_err}
 use Rattle.ipc_model.specs.Numbering.{fault_number}
-use Rattle.ipc_scalar.specs.declared.fault.FlatFault.{FlatFault}
+use Rattle.ipc_flat.specs.declared.fault.FlatFault.{FlatFault}
 use Rattle.ipc_flat.specs.Views.{TableView, Elements, table_from, field, elements_from}
 use Rattle.ipc_model.specs.Answers.{AnswersUnlessOutOfMemory}
 use Rattle.ipc_model.specs.declared.fault.Fault.{Fault}

@@ -1,5 +1,5 @@
 //! Rows written as the parts of a batch, byte for byte.
-ghost use Rattle.std.specs.Prelude.{◌≡◌, ◌∷◌, [], length, true, IfOk, IsTrue};
+ghost use Rattle.std.specs.Prelude.{IsTrue};
 ghost use Rattle.std.specs.List.{AllByRecursion};
 ghost use Rattle.ipc_model.specs.Fits.{RowFits};
 ghost use Rattle.ipc_model.specs.RowFaults.{HasShortPaths};

@@ -1,11 +1,8 @@
 -- Numbers in the chunks of a list of bytes, which are slots of as many bytes each.
-use Rattle.std.proofs.Common.{◌≡◌, ◌∙◌, refl, sym, ap, true, ◌^◌, ℕ, zero, suc, ◌+◌, ◌*◌, ◌/◌, ◌<◌, ◌≤◌, List, length, take, drop}
-use Rattle.std.proofs.Common.{get_or, arith, inl, inr}
-use Rattle.std.specs.Int.{w16, w32, w64, cast_signed, from_le_bytes}
-use Rattle.std.specs.Prelude.{pos, int_le, unsigned_abs}
+use Rattle.std.proofs.Common.{◌≡◌, ◌∙◌, refl, ap, ℕ, zero, suc, ◌+◌, ◌*◌, ◌/◌, ◌<◌, ◌≤◌, List, length, take, drop}
+use Rattle.std.proofs.Common.{get_or, arith}
+use Rattle.std.specs.Int.{w16, w32, w64, from_le_bytes}
 use Rattle.std.specs.Simd.{first_chunks}
-use Rattle.std.proofs.lemmas.Bool.{cases_lt, false≢true, le-ltb}
-use Rattle.std.proofs.lemmas.Int.{to_z_pos}
 use Rattle.std.proofs.lemmas.List.{drop-drop}
 use Rattle.std.proofs.lemmas.Simd.{get_or-chunk}
 use Rattle.ipc_scalar.specs.Bytes.{num}
@@ -74,11 +71,3 @@ pub slot_8 : (xs : List ℕ) (all : List (List ℕ)) (i : ℕ) (d : List ℕ) �
 slot_8 xs all i d is inside =
     ap (λ (c : List (List ℕ)). from_le_bytes w64 (get_or c i d)) is
     ∙ (ap (from_le_bytes w64) (chunk_at 8 (length xs / 8) i xs d (omega arith)) ∙ number_8 xs (8 * i))
-
--- a number of four bytes that isn't negative where it is seen as signed
-pub positive_is : (n : ℕ) → int_le (pos 0) (cast_signed w32 n) ≡ true → n ≡ unsigned_abs (cast_signed w32 n)
-positive_is n h =
-    elim (cases_lt n (2 ^ 31)) as (λ _. n ≡ unsigned_abs (cast_signed w32 n)) [
-      | inl l ↦ ap unsigned_abs (sym (to_z_pos w32 n l))
-      | inr l ↦ absurd (false≢true (rw (le-ltb n (2 ^ 31) l) at h))
-    ]

@@ -14,8 +14,8 @@ use Rattle.ipc_column.specs.Values.{own_value, row, items, first_at, value_of, i
 use Rattle.ipc_column.specs.checks.Checks.{children_have_slots}
 use Rattle.ipc_column.specs.checks.Checks.{have_slots}
 use Rattle.ipc_column.specs.Lent.{AreSlots, HaveValues}
-use Rattle.ipc_column.specs.Views.{part_columns, column_of, children_of, own_column}
-use Rattle.ipc_column.proofs.Parts.{column_is, every_top_at}
+use Rattle.ipc_column.specs.Views.{part_columns, column_of, children_of}
+use Rattle.ipc_column.proofs.Parts.{own_column, column_is, every_top_at}
 use Rattle.ipc_column.proofs.visited.Goods.{fewer_slots}
 use Rattle.ipc_column.proofs.lending.Slots.{part_value}
 

@@ -19,10 +19,10 @@ use Rattle.ipc_column.specs.checks.Checks.{passes, top_passes, has_bitmap, holds
 use Rattle.ipc_column.specs.checks.Checks.{are_ascending}
 use Rattle.ipc_column.specs.checks.Checks.{have_slots, good, good_slot, good_below, all_pass, is_shown, PassTests}
 use Rattle.ipc_column.specs.Lent.{AreSlots, HaveValues, HasValue}
-use Rattle.ipc_column.specs.Views.{part_columns, column_of, children_of, own_column, one}
+use Rattle.ipc_column.specs.Views.{part_columns, column_of, children_of, one}
 use Rattle.ipc_column.proofs.Rules.{of_bound, of_some, every_true, every_top_true}
 use Rattle.ipc_column.proofs.visited.Shown.{of_when}
-use Rattle.ipc_column.proofs.Parts.{children_out, column_is, every_at, every_top_at}
+use Rattle.ipc_column.proofs.Parts.{own_column, children_out, column_is, every_at, every_top_at}
 use Rattle.ipc_column.proofs.visited.Goods.{slots_at, good_within, fewer_slots, shown_is}
 use Rattle.ipc_column.proofs.lending.Slices.{places}
 

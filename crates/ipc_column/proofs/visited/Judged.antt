@@ -1,20 +1,18 @@
 -- What the visits of a part answer.
-use Rattle.std.proofs.Common.{◌≡◌, ◌∙◌, sym, ap, refl, ℕ, ◌+◌, ◌-◌, ◌*◌, ◌<◌, ◌≤◌, Bool, true, false, List, length, Result, Ok, Err, arith}
+use Rattle.std.proofs.Common.{◌≡◌, ◌∙◌, sym, ap, refl, ℕ, ◌+◌, ◌-◌, ◌*◌, ◌<◌, Bool, true, false, List, length, Result, Ok, Err}
 use Rattle.std.specs.Prelude.{◌||◌, not}
 use Rattle.ipc_model.specs.declared.layout.Layout.TheVariants as l
-use Rattle.ipc_model.specs.declared.schema.IntBits.{IntBits}
-use Rattle.ipc_model.specs.Layouts.{needs_slot_checks, is_texts}
+use Rattle.ipc_model.specs.Layouts.{needs_slot_checks}
 use Rattle.ipc_column.specs.declared.cause.Cause.{Cause}
-use Rattle.ipc_column.specs.declared.cause.Cause.TheVariants as cause
 use Rattle.ipc_column.specs.declared.ranges.ColumnRanges.{ColumnRanges}
 use Rattle.ipc_column.specs.declared.ranges.ColumnRanges.TheViews.{out-ColumnRanges}
 use Rattle.ipc_column.specs.checks.Checks.{Judges, good, good_below, good_slot, range_good}
 use Rattle.ipc_column.specs.Columns.{Column}
 use Rattle.ipc_column.specs.Lent.{AreSlots}
 use Rattle.ipc_column.specs.Values.{is_valid, offset_position}
-use Rattle.ipc_column.specs.Views.{part_columns, column_of, children_of, own_column, one}
+use Rattle.ipc_column.specs.Views.{part_columns, column_of, children_of, one}
 use Rattle.ipc_column.proofs.visited.Goods.{slot_range}
-use Rattle.ipc_column.proofs.Parts.{column_is}
+use Rattle.ipc_column.proofs.Parts.{own_column, column_is}
 use Rattle.ipc_column.proofs.visited.Visited.{part_back, list_good, fixed_good_between, struct_good, whole_part}
 
 -- the same tests, in other words

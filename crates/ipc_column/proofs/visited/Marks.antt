@@ -1,10 +1,8 @@
 -- What parts store of the texts and indices in them is right, and what follows from it.
 use Rattle.std.proofs.Common.{◌≡◌, ◌∙◌, refl, sym, ap, subst, ℕ, zero, suc, ◌+◌, ◌-◌, ◌*◌, ◌<◌, ◌≤◌, Bool, true, false, List, [], ◌∷◌, ◌++◌}
 use Rattle.std.proofs.Common.{length, map, get_or, arith, inl, inr}
-use Rattle.std.specs.Prelude.{◌||◌, ◌&&◌, not, slice_set, IsTrue}
-use Rattle.std.specs.Vec.{with_items}
+use Rattle.std.specs.Prelude.{◌||◌, ◌&&◌, not, slice_set}
 use Rattle.std.proofs.lemmas.Bool.{false≢true, and_parts, and_from, cases_order}
-use Rattle.std.proofs.lemmas.List.{with_items_is}
 use Rattle.ipc_model.specs.declared.layout.Layout.{Layout}
 use Rattle.ipc_model.specs.declared.layout.Layout.TheVariants as l
 use Rattle.ipc_model.specs.Layouts.{needs_slot_checks, is_texts}
@@ -21,12 +19,13 @@ use Rattle.ipc_column.specs.Lent.{AreSlots}
 use Rattle.ipc_column.specs.checks.Marks.{Mark, mark, mark_step, each_valid, all_right, all_valid, own_of, is_same, IsMarked, AreMarked}
 use Rattle.ipc_column.specs.checks.Rules.{have_slot_checks}
 use Rattle.ipc_column.specs.Values.{is_valid, offset_position}
-use Rattle.ipc_column.specs.Views.{part_columns, column_of, children_of, own_column, one, view, part_step}
+use Rattle.ipc_column.specs.Views.{part_columns, column_of, children_of, one, part_step}
 use Rattle.ipc_column.proofs.Below.{below_at, below_from}
 use Rattle.ipc_column.proofs.visited.Goods.{good_first}
 use Rattle.ipc_column.proofs.lending.Slots.{part_most, slots_first}
 use Rattle.ipc_column.proofs.visited.Visited.{layout_is, judged_is, list_slots, fixed_slots, struct_slots, range_is, enough_part}
 use Rattle.ipc_column.proofs.visited.Visited.{texts_pass_part, indices_pass_part}
+use Rattle.ipc_column.proofs.Parts.{own_column}
 
 -- ---- one part
 

@@ -1,18 +1,19 @@
 -- What is asked of the slots that rows show: texts are UTF-8, and indices those of values.
 use Rattle.std.proofs.Common.{◌≡◌, refl, ℕ, ◌+◌, ◌-◌, ◌*◌, ◌<◌, ◌≤◌, Bool, true, false, cond, not, List, length, arith, subst, Some, None}
-use Rattle.std.specs.Prelude.{◌||◌, nat_lt, is_some, ℤ, pos, negsuc, ◌≤ℤ◌, ◌<ℤ◌}
+use Rattle.std.specs.Prelude.{◌||◌, nat_lt, is_some, ℤ, pos, negsuc}
 use Rattle.std.specs.Bool.{Decides}
 use Rattle.std.proofs.lemmas.Bool.{false≢true}
 use Rattle.std.proofs.lemmas.Bool.Decides.{nat_tests, Decides-and, Decides-like}
 use Rattle.std.proofs.lemmas.Int.{ints}
 use Rattle.std.proofs.lemmas.Str.{IsUtf8-from_is_utf8, is_utf8-from_IsUtf8}
+use Rattle.ipc_scalar.specs.Bytes.{IsBelow}
 use Rattle.ipc_model.specs.declared.layout.Layout.{Layout}
 use Rattle.ipc_model.specs.declared.layout.Layout.TheVariants as l
 use Rattle.ipc_model.specs.declared.value.Value.{Value}
 use Rattle.ipc_column.specs.declared.cause.Cause.TheVariants as cause
 use Rattle.ipc_column.specs.checks.Checks.{all_slots, good, good_below, good_slot}
-use Rattle.ipc_column.specs.Columns.{Column, Columns, none, column}
-use Rattle.ipc_column.specs.checks.Rules.{HasIndex, HoldsIndices, IsIndex, IsText, HasUtf8Texts}
+use Rattle.ipc_column.specs.Columns.{Columns, none, column}
+use Rattle.ipc_column.specs.checks.Rules.{HasIndex, HoldsIndices, IsText, HasUtf8Texts}
 use Rattle.ipc_column.specs.Values.{is_valid, number_in, offset_position, place_below}
 use Rattle.ipc_column.proofs.visited.Goods.{slots_at, slots_from}
 
@@ -59,21 +60,21 @@ of_good (column c children rest) a b =
 -- ---- indices
 
 -- the test of an index decides whether it is one of a value
-of_one : (d : List Value) (z : ℤ) → Decides (is_some (place_below (length d) z)) (IsIndex d z)
+of_one : (d : List Value) (z : ℤ) → Decides (is_some (place_below (length d) z)) (IsBelow (length d) z)
 of_one d (pos n) = elim (nat_lt n (length d)) as (λ b. nat_lt n (length d) ≡ b
-    → Decides (is_some (cond b (Some n) None)) (IsIndex d (pos n))) [
+    → Decides (is_some (cond b (Some n) None)) (IsBelow (length d) (pos n))) [
       | true ↦ λ e.
           let inside : n < length d = grind (arith, nat_tests, e) in
-          (λ _. record { from = omega (arith, ints); to = omega (arith, ints, inside) }, λ _. refl)
+          (λ _. (omega (arith, ints), omega (arith, ints, inside)), λ _. refl)
       | false ↦ λ e. (
         λ h. absurd (false≢true h),
         λ h.
-            let to = h.to in
+            let to = h.1 in
             let inside : n < length d = omega (arith, ints, to) in
             absurd (grind (arith, nat_tests, e, inside)),
       )
     ] refl
-of_one d (negsuc n) = (λ e. absurd (false≢true e), λ h. let from = h.from in absurd (omega (arith, ints, from)))
+of_one d (negsuc n) = (λ e. absurd (false≢true e), λ h. let from = h.0 in absurd (omega (arith, ints, from)))
 
 of_index : (l : Layout) (values : List Value) (below : ℕ → ℕ → Bool) (P : ℕ → Type 0)
     → ((a b : ℕ) → Decides (below a b) ((i : ℕ) → a ≤ i → i < b → P i)) → (o w : List ℕ) (i : ℕ)

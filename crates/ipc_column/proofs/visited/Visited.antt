@@ -18,9 +18,9 @@ use Rattle.ipc_column.specs.declared.cause.Cause.{Cause}
 use Rattle.ipc_column.specs.declared.cause.Cause.TheVariants as cause
 use Rattle.ipc_column.specs.checks.Checks.{IsIndexed, good, range_good, all_slots, text_good, index_good, passes, holds_values}
 use Rattle.ipc_column.specs.Lent.{AreSlots}
-use Rattle.ipc_column.specs.Views.{part_columns, column_of, children_of, own_column, one}
+use Rattle.ipc_column.specs.Views.{part_columns, column_of, children_of, one}
 use Rattle.ipc_column.specs.checks.Weights.{weight, weight_below}
-use Rattle.ipc_column.proofs.Parts.{children_out, column_is}
+use Rattle.ipc_column.proofs.Parts.{own_column, children_out, column_is}
 use Rattle.ipc_column.proofs.lending.Slots.{TextParts, list_parts, text_parts, slots_below, slots_within, part_slots, part_long, part_most}
 use Rattle.ipc_column.proofs.lending.FixedLists.{fixed_end}
 use Rattle.ipc_column.proofs.visited.Goods.{range_enough, range_whole, quiet_good, texts_good, texts_pass, indices_good, indices_pass}

@@ -5,7 +5,7 @@ use Rattle.std.specs.Prelude.{negsuc, unsigned_abs, Bool, true, false, ◌&&◌,
 use Rattle.std.specs.Prelude.{List, [], ◌∷◌, length, if◌then◌else◌}
 use Rattle.std.specs.List.{All}
 use Rattle.std.specs.Str.{IsUtf8}
-use Rattle.ipc_scalar.specs.Bytes.{clear}
+use Rattle.ipc_scalar.specs.Bytes.{clear, IsBelow}
 use Rattle.ipc_model.specs.declared.schema.Field.{Field}
 use Rattle.ipc_model.specs.declared.value.Value.{Value}
 use Rattle.ipc_column.specs.Dictionaries.{Dictionaries}
@@ -182,17 +182,11 @@ abbrev pub HasTexts : Dictionaries → List Field → BatchHead → List ℕ →
 HasTexts m fields head body = (i : ℕ) → i < unsigned_abs head.length
     → HasUtf8Texts (field_columns m fields head body) i
 
--- an index is at least 0 and below the number of the dictionary's values (Arrow Columnar Format,
--- "Dictionary-encoded Layout")
-pub record IsIndex (dictionary : List Value) (index : ℤ) : Type 0 where
-  pub from : pos 0 ≤ℤ index
-  pub to : index <ℤ pos (length dictionary)
-
 -- the content of slot i, if it is an index, is that of one of the dictionary's values. A list needs
 -- this of the slots that it holds, a struct of its slot in each child, by `below`
 abbrev pub HasIndex : Layout → List Value → (ℕ → Type 0) → List ℕ → List ℕ → ℕ → Type 0
 HasIndex (l.Indices bits signed id) dictionary below offsets values i =
-    IsIndex dictionary (number_in bits signed values i)
+    IsBelow (length dictionary) (number_in bits signed values i)
 HasIndex l.Lists dictionary below offsets values i = (j : ℕ) → offset_position offsets i ≤ j
     → j < offset_position offsets (i + 1) → below j
 HasIndex (l.FixedLists size) dictionary below offsets values i = (j : ℕ) → size * i ≤ j

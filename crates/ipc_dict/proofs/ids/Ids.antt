@@ -2,8 +2,14 @@
 use Rattle.std.proofs.Common.{◌≡◌, ℕ, ℤ, Option, List, [], ◌∷◌, refl, ap}
 use Rattle.ipc_dict.specs.declared.entry.TallyEntry.{TallyEntry}
 use Rattle.ipc_dict.specs.declared.kept.KeptEntry.{KeptEntry}
-use Rattle.ipc_dict.specs.Planning.{SameIds, after_all}
+use Rattle.ipc_dict.specs.Planning.{after_all}
 use Rattle.ipc_dict.specs.SchemaIds.{kept_ids, tally_ids, nothing_sent}
+
+-- the ids are equal, index by index
+abbrev pub SameIds : List KeptEntry → List TallyEntry → Type 0
+SameIds [] [] = Unit {0}
+SameIds (s ∷ ss) (n ∷ ns) = (s.id ≡ n.id) × SameIds ss ns
+SameIds _ _ = ⊥
 
 pub same_ids : (ks : List KeptEntry) (es : List TallyEntry) → kept_ids ks ≡ tally_ids es → SameIds ks es
 same_ids [] [] h = tt

@@ -27,7 +27,7 @@ use Rattle.ipc_encode.specs.Buffers.{child_values, row_columns}
 use Rattle.ipc_encode.specs.Indices.{InColumn, InColumns, InRows}
 use Rattle.ipc_encode.proofs.Steps.{below_none}
 use Rattle.ipc_encode.proofs.HeldValues.{all_left, all_right}
-use Rattle.ipc_dict_read.specs.ConcatLists.{concat_lists}
+use Rattle.std.specs.List.{flat_map}
 use Rattle.ipc_dict.specs.Pairs.{Pairs, Walk, items_pairs, inner_pairs, own_pair, value_pairs, pairs_step, pairs, row_pairs, rows_pairs}
 use Rattle.ipc_dict.specs.SchemaIds.{own, field_step, of_field, of_fields}
 use Rattle.ipc_dict.proofs.pairs.CoveredColumns.{EachWithin, cells_within, parts_within, spread, flat, flat_values, flat_rows}
@@ -99,11 +99,11 @@ module _ (Asked : IntBits → Bool → ℤ → Value → Type 0) where
 
   -- what is asked of the pairs of several things is asked of those of each column that is cut from them
   columns_ask : {X : Type 0} (source : X → Pairs) (at : ℕ → X → Value) (fs : List Field) (xs : List X)
-      → ((x : X) → EachWithin fs (λ j. at j x) (source x)) → Asks (concat_lists (map of_field fs)) (flat source xs)
+      → ((x : X) → EachWithin fs (λ j. at j x) (source x)) → Asks (flat_map (λ c. c) (map of_field fs)) (flat source xs)
       → AllAsk fs (λ j. map (at j) xs)
   columns_ask source at [] xs inside asks = tt
   columns_ask source at (f ∷ fs) xs inside asks =
-      let more : List Dictionary = concat_lists (map of_field fs) in (
+      let more : List Dictionary = flat_map (λ c. c) (map of_field fs) in (
         λ d value named pair. asks d value (Contains-append_left (of_field f) more d named)
             (spread source (pairs f) (at 0) (λ x. (inside x).0) xs (d.id, value) pair),
         columns_ask source (λ j. at (suc j)) fs xs (λ x. (inside x).1)
@@ -129,7 +129,7 @@ module _ (Asked : IntBits → Bool → ℤ → Value → Type 0) where
 
   -- the pairs of a list's items are those of the lists
   lists_ask : (fs : List Field) (vs : List Value) → length fs ≡ 1
-      → Asks (concat_lists (map of_field fs)) (items_pairs (λ x. inner_pairs t.List (map pairs fs) (out-Value x)) vs)
+      → Asks (flat_map (λ c. c) (map of_field fs)) (items_pairs (λ x. inner_pairs t.List (map pairs fs) (out-Value x)) vs)
       → AllAsk fs (λ j. all_items vs)
   lists_ask [] vs one asks = tt
   lists_ask (f ∷ []) vs one asks = (
@@ -141,7 +141,7 @@ module _ (Asked : IntBits → Bool → ℤ → Value → Type 0) where
 
   -- so are those of lists of a fixed size
   fixed_ask : (size : ℕ) (fs : List Field) (vs : List Value) → length fs ≡ 1
-      → Asks (concat_lists (map of_field fs)) (items_pairs (λ x. inner_pairs (t.FixedSizeList size) (map pairs fs) (out-Value x)) vs)
+      → Asks (flat_map (λ c. c) (map of_field fs)) (items_pairs (λ x. inner_pairs (t.FixedSizeList size) (map pairs fs) (out-Value x)) vs)
       → AllAsk fs (λ j. all_fixed_items size vs)
   fixed_ask size [] vs one asks = tt
   fixed_ask size (f ∷ []) vs one asks = (
@@ -153,17 +153,17 @@ module _ (Asked : IntBits → Bool → ℤ → Value → Type 0) where
 
   -- those of a struct's parts are among those of the structs
   structs_ask : (fs : List Field) (vs : List Value)
-      → Asks (concat_lists (map of_field fs)) (items_pairs (λ x. inner_pairs t.Struct (map pairs fs) (out-Value x)) vs)
+      → Asks (flat_map (λ c. c) (map of_field fs)) (items_pairs (λ x. inner_pairs t.Struct (map pairs fs) (out-Value x)) vs)
       → AllAsk fs (λ j. all_parts j vs)
   structs_ask fs vs asks =
       let source : Walk = λ x. inner_pairs t.Struct (map pairs fs) (out-Value x) in
-      let flatly = subst (λ (ps : Pairs). Asks (concat_lists (map of_field fs)) ps) (sym (flat_values source vs)) asks in
+      let flatly = subst (λ (ps : Pairs). Asks (flat_map (λ c. c) (map of_field fs)) ps) (sym (flat_values source vs)) asks in
       subst (λ (given : ℕ → List Value). AllAsk fs given) (λ d j. parts_are j vs d)
       (columns_ask source struct_member fs vs (λ x. parts_within fs (out-Value x)) flatly)
 
   -- what is asked of the pairs of a column without a dictionary is asked of those of the columns below it
   kind_below : (kind : DataType) (fs : List Field) (vs : List Value) → HasFittingChildren kind (length fs)
-      → Asks (concat_lists (map of_field fs)) (items_pairs (λ x. inner_pairs kind (map pairs fs) (out-Value x)) vs)
+      → Asks (flat_map (λ c. c) (map of_field fs)) (items_pairs (λ x. inner_pairs kind (map pairs fs) (out-Value x)) vs)
       → AllAsk fs (child_values (type_layout kind) vs)
   kind_below t.List fs vs c asks = lists_ask fs vs c asks
   kind_below (t.FixedSizeList size) fs vs c asks = fixed_ask size fs vs c asks
@@ -201,14 +201,15 @@ module _ (Asked : IntBits → Bool → ℤ → Value → Type 0) where
 
     covered_in : (kind : DataType) (d : Option Dictionary) (fs : List Field) → AllByRecursion IsCovered fs → (depth : ℕ)
         → AllByRecursion (IsFieldWellFormed limits) (all_at depth (map preorder fs)) → HasFittingChildren kind (length fs)
-        → (vs : List Value) → Asks (own d ++ concat_lists (map of_field fs)) (items_pairs (λ x. value_pairs d kind (map pairs fs) x) vs)
+        → (vs : List Value) → Asks (own d ++ flat_map (λ c. c) (map of_field fs))
+        (items_pairs (λ x. value_pairs d kind (map pairs fs) x) vs)
         → InColumn Asked (layout kind d) vs × InColumns Asked (shapes (map field_shape fs)) (child_values (layout kind d) vs)
     covered_in kind None fs each depth fine fitting vs asks = (
       kind_plain kind vs,
       all_covered fs each depth fine (child_values (type_layout kind) vs) (kind_below kind fs vs fitting asks),
     )
     covered_in kind (Some d) fs each depth fine fitting vs asks = (
-      indices_asked d (d ∷ concat_lists (map of_field fs)) (0, omega arith, refl) vs asks,
+      indices_asked d (d ∷ flat_map (λ c. c) (map of_field fs)) (0, omega arith, refl) vs asks,
       none_below (shapes (map field_shape fs)),
     )
 
@@ -228,11 +229,11 @@ module _ (Asked : IntBits → Bool → ℤ → Value → Type 0) where
         subst (λ (l : Listing). AllByRecursion (IsFieldWellFormed limits) (l depth)) (fold-roll-Field Listing preorder_step z) fine in
         let fitting : HasFittingChildren z.kind (length z.children) =
         subst (λ (n : ℕ). HasFittingChildren z.kind n) (length-map z.children preorder) listed.0.fitting_children in
-        let named : of_field (roll-Field z) ≡ own z.dictionary ++ concat_lists (map of_field z.children) =
+        let named : of_field (roll-Field z) ≡ own z.dictionary ++ flat_map (λ c. c) (map of_field z.children) =
         fold-roll-Field (List Dictionary) field_step z in
-        let given : Asks (own z.dictionary ++ concat_lists (map of_field z.children)) (items_pairs (pairs (roll-Field z)) vs) =
+        let given : Asks (own z.dictionary ++ flat_map (λ c. c) (map of_field z.children)) (items_pairs (pairs (roll-Field z)) vs) =
         subst (λ (ds : List Dictionary). Asks ds (items_pairs (pairs (roll-Field z)) vs)) named asks in
-        let walked = subst (λ (walk : Walk). Asks (own z.dictionary ++ concat_lists (map of_field z.children)) (items_pairs walk vs))
+        let walked = subst (λ (walk : Walk). Asks (own z.dictionary ++ flat_map (λ c. c) (map of_field z.children)) (items_pairs walk vs))
         (fold-roll-Field Walk pairs_step z) given in
         subst (λ (s : Layout × Shape). InColumn Asked s.0 vs × InColumns Asked s.1 (child_values s.0 vs)) (sym formed)
         (covered_in z.kind z.dictionary z.children (each_shown y.children) (depth + 1) listed.1 fitting vs walked)

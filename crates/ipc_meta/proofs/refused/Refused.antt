@@ -3,11 +3,10 @@ use Rattle.std.proofs.Common.{◌≡◌, refl, ap, subst, ℕ, List, inl}
 use Rattle.std.specs.Prelude.{pos, Option, None, Some, Result, Ok, Err}
 use Rattle.ipc_scalar.specs.Bytes.{byte, int64}
 use Rattle.ipc_flat.specs.Views.{TableView, table_from, scalar, field, elements_from, structs_from, or_default}
-use Rattle.ipc_scalar.specs.Flat.{slot_of, text_of}
-use Rattle.ipc_scalar.specs.declared.fault.FlatFault.{FlatFault}
-use Rattle.ipc_scalar.specs.declared.fault.FlatFault.TheVariants as flat
-use Rattle.ipc_scalar.specs.Faulty.{◌>>=◌ as ◌flat_then◌}
-use Rattle.ipc_model.specs.Answers.{◌>>=◌}
+use Rattle.ipc_flat.specs.Flat.{slot_of, text_of}
+use Rattle.ipc_flat.specs.declared.fault.FlatFault.{FlatFault}
+use Rattle.ipc_flat.specs.declared.fault.FlatFault.TheVariants as flat
+use Rattle.ipc_flat.specs.Faulty.{◌>>=◌}
 use Rattle.ipc_model.specs.declared.fault.Fault.{Fault}
 use Rattle.ipc_model.specs.declared.fault.Fault.TheVariants as f
 use Rattle.ipc_meta.specs.FlatFaults.{fault_of, map_fault}
@@ -40,7 +39,7 @@ illegible limits b (Err flat.OutOfBounds) e h other ill = let same : f.BadFlat �
 illegible limits b (Err flat.BadVtable) e h other ill = let same : f.BadFlat ≡ e = cc in subst (Cause limits b) same (ill refl)
 
 -- the first step of a reading fails where its last one can't
-before_last : {A B : Type 0} (r : Result A FlatFault) (last : A → B) (e : Fault) → map_fault (r flat_then (λ x. Ok (last x))) ≡ Err e
+before_last : {A B : Type 0} (r : Result A FlatFault) (last : A → B) (e : Fault) → map_fault (r >>= (λ x. Ok (last x))) ≡ Err e
     → map_fault r ≡ Err e
 before_last (Ok x) last e h = absurd (cc)
 before_last (Err d) last e h = let same : fault_of d ≡ e = cc in ap Err same

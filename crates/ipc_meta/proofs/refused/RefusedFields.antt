@@ -2,7 +2,7 @@
 use Rattle.std.proofs.Common.{◌≡◌, refl, ap, subst, ℕ, zero, suc, ◌+◌, ◌*◌, ◌<◌, ◌≤◌, List, ◌⊎◌, inl, inr, arith}
 use Rattle.std.specs.Prelude.{length, nat_le, Ok, Err}
 use Rattle.std.proofs.lemmas.Bool.Decides.{nat_tests}
-use Rattle.ipc_scalar.specs.Flat.{text_of}
+use Rattle.ipc_flat.specs.Flat.{text_of}
 use Rattle.ipc_flat.specs.Views.{TableView, Elements, table_from, field}
 use Rattle.ipc_model.specs.Entries.{kind_text}
 use Rattle.ipc_model.specs.declared.fault.Fault.{Fault}

@@ -3,7 +3,7 @@ use Rattle.std.proofs.Common.{◌≡◌, refl, subst, ℕ, true, false, List}
 use Rattle.std.proofs.lemmas.Bool.{eqb-true, eq-eqb}
 use Rattle.std.specs.Prelude.{pos, negsuc, int_lt, ℤ, ◌==◌, Option, None, Some, Ok, Err}
 use Rattle.ipc_scalar.specs.Bytes.{byte, int16, int32, int64}
-use Rattle.ipc_scalar.specs.Flat.{text_of}
+use Rattle.ipc_flat.specs.Flat.{text_of}
 use Rattle.ipc_flat.specs.Views.{TableView, table_from, scalar, field}
 use Rattle.std.specs.Ordering.{int_eq}
 use Rattle.std.proofs.lemmas.Bool.Decides.{Decides-int_eq}

@@ -1,9 +1,9 @@
 -- What a table that lies in the bytes holds, field by field, as the reader finds it.
 use Rattle.std.proofs.Common.{◌≡◌, ◌∙◌, ap, ℕ, List}
 use Rattle.std.specs.Prelude.{Option, None, Some, Result, Ok, ⊤}
-use Rattle.ipc_scalar.specs.declared.fault.FlatFault.{FlatFault}
-use Rattle.ipc_scalar.specs.Faulty.{◌>>=◌, where_some}
-use Rattle.ipc_scalar.specs.Flat.{slot_of, table_position, elements_of}
+use Rattle.ipc_flat.specs.declared.fault.FlatFault.{FlatFault}
+use Rattle.ipc_flat.specs.Faulty.{◌>>=◌, where_some}
+use Rattle.ipc_flat.specs.Flat.{slot_of, table_position, elements_of}
 use Rattle.ipc_flat.specs.Views.{TableView, or_default, table_from, scalar, field, elements_from, structs_from}
 use Rattle.ipc_build.specs.Trees.{Tree}
 use Rattle.ipc_build.specs.Encodes.{IsTablePlaced, EncodesTable, in_table}

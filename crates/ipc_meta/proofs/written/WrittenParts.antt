@@ -3,10 +3,10 @@ use Rattle.std.proofs.Common.{◌≡◌, ◌∙◌, refl, ap, subst, ℕ, ◌+�
 use Rattle.std.specs.Prelude.{nat_lt, ◌⊎◌, Option, None, Some, Result, Ok}
 use Rattle.std.specs.List.{AllByRecursion}
 use Rattle.ipc_scalar.specs.Bytes.{num, byte}
-use Rattle.ipc_scalar.specs.declared.fault.FlatFault.{FlatFault}
-use Rattle.ipc_scalar.specs.Flat.{slot_of, elements_of, text_of}
+use Rattle.ipc_flat.specs.declared.fault.FlatFault.{FlatFault}
+use Rattle.ipc_flat.specs.Flat.{slot_of, elements_of, text_of}
 use Rattle.ipc_flat.specs.Views.{TableView, Elements, table_from, elements_from}
-use Rattle.ipc_model.specs.Answers.{◌>>=◌}
+use Rattle.ipc_flat.specs.Faulty.{◌>>=◌}
 use Rattle.ipc_build.specs.Trees.{Tree, tables_of}
 use Rattle.ipc_build.specs.Layout.{members}
 use Rattle.ipc_build.specs.Encodes.{HasField, EncodesTable, in_table, in_vector}

@@ -4,10 +4,10 @@ use Rattle.std.specs.Prelude.{ℤ, pos, true, Option, None, Some, Result, Ok, Er
 use Rattle.std.specs.Int.{w32, cast_signed}
 use Rattle.std.proofs.Math.Facts.{to_z_pos}
 use Rattle.ipc_scalar.specs.Bytes.{num, byte, int16, int32, int64}
-use Rattle.ipc_scalar.specs.declared.fault.FlatFault.{FlatFault}
-use Rattle.ipc_scalar.specs.Flat.{slot_of, table_position, text_of}
+use Rattle.ipc_flat.specs.declared.fault.FlatFault.{FlatFault}
+use Rattle.ipc_flat.specs.Flat.{slot_of, table_position, text_of}
 use Rattle.ipc_flat.specs.Views.{TableView, table_from, scalar, field}
-use Rattle.ipc_model.specs.Answers.{◌>>=◌}
+use Rattle.ipc_flat.specs.Faulty.{◌>>=◌}
 use Rattle.ipc_model.specs.WellFormed.{HasGoodType}
 use Rattle.ipc_model.specs.declared.fault.Fault.{Fault}
 use Rattle.ipc_model.specs.declared.fault.Fault.TheVariants.{UnsupportedType, BadType, BadIndexType}

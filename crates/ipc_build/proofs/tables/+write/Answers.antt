@@ -6,7 +6,7 @@ use Rattle.ipc_build.proofs.Upward.{ends_up}
 use Rattle.ipc_build.proofs.Nodes.{view_is}
 use Rattle.ipc_build.proofs.Views.{members_fields, members_tables, fields_bound, fields_weight, tables_bound, tables_weight, tables_need}
 use Rattle.ipc_build.proofs.Views.{tables_below, tables_bytes, vector_up, pairs_need}
-use Rattle.ipc_build.proofs.Patches.{fields_start, field_put, fields_put, tables_start, table_put, tables_put}
+use Rattle.ipc_build.proofs.Patches.{lent, fields_start, field_put, fields_put, number_put, tables_start, table_put, tables_put}
 use Rattle.ipc_build.proofs.Pieces.{few, field_below, table_each, elements_below, pairs_bytes, places_end, table_joined, vector_places}
 use Rattle.ipc_build.proofs.Pieces.{vector_joined}
 use Rattle.ipc_build.specs.Ascends.{fields, Writable}
@@ -15,6 +15,8 @@ use Rattle.ipc_build.proofs.tables.+write.Goals as goal
 pub write_fields-write_target-requires : goal.write_fields-write_target-requires
 write_fields-write_target-requires t c =
     let p = c.len-next.ensures ∙ c.loop-slot.out.ok.0 in
+    let same = lent c.loop-slot.out.len c.loop-slot.out.items _ c.put_u64.new.bytes c.loop-slot.out.ok.0
+    c.as_mut_slice.ensures.value c.put_u64.auto.bytes in
     let e = fields_bound c.args.slots.now c.loop-slot.slot-index c.loop-slot-item.result
     (length c.loop-slot.out.items) _ c.loop-slot-item.is c.loop-slot-test.true c.loop-slot.invariant.ends in
     let z = fields_weight c.args.slots.now c.loop-slot.slot-index c.loop-slot-item.result c.loop-slot-test.true in
@@ -23,7 +25,10 @@ write_fields-write_target-requires t c =
       (
         field_below c.args.slots.now c.loop-slot.slot-index c.loop-slot-item.result c.loop-slot-item.is
             c.loop-slot-test.true c.requires.writable,
-        (omega (arith, p, c.put_u64.ensures.len), rw p (omega (arith, e, c.requires.small))),
+        (
+          omega (arith, p, ap length same, c.put_u64.auto.bytes, c.as_mut_slice.ensures.len),
+          rw p (omega (arith, e, c.requires.small)),
+        ),
       ),
     )
 
@@ -44,9 +49,13 @@ write_fields-loop-slot-init t c = fields_start c.args.slots.now c.args.at c.args
 
 pub write_fields-loop-slot-preserved : goal.write_fields-loop-slot-preserved
 write_fields-loop-slot-preserved t c =
+    let put = number_put c.loop-slot.out.len c.loop-slot.out.items _ c.put_u64.new.bytes c.loop-slot.out.ok.0
+    c.as_mut_slice.ensures.value c.put_u64.auto.bytes 8 c.loop-slot.here _
+    (omega (arith, c.loop-slot.invariant.place, c.loop-slot.invariant.behind, c.loop-slot-test.true))
+    c.put_u64.ensures.before c.put_u64.ensures.bytes c.put_u64.ensures.after in
     field_put c.args.slots.now c.loop-slot.slot-index c.loop-slot-item.result c.loop-slot-item.is c.loop-slot-test.true c.loop-slot.here
-    c.args.at c.len-next.result c.inline_value.result _ c.loop-slot.out.items c.put_u64.new.out.items c.write_target.new.out.items
-    c.requires.writable (c.len-next.ensures ∙ c.loop-slot.out.ok.0) c.inline_value.ensures c.put_u64.ensures.bytes
+    c.args.at c.len-next.result c.inline_value.result _ c.loop-slot.out.items _ c.write_target.new.out.items
+    c.requires.writable (c.len-next.ensures ∙ c.loop-slot.out.ok.0) c.inline_value.ensures put
     c.in_ok-write_target.ensures c.loop-slot.invariant
 
 pub write_fields-returns : goal.write_fields-returns
@@ -56,6 +65,8 @@ write_fields-returns t c = fields_put c.args.slots.now c.loop-slot.slot-index c.
 pub write_elements-write_table-requires : goal.write_elements-write_table-requires
 write_elements-write_table-requires t c =
     let p = c.len-next.ensures ∙ c.loop-tree.out.ok.0 in
+    let same = lent c.loop-tree.out.len c.loop-tree.out.items _ c.put_u32.new.bytes c.loop-tree.out.ok.0
+    c.as_mut_slice.ensures.value c.put_u32.auto.bytes in
     let e = tables_bound c.args.trees.now c.loop-tree.tree-index c.tree-item.result
     (length c.loop-tree.out.items) _ c.tree-item.is c.loop-tree-test.true c.loop-tree.invariant.ends in
     let z = tables_weight c.args.trees.now c.loop-tree.tree-index c.tree-item.result c.loop-tree-test.true in
@@ -64,7 +75,10 @@ write_elements-write_table-requires t c =
       (
         table_each c.args.trees.now c.loop-tree.tree-index c.tree-item.result c.tree-item.is c.loop-tree-test.true
             c.requires.writable,
-        (omega (arith, p, c.put_u32.ensures.len), rw p (omega (arith, e, c.requires.small))),
+        (
+          omega (arith, p, ap length same, c.put_u32.auto.bytes, c.as_mut_slice.ensures.len),
+          rw p (omega (arith, e, c.requires.small)),
+        ),
       ),
     )
 
@@ -74,8 +88,8 @@ write_elements-table_place-requires t c =
     let u = (ends_up (tables_view (drop c.loop-tree.tree-index c.args.trees.now)) (length c.loop-tree.out.items)).more in
     omega (arith, p, u, c.loop-tree.invariant.ends, c.requires.small)
 
-pub write_elements-overflow_cast-table_place : goal.write_elements-overflow_cast-table_place
-write_elements-overflow_cast-table_place t c =
+pub write_elements-overflow_cast-offset : goal.write_elements-overflow_cast-offset
+write_elements-overflow_cast-offset t c =
     let p = c.len-next.ensures ∙ c.loop-tree.out.ok.0 in
     let e = tables_bound c.args.trees.now c.loop-tree.tree-index c.tree-item.result
     (length c.loop-tree.out.items) _ c.tree-item.is c.loop-tree-test.true c.loop-tree.invariant.ends in
@@ -90,10 +104,14 @@ write_elements-loop-tree-init t c = tables_start c.args.trees.now c.args.at c.ar
 
 pub write_elements-loop-tree-preserved : goal.write_elements-loop-tree-preserved
 write_elements-loop-tree-preserved t c =
+    let put = number_put c.loop-tree.out.len c.loop-tree.out.items _ c.put_u32.new.bytes c.loop-tree.out.ok.0
+    c.as_mut_slice.ensures.value c.put_u32.auto.bytes 4 c.loop-tree.here _
+    (omega (arith, c.loop-tree.invariant.place, c.loop-tree.invariant.behind, c.loop-tree-test.true))
+    c.put_u32.ensures.before c.put_u32.ensures.bytes c.put_u32.ensures.after in
     table_put c.args.trees.now c.loop-tree.tree-index c.tree-item.result c.tree-item.is c.loop-tree-test.true c.loop-tree.here c.args.at
-    c.len-next.result _ _ c.loop-tree.out.items c.put_u32.new.out.items c.write_table.new.out.items
+    c.len-next.result _ _ c.loop-tree.out.items _ c.write_table.new.out.items
     c.requires.writable (c.len-next.ensures ∙ c.loop-tree.out.ok.0)
-    (ap (λ n. n - c.loop-tree.here) c.table_place.ensures) c.put_u32.ensures.bytes c.in_ok-write_table.ensures c.loop-tree.invariant
+    (ap (λ n. n - c.loop-tree.here) c.table_place.ensures) put c.in_ok-write_table.ensures c.loop-tree.invariant
 
 pub write_elements-returns : goal.write_elements-returns
 write_elements-returns t c = tables_put c.args.trees.now c.loop-tree.tree-index c.loop-tree.here c.args.at _ c.loop-tree.out.items

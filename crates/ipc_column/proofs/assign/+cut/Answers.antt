@@ -2,8 +2,8 @@ use Rattle.std.proofs.Common.{◌∙◌, sym, ap, rules, arith}
 use Rattle.ipc_model.specs.declared.schema.Field.TheViews.{the_lemmas}
 use Rattle.ipc_column.specs.DictionaryBatches.{dictionaries_in}
 use Rattle.ipc_column.specs.Views.{part_columns}
-use Rattle.ipc_column.specs.Columns.{Columns, beside}
-use Rattle.ipc_column.proofs.Fields.{nodes_from, buffers_from, nodes_done, buffers_done, cut_step, cut_done, beside_none}
+use Rattle.ipc_column.specs.Columns.{Columns}
+use Rattle.ipc_column.proofs.Fields.{nodes_from, buffers_from, nodes_done, buffers_done, cut_step, cut_done, beside_none, beside}
 use Rattle.ipc_column.proofs.assign.+cut.Goals as goal
 
 pub assign_buffers-assign_field-requires : goal.assign_buffers-assign_field-requires

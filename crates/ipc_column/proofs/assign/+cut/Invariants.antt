@@ -1,9 +1,9 @@
 use Rattle.std.proofs.Common.{◌≡◌, ◌+◌, ℕ, List, length, drop}
-use Rattle.ipc_column.specs.Columns.{beside}
 use Rattle.ipc_column.specs.DictionaryBatches.{dictionaries_in}
 use Rattle.ipc_column.specs.Views.{part_columns}
 use Rattle.ipc_column.specs.Shapes.{shape_of, node_count, buffer_count, assigned_columns}
 use Rattle.ipc_column.proofs.assign.+cut.Given as goal
+use Rattle.ipc_column.proofs.Fields.{beside}
 
 abbrev pub invariant-assign_buffers-loop-field : goal.invariant-assign_buffers-loop-field
 invariant-assign_buffers-loop-field l = record {

@@ -3,12 +3,13 @@ use Rattle.std.proofs.lemmas.List.{take_all}
 use Rattle.ipc_model.specs.declared.value.Value.{Value}
 use Rattle.ipc_column.specs.declared.ranges.ColumnRanges.TheViews.{the_lemmas, out-ColumnRanges}
 use Rattle.ipc_column.specs.Values.{row, items, first_at}
-use Rattle.ipc_column.specs.Views.{part_columns, own_column}
+use Rattle.ipc_column.specs.Views.{part_columns}
 use Rattle.ipc_column.proofs.Cells.{row_cell, row_more, row_length, items_more}
 use Rattle.ipc_column.proofs.lending.Slots.{slot_value, part_stands, stands_bytes, list_values, fixed_values, struct_values}
 use Rattle.ipc_column.proofs.lending.Slots.{nested_struct}
 use Rattle.ipc_column.proofs.lending.FixedLists.{fixed_have, fixed_items, fixed_place_have, fixed_value}
 use Rattle.ipc_column.proofs.owned_rows.+read.Goals as goal
+use Rattle.ipc_column.proofs.Parts.{own_column}
 
 pub read_first-read_slot-requires : goal.read_first-read_slot-requires
 read_first-read_slot-requires t c =

@@ -1,12 +1,10 @@
 use Rattle.std.proofs.Common.{◌≡◌, ◌∙◌, sym, ap, subst, List, ◌<◌, length, rules, arith, true}
 use Rattle.std.proofs.lemmas.List.{take_more_set}
-use Rattle.ipc_column.specs.declared.cause.Cause.{Cause}
 use Rattle.ipc_column.specs.declared.ranges.ColumnRanges.{ColumnRanges}
 use Rattle.ipc_column.specs.declared.ranges.ColumnRanges.TheViews.{the_lemmas, roll-ColumnRanges}
 use Rattle.ipc_column.specs.checks.Checks.{passes}
 use Rattle.ipc_column.specs.Columns.{Column, Columns, every}
 use Rattle.ipc_column.specs.checks.Marks.{AreMarked}
-use Rattle.ipc_column.specs.Views.{part_columns}
 use Rattle.ipc_column.proofs.visited.Marking.{passes_below, passes_still, returned, returned_children, returned_column, returned_items}
 use Rattle.ipc_column.proofs.visited.Marking.{stored_mark, stored_view}
 use Rattle.ipc_column.proofs.visited.Marks.{columns_set, marked_push, passes_at}

@@ -1,13 +1,6 @@
 use Rattle.std.proofs.Common.{◌≡◌, ◌-◌, [], length, arith}
-use Rattle.ipc_column.proofs.lending.Slices.{above_in, places, whole_good}
+use Rattle.ipc_column.proofs.lending.Slices.{places, whole_good}
 use Rattle.ipc_column.proofs.texts.are_texts.Goals as goal
-
-pub start_at-requires-clause-positive : goal.start_at-requires-clause-positive
-start_at-requires-clause-positive c = above_in c.args.offsets.now c.args.slots (length c.args.values.now) 0 c.requires.order (omega arith)
-
-pub start_at-requires-2-clause-positive : goal.start_at-requires-2-clause-positive
-start_at-requires-2-clause-positive c =
-    above_in c.args.offsets.now c.args.slots (length c.args.values.now) c.args.slots c.requires.order (omega arith)
 
 pub slice_bounds-from_utf8-count : goal.slice_bounds-from_utf8-count
 slice_bounds-from_utf8-count c =
@@ -26,7 +19,7 @@ slice_bounds-from_utf8-end c =
 
 pub returns-in-Ok : goal.returns-in-Ok
 returns-in-Ok c = λ e.
-    let text = rw (c.start_at.ensures, c.start_at-2.ensures) at c.in-Ok.ensures in
+    let text = rw (c.place_at.ensures, c.place_at-2.ensures) at c.in-Ok.ensures in
     let less : c.args.slots - 0 ≡ c.args.slots = omega arith in
     rw less at (whole_good c.args.offsets.now c.args.values.now [] c.args.slots 0 c.args.slots c.requires.order (omega arith) (omega arith)
     text.1 (rw text.0 at (c.are_char_boundaries.ensures e)))

@@ -1,10 +1,11 @@
 use Rattle.std.proofs.Common.{◌≡◌, ◌∙◌, sym, false, true, rules}
 use Rattle.ipc_column.specs.declared.ranges.ColumnRanges.TheViews.{out-ColumnRanges}
-use Rattle.ipc_column.specs.Views.{part_columns, own_column}
+use Rattle.ipc_column.specs.Views.{part_columns}
 use Rattle.ipc_column.specs.declared.cause.Cause.TheVariants as cause
 use Rattle.ipc_column.specs.checks.Checks.{passes}
 use Rattle.ipc_column.proofs.visited.Visited.{part_back, all_pass_from}
 use Rattle.ipc_column.proofs.validate.check_part.Goals as goal
+use Rattle.ipc_column.proofs.Parts.{own_column}
 
 pub returns-then-not-in_order : goal.returns-then-not-in_order
 returns-then-not-in_order c =

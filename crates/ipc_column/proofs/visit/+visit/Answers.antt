@@ -1,4 +1,4 @@
-use Rattle.std.proofs.Common.{◌≡◌, ◌∙◌, sym, ap, subst, Bool, true, false, rules, arith, ◌+◌, ◌-◌, drop, length}
+use Rattle.std.proofs.Common.{◌≡◌, ◌∙◌, sym, ap, subst, Bool, false, rules, arith, ◌+◌, ◌-◌, drop, length}
 use Rattle.ipc_column.specs.declared.ranges.ColumnRanges.TheViews.{the_lemmas, out-ColumnRanges}
 use Rattle.ipc_column.specs.checks.Checks.{good, good_slot}
 use Rattle.ipc_model.specs.Layouts.{needs_slot_checks}
@@ -16,7 +16,7 @@ use Rattle.ipc_column.proofs.lending.FixedLists.{fixed_place_have, fixed_child}
 use Rattle.ipc_column.proofs.visited.Visited.{layout_is, list_bytes, list_slots, fixed_slots, struct_slots, list_weight}
 use Rattle.ipc_column.proofs.visited.Visited.{fixed_weight_between}
 use Rattle.ipc_column.proofs.visited.Visited.{struct_weight}
-use Rattle.ipc_column.proofs.visited.Visited.{visited_below, quiet_part, not_judged, good_done}
+use Rattle.ipc_column.proofs.visited.Visited.{visited_below, not_judged, good_done}
 use Rattle.ipc_column.proofs.visited.Judged.{list_judged, fixed_judged, struct_judged, slot_null, slot_judged, whole_judged}
 use Rattle.ipc_column.proofs.visited.Weights.{weight_first, room_next, cost_next, cost_all, visited_weight, below_weight}
 use Rattle.ipc_column.proofs.visit.+visit.Goals as goal

@@ -10,12 +10,12 @@ use Rattle.ipc_column.specs.Shapes.{Shape, bare, field, field_children, field_la
 use Rattle.ipc_column.specs.Slots.{nested, nested_in}
 use Rattle.ipc_encode.specs.Buffers.{child_values}
 use Rattle.ipc_encode.specs.WholeColumns.{AreFullColumns, IsFullColumn, IsLaidOutAs}
-use Rattle.ipc_encode.specs.Numbers.{no_indices}
 use Rattle.ipc_encode.specs.Segments.{AddsColumns, AreRefusedAfter}
 use Rattle.ipc_encode.proofs.SegmentColumns.{all_fields, children_refused, columns_next, columns_none, columns_refused, field_parts}
 use Rattle.ipc_encode.proofs.SegmentColumns.{own_refused_after, shape_in, whole_fields, with_children}
 use Rattle.ipc_encode.proofs.NestedSlots.{whole_at}
 use Rattle.ipc_encode.proofs.whole_columns.+add_whole.Goals as goal
+use Rattle.ipc_encode.proofs.Agreeing.{no_indices}
 
 -- ---- a column, and then its children
 

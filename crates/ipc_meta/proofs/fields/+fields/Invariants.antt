@@ -1,7 +1,8 @@
 use Rattle.std.proofs.Common.{◌≡◌, ◌+◌, ◌*◌}
-use Rattle.ipc_meta.specs.Reading.{fields_read, field_read, with_front}
+use Rattle.ipc_meta.specs.Reading.{fields_read, field_read}
 use Rattle.ipc_meta.proofs.Each.{from_ith}
 use Rattle.ipc_meta.proofs.fields.+fields.Given as goal
+use Rattle.ipc_meta.proofs.Each.{with_front}
 
 abbrev pub decreases-read_fields : goal.decreases-read_fields
 decreases-read_fields l = 2 * l.depth + 1

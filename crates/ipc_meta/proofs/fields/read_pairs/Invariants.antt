@@ -1,7 +1,8 @@
 use Rattle.std.proofs.Common.{◌≡◌}
-use Rattle.ipc_meta.specs.Reading.{pairs_read, pair_read, with_front}
+use Rattle.ipc_meta.specs.Reading.{pairs_read, pair_read}
 use Rattle.ipc_meta.proofs.Each.{from_ith}
 use Rattle.ipc_meta.proofs.fields.read_pairs.Given as goal
+use Rattle.ipc_meta.proofs.Each.{with_front}
 
 abbrev pub invariant-loop-i : goal.invariant-loop-i
 invariant-loop-i l = record {

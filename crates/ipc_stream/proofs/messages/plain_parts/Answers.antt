@@ -8,7 +8,6 @@ use Rattle.ipc_encode.specs.Built.{StoresRows}
 use Rattle.ipc_encode.specs.Faults.{write_fault}
 use Rattle.ipc_encode.specs.Indices.{FindsIndex}
 use Rattle.ipc_encode.specs.Limits.{AreRowsRefused, IsWithin}
-use Rattle.ipc_encode.specs.Numbers.{no_indices}
 use Rattle.ipc_encode.specs.Weights.{capped, row_weight}
 use Rattle.ipc_encode.proofs.Growing.{refused_more}
 use Rattle.ipc_dict.specs.SchemaIds.{of_fields}
@@ -16,6 +15,7 @@ use Rattle.ipc_dict.proofs.pairs.Covered.{covered}
 use Rattle.ipc_dict.proofs.pairs.PairsFit.{column_names}
 use Rattle.ipc_stream.proofs.WithinLimits.{memory_alone}
 use Rattle.ipc_stream.proofs.messages.plain_parts.Goals as goal
+use Rattle.ipc_encode.proofs.Agreeing.{no_indices}
 
 pub returns-in_err-builder-clause-refused : goal.returns-in_err-builder-clause-refused
 returns-in_err-builder-clause-refused c = λ within.

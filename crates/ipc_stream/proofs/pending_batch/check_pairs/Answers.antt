@@ -7,11 +7,11 @@ use Rattle.std.specs.List.{AllByRecursion}
 use Rattle.ipc_column.specs.Rows.{Rows}
 use Rattle.ipc_encode.specs.Indices.{FindsIndex}
 use Rattle.ipc_encode.specs.Limits.{IsWithin}
-use Rattle.ipc_encode.specs.Numbers.{no_indices}
 use Rattle.ipc_dict.proofs.pairs.Covered.{covered}
 use Rattle.ipc_stream.specs.Parts.{batch_head}
 use Rattle.ipc_stream.proofs.HeldRows.{refused_pairs}
 use Rattle.ipc_stream.proofs.pending_batch.check_pairs.Goals as goal
+use Rattle.ipc_encode.proofs.Agreeing.{no_indices}
 
 pub returns-in_err-parts_message : goal.returns-in_err-parts_message
 returns-in_err-parts_message c =

@@ -3,8 +3,9 @@ use Rattle.std.proofs.lemmas.Int.{to_z-of_z}
 use Rattle.std.proofs.lemmas.Map.Made.{keys_of-map_values}
 use Rattle.std.specs.List.Sorted.{IsStrictlySortedBy}
 use Rattle.std.specs.Ordering.{int_cmp}
+use Rattle.ipc_column.specs.DictionaryBatches.{IsDictionary}
 use Rattle.ipc_dict_read.specs.DictionariesState.{DictionariesState}
-use Rattle.ipc_dict_read.specs.InForce.{put, in_force, total, body_len_of, AreValues}
+use Rattle.ipc_dict_read.specs.InForce.{put, in_force, total, body_len_of}
 use Rattle.ipc_dict_read.proofs.Puts.{plain-put, total-put, body-le-total, values-put}
 use Rattle.ipc_dict_read.proofs.dictionaries.Dictionaries.apply.Goals as goal
 
@@ -43,7 +44,9 @@ invariant_of-self-2 c =
         c.self.invariant.bytes,
         ap (body_len_of m) (to_z-of_z w64 c.args.id c.ranges.id),
       );
-      values = subst AreValues (sym (after c)) (values-put m c.args.id c.args.values c.self.invariant.values c.requires);
+      values = rw c.in_ok-insert.ensures.entries
+          (values-put c.self.inside.current.entries _ c.in_ok-shared.shared c.self.invariant.values
+          (subst IsDictionary (sym c.in_ok-shared.ensures.ok) c.requires));
     }
 
 pub returns-clause-after : goal.returns-clause-after

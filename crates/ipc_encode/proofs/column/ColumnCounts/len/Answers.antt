@@ -1,6 +1,6 @@
 use Rattle.std.proofs.Common.{◌≡◌, ◌∙◌, ◌+◌, rules}
-use Rattle.ipc_encode.specs.Columns.{column_length, values_length}
-use Rattle.ipc_encode.proofs.Sizes.{counted_size}
+use Rattle.ipc_encode.specs.Columns.{values_length}
+use Rattle.ipc_encode.proofs.Sizes.{counted_size, column_length}
 use Rattle.ipc_encode.proofs.column.ColumnCounts.len.Goals as goal
 
 pub returns : goal.returns

@@ -1,7 +1,7 @@
 -- The text that is printed for a fault of the FlatBuffers format.
 use Rattle.std.specs.Prelude.{ℕ, List, codes}
-use Rattle.ipc_scalar.specs.declared.fault.FlatFault.{FlatFault}
-use Rattle.ipc_scalar.specs.declared.fault.FlatFault.TheVariants as f
+use Rattle.ipc_flat.specs.declared.fault.FlatFault.{FlatFault}
+use Rattle.ipc_flat.specs.declared.fault.FlatFault.TheVariants as f
 
 -- the text that is printed for each fault of the FlatBuffers format
 abbrev pub flat_fault_text : FlatFault → List ℕ
