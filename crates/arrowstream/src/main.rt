@@ -5,13 +5,12 @@ ghost use Rattle.std.specs.Prelude.{IfOk};
 ghost use Rattle.job_command.specs.Arguments.{HasGoodSize};
 
 mod progress;
-mod retry;
 mod schema_file;
 
-use ipc_stream::{Device, Seed, Sink};
+use ipc_device::{Device, Retry, Sink};
+use ipc_stream::Seed;
 use job_command::{Invocation, Usage, read_words, run};
 use progress::ProgressLine;
-use retry::Retry;
 use schema_file::{SchemaFile, open_schema};
 use std::alloc::{AllocError, Global};
 use std::env::Args;

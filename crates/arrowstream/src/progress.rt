@@ -1,8 +1,7 @@
 //! A line on standard error with how far a stream is read.
 ghost use Rattle.std.specs.Prelude.{None};
 
-use crate::retry::Retry;
-use ipc_stream::Progress;
+use ipc_device::{Progress, Retry};
 use std::io::Write;
 use std::time::{Duration, Instant};
 

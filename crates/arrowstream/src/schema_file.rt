@@ -1,6 +1,5 @@
 //! The file with the schema that a job names.
-use crate::retry::Retry;
-use ipc_stream::Device;
+use ipc_device::{Device, Retry};
 use job_command::{Job, Usage};
 use std::fs::File;
 use std::io;

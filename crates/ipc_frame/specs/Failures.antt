@@ -1,17 +1,21 @@
--- How a device counts its failures.
+-- What a refusal states of the failures of a device.
 use Rattle.std.specs.Prelude.{◌≡◌, ◌≢◌, ℕ, ◌⊎◌, Result, MatchResult}
 use Rattle.ipc_model.specs.declared.fault.Fault.{Fault}
 use Rattle.ipc_model.specs.declared.fault.Fault.TheVariants.{OutOfMemory, Read}
+use Rattle.ipc_model.specs.declared.fault.WriteFault.{WriteFault}
+use Rattle.ipc_model.specs.declared.fault.WriteFault.TheVariants.{Write}
 
--- a call succeeds only if none failed before; a failed call sets the count to 1
-abbrev pub CountsFailures : {T E : Type 0} → ℕ → ℕ → Result T E → Type 0
-CountsFailures old new r = MatchResult r (λ _. (old ≡ 0) × (new ≡ 0)) (λ _. new ≡ 1)
-
--- how a fault changes the count of failures: after F36 (`Read`) it is 1; any other fault leaves it
--- as it was
+-- how a refusal of reading changes the count of failures of a source: after F36 (`Read`) it is 1;
+-- any other fault leaves it as it was
 pub record CountsFault (old new : ℕ) (fault : Fault) : Type 0 where
   pub failed : fault ≡ Read → new ≡ 1
   pub stayed : fault ≢ Read → new ≡ old
+
+-- how a refusal of writing changes the count of failures of a sink: after W9 (`Write`) it is 1; any
+-- other fault leaves it as it was
+pub record CountsSinkFault (old new : ℕ) (fault : WriteFault) : Type 0 where
+  pub failed : fault ≡ Write → new ≡ 1
+  pub stayed : fault ≢ Write → new ≡ old
 
 -- a call that reads from a source: it succeeds only if no call of the source has failed; if it
 -- fails, the count changes as `CountsFault` states

@@ -8,5 +8,4 @@ pub mod Failures
 pub mod Pulled
 pub mod Laws
 pub mod Decisions
-pub mod Texts
 pub mod Written

@@ -1,7 +1,7 @@
 ghost use Rattle.std.specs.Prelude.{◌≤◌, vec_len};
 
 use crate::pull::{MAX_CLEARED, make_room, read_after};
-use crate::source::Source;
+use ipc_device::Source;
 use ipc_model::Fault;
 use std::alloc::{AllocError, Global};
 

@@ -10,11 +10,9 @@ pub mod laws;
 mod message_prefix;
 mod partial_message;
 mod pull;
-mod source;
 mod step;
 mod write;
 
 pub use frame::{END_OF_STREAM, Frame};
 pub use frames::Frames;
-pub use source::{Failed, Source};
 pub use write::frame_into;

@@ -1,5 +1,5 @@
 use crate::pull::read_after;
-use crate::source::Source;
+use ipc_device::Source;
 use ipc_model::Fault;
 use std::marker::Model;
 

@@ -7,8 +7,8 @@ ghost use Rattle.ipc_frame.specs.Parts.{bytes_needed};
 ghost use Rattle.ipc_frame.specs.Pulled.{Behind, Comes, ReadsOn};
 
 use crate::partial_message::{Expectation, PartialMessage, bytes_needed};
-use crate::source::Source;
 use crate::step::{MessageStep, conclude};
+use ipc_device::Source;
 use ipc_model::{Fault, Limits};
 use std::alloc::{AllocError, Global};
 

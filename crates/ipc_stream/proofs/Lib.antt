@@ -1,4 +1,3 @@
-pub mod FromMemory
 pub mod MessagesWritten
 pub mod SentBytes
 pub mod HeldRows
@@ -13,5 +12,3 @@ pub mod BatchSent
 pub mod ColumnRefusals
 pub mod Chains
 pub mod OverLimit
-pub mod Beginnings
-pub mod Reporting

@@ -1,6 +1,5 @@
 pub mod OpenStreams
 pub mod Dictionaries
-pub mod Failures
 pub mod Writing
 pub mod Texts
 pub mod Writer
@@ -8,4 +7,3 @@ pub mod Parts
 pub mod Messages
 pub mod PendingBatches
 pub mod RoundTrip
-pub mod Progress

@@ -9,8 +9,8 @@ ghost use Rattle.ipc_stream.specs.Writing.{AcceptsBatch, RefusesBatch};
 
 use crate::pending_batch::PendingBatch;
 use crate::pending_rows::PendingRows;
-use crate::sink::Sink;
 use crate::writer::StreamWriter;
+use ipc_device::Sink;
 use ipc_model::{Items, Text, Value, WriteFault};
 
 /// A batch of a `StreamWriter` whose rows are pushed one by one (Arrow Columnar Format,

@@ -15,8 +15,8 @@ use crate::column_messages::column_messages;
 use crate::messages::schema_message;
 use crate::pending_batch::PendingBatch;
 use crate::sending::{send, send_messages, send_segmented};
-use crate::sink::Sink;
 use ipc_column::Batch;
+use ipc_device::Sink;
 use ipc_dict::{Dictionaries, Kept, Seed, has_short_messages};
 use ipc_encode::BufferPool;
 use ipc_model::{BatchRows, Items, Limits, Schema, Text, Value, WriteFault};
@@ -77,9 +77,10 @@ fn dictionary_columns(alloc: Global, schema: &Schema) -> Result<Dictionaries, Wr
 }
 
 impl OpenStream {
-    // Sends the message of a schema.
+    // Sends the message of a schema. The values of dictionaries are hashed with this seed.
     pub(crate) fn begin<W: Sink>(
         alloc: Global,
+        seed: Seed,
         limits: &Limits,
         sink: &mut W,
         schema: &Schema,
@@ -88,7 +89,7 @@ impl OpenStream {
           limits = limits.now;
           schema = schema.now;
           kept = kept_at_start schema.now;
-          seed = Seed.Fixed;
+          seed = seed;
         }) }
         ensures counted { IfOk result
             (λ stream. AreCounted stream.schema.fields stream.kept) }
@@ -108,18 +109,11 @@ impl OpenStream {
             kept,
             row_buffers: BufferPool::new(alloc),
             column_buffers: Vec::new(alloc),
-            seed: Seed::Fixed,
+            seed,
             alloc,
         };
         send(sink, &bytes)?;
         Ok(stream)
-    }
-
-    // Hashes the values of the dictionaries of later batches with this seed.
-    pub(crate) fn set_seed(&mut self, seed: Seed)
-        ensures { self.new ≡ record self.old { seed = seed } }
-    {
-        self.seed = seed;
     }
 
     // Begins a batch with these pairs, whose rows are pushed. Nothing is sent.

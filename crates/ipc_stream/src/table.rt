@@ -6,7 +6,8 @@ ghost use Rattle.ipc_stream.specs.Writing.{AcceptsTable, BreaksOff, IsWithinLimi
 
 use crate::open_stream::OpenStream;
 use crate::sending::send_end;
-use crate::sink::Sink;
+use ipc_device::Sink;
+use ipc_dict::Seed;
 use ipc_model::{Limits, Table, WriteFault};
 use std::alloc::Global;
 
@@ -24,7 +25,7 @@ fn write_messages<W: Sink>(
     ensures broken { IfErr result (λ fault. BreaksOff limits.now table.now (W.written sink.old)
         (W.written sink.new) (W.failures sink.old) (W.failures sink.new) fault) }
 {
-    let mut stream = OpenStream::begin(alloc, limits, sink, &table.schema)?;
+    let mut stream = OpenStream::begin(alloc, Seed::Fixed, limits, sink, &table.schema)?;
     for batch in table.batches.as_slice() {
         stream.send_batch(sink, batch)?;
     }

@@ -15,3 +15,5 @@ pub mod Answered
 pub mod Readers
 pub mod Calls
 pub mod Wider
+pub mod Beginnings
+pub mod Reporting

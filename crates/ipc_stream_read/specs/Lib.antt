@@ -13,3 +13,5 @@ pub mod StreamStates
 pub mod Taken
 pub mod Reader
 pub mod Laws
+pub mod Ends
+pub mod Progress

@@ -14,7 +14,7 @@ use crate::end::End;
 use crate::source_reading::{NextItem, read_next, read_schema};
 use crate::stream_phase::StreamPhase;
 use ipc_column::Batch;
-use ipc_frame::Source;
+use ipc_device::Source;
 use ipc_model::{Fault, Field, Items, Limits, Schema, Text};
 use std::alloc::Global;
 use std::marker::Model;

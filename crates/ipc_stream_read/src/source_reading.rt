@@ -8,7 +8,7 @@ use crate::decoder::Decoder;
 use crate::end::End;
 use crate::event::Event;
 use ipc_column::Batch;
-use ipc_frame::Source;
+use ipc_device::Source;
 use ipc_model::{Fault, Items, Text};
 
 // What comes after the schema.

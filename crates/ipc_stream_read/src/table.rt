@@ -13,7 +13,7 @@ use crate::decoder::Decoder;
 use crate::end::End;
 use crate::source_reading::{NextItem, read_next, read_schema};
 use ipc_column::Batch;
-use ipc_frame::Source;
+use ipc_device::Source;
 use ipc_model::{BatchRows, Batches, Fault, Items, Limits, Table, Text};
 use std::alloc::Global;
 

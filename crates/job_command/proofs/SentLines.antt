@@ -8,7 +8,7 @@ use Rattle.std.specs.Prelude.{OnOk}
 use Rattle.ipc_model.specs.Texts.{with_dots, steps_text, write_fault_text}
 use Rattle.ipc_model.specs.declared.fault.WriteFault.{WriteFault}
 use Rattle.ipc_model.specs.declared.fault.WriteFault.TheVariants as w
-use Rattle.ipc_stream.specs.Failures.{CountsFailures}
+use Rattle.ipc_device.specs.Failures.{CountsFailures}
 use Rattle.job_command.specs.Lines.{write_line}
 
 -- after a part that went out, the next one

@@ -1,5 +1,5 @@
 -- The line that is printed for a job that stopped.
-use Rattle.std.specs.Prelude.{◌≡◌, ◌++◌, ◌∷◌, [], ℕ, List, MatchResult, Option, Result, Ok, Err, ⊤}
+use Rattle.std.specs.Prelude.{◌≡◌, ◌++◌, ◌∷◌, [], ℕ, List, Option, Result, Ok, Err, ⊤}
 use Rattle.std.specs.Prelude.{◌⊎◌, Bool, IsTrue, codes}
 use Rattle.std.specs.Io.KnownBytes.{Appends}
 use Rattle.ipc_model.specs.Texts.{fault_text, stop_line, write_fault_text}
@@ -54,8 +54,3 @@ PrintsStopLines explain old new failures (Ok done) = new ≡ old
 PrintsStopLines explain old new failures (Err why) = failures ≡ 0 → (more : List ℕ)
     × ((more ≡ []) ⊎ (IsTrue explain × ExplainsStop why more))
     × Appends old new (stop_text why ++ 10 ∷ more)
-
--- a sink's count of failures before and after a part of a line: it stays, or a call failed and it
--- is 1
-abbrev pub SendsPart : {T E : Type 0} → ℕ → ℕ → Result T E → Type 0
-SendsPart old new r = MatchResult r (λ _. new ≡ old) (λ _. new ≡ 1)

@@ -2,7 +2,7 @@
 ghost use Rattle.std.specs.Io.KnownBytes.{Appends};
 ghost use Rattle.std.specs.Prelude.{◌≡◌, ◌≢◌, ◌⊎◌, ◌++◌, ◌∷◌, [], Result, Some, OnOk, is_some, ⊤};
 ghost use Rattle.std.specs.Prelude.{IfSome, IsTrue};
-ghost use Rattle.ipc_stream.specs.Failures.{CountsFailures};
+ghost use Rattle.ipc_device.specs.Failures.{CountsFailures};
 ghost use Rattle.job_command.specs.Jobs.{Answers, AnswersCsv, AnswersPrint, AnswersRewrite};
 ghost use Rattle.job_command.specs.Jobs.{AnswersSchemaJob, shape_of};
 ghost use Rattle.job_command.specs.Jobs.{file_bytes, exit_status, failures_of, job_result};
@@ -17,9 +17,9 @@ use crate::explain::explain_record;
 use crate::explain_schema::explain_schema;
 use crate::schema_file::read_schema;
 use crate::stop::Stop;
-use crate::stop_line::send_bytes;
+use ipc_device::{Failed, Progress, Sink, Source, send_all};
 use ipc_model::{Limits, Schema};
-use ipc_stream::{Failed, Progress, Seed, Sink, Source};
+use ipc_stream::Seed;
 use ipc_text_csv::Dialect;
 use ipc_text_json::RowShape;
 use job_explain::{Recorder, explain_write};
@@ -280,7 +280,7 @@ fn write_stop<E: Sink>(messages: &mut E, stop: &Stop, lines: &[u8]) -> Result<()
     ensures failures { CountsFailures (E.failures messages.old) (E.failures messages.new) result }
 {
     stop.write_line(messages)?;
-    send_bytes(messages, lines)
+    send_all(messages, lines)
 }
 
 // Prints why a job stopped, if it did, and returns the exit status.

@@ -6,8 +6,8 @@ ghost use Rattle.job_command.specs.Jobs.{HasNoSchema, IsSchemaOf, IsUnreadable, 
 ghost use Rattle.job_command.specs.Jobs.{failures_of};
 
 use crate::stop::Stop;
+use ipc_device::Source;
 use ipc_model::Schema;
-use ipc_stream::Source;
 use ipc_text_json::schema_from_json_bytes;
 use ipc_text_temporal::TextFault;
 use std::alloc::Global;

@@ -2,15 +2,15 @@
 ghost use Rattle.std.specs.Prelude.{◌≡◌, ◌++◌, ◌∷◌, [], OnOk};
 ghost use Rattle.std.specs.Io.KnownBytes.{Appends};
 ghost use Rattle.job_command.specs.Jobs.{stop_of_csv, stop_of_print, stop_of_rewrite, stop_status};
-ghost use Rattle.job_command.specs.Lines.{SendsPart, stop_text};
-ghost use Rattle.ipc_stream.specs.Failures.{CountsFailures};
+ghost use Rattle.job_command.specs.Lines.{stop_text};
+ghost use Rattle.ipc_device.specs.Failures.{CountsAny, CountsFailures};
 
 use crate::stop_line::{
     end_line, send, send_fault, send_read_fault, send_text_fault, send_write_fault,
 };
 use csv::ByteRecord;
+use ipc_device::{Failed, Sink};
 use ipc_model::{Fault, Schema, WriteFault};
-use ipc_stream::{Failed, Sink};
 use ipc_text_temporal::TextFault;
 
 /// Why a job stopped.
@@ -133,7 +133,7 @@ impl Stop {
     fn send_text<E: Sink>(&self, messages: &mut E) -> Result<(), Failed>
         ensures sent { OnOk result
             (Appends (E.written messages.old) (E.written messages.new) (stop_text self.now)) }
-        ensures failures { SendsPart (E.failures messages.old) (E.failures messages.new) result }
+        ensures failures { CountsAny (E.failures messages.old) (E.failures messages.new) result }
     {
         match self {
             Stop::Read(fault, message) => send_read_fault(messages, fault, *message),

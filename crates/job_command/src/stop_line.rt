@@ -5,11 +5,11 @@ ghost use Rattle.std.specs.Io.KnownBytes.{Appends};
 ghost use Rattle.ipc_model.specs.Texts.{fault_text, label, place_text, steps_text, stop_line};
 ghost use Rattle.ipc_model.specs.Texts.{code_text};
 ghost use Rattle.ipc_text_temporal.specs.FaultLines.{text_fault_line};
-ghost use Rattle.ipc_stream.specs.Failures.{CountsFailures};
-ghost use Rattle.job_command.specs.Lines.{SendsPart, write_line};
+ghost use Rattle.ipc_device.specs.Failures.{CountsAny, CountsFailures};
+ghost use Rattle.job_command.specs.Lines.{write_line};
 
+use ipc_device::{Failed, Sink, send_all};
 use ipc_model::{Fault, WriteFault};
-use ipc_stream::{Failed, Sink};
 use ipc_text_temporal::TextFault;
 use itoa::Buffer;
 
@@ -17,32 +17,16 @@ use itoa::Buffer;
 pub fn send<E: Sink>(messages: &mut E, text: &str) -> Result<(), Failed>
     ensures sent { OnOk result
         (Appends (E.written messages.old) (E.written messages.new) text.now) }
-    ensures failures { SendsPart (E.failures messages.old) (E.failures messages.new) result }
+    ensures failures { CountsAny (E.failures messages.old) (E.failures messages.new) result }
 {
-    send_bytes(messages, text.as_bytes())
-}
-
-// Sends bytes.
-pub fn send_bytes<E: Sink>(messages: &mut E, bytes: &[u8]) -> Result<(), Failed>
-    ensures sent { OnOk result
-        (Appends (E.written messages.old) (E.written messages.new) bytes.now) }
-    ensures failures { SendsPart (E.failures messages.old) (E.failures messages.new) result }
-{
-    let mut sent = 0;
-    while sent < bytes.len() {
-        match messages.write(&bytes[sent..]) {
-            Ok(count) => sent += count,
-            Err(failed) => return Err(failed),
-        }
-    }
-    Ok(())
+    send_all(messages, text.as_bytes())
 }
 
 // Sends the digits of a number.
 fn send_number<E: Sink>(messages: &mut E, number: u64) -> Result<(), Failed>
     ensures sent { OnOk result
         (Appends (E.written messages.old) (E.written messages.new) (decimal number)) }
-    ensures failures { SendsPart (E.failures messages.old) (E.failures messages.new) result }
+    ensures failures { CountsAny (E.failures messages.old) (E.failures messages.new) result }
 {
     let mut digits = Buffer::new();
     send(messages, digits.format(number))
@@ -52,7 +36,7 @@ fn send_number<E: Sink>(messages: &mut E, number: u64) -> Result<(), Failed>
 fn send_label<E: Sink>(messages: &mut E, letter: &str, number: u8, name: &str) -> Result<(), Failed>
     ensures sent { OnOk result (Appends (E.written messages.old) (E.written messages.new)
         (label letter.now number name.now)) }
-    ensures failures { SendsPart (E.failures messages.old) (E.failures messages.new) result }
+    ensures failures { CountsAny (E.failures messages.old) (E.failures messages.new) result }
 {
     send(messages, letter)?;
     send_number(messages, number as u64)?;
@@ -64,7 +48,7 @@ fn send_label<E: Sink>(messages: &mut E, letter: &str, number: u8, name: &str) -
 fn send_code<E: Sink>(messages: &mut E, fault: &Fault) -> Result<(), Failed>
     ensures sent { OnOk result
         (Appends (E.written messages.old) (E.written messages.new) (code_text fault.now)) }
-    ensures failures { SendsPart (E.failures messages.old) (E.failures messages.new) result }
+    ensures failures { CountsAny (E.failures messages.old) (E.failures messages.new) result }
 {
     match fault {
         Fault::UnsupportedType(code) => {
@@ -80,7 +64,7 @@ fn send_code<E: Sink>(messages: &mut E, fault: &Fault) -> Result<(), Failed>
 pub fn send_fault<E: Sink>(messages: &mut E, fault: &Fault) -> Result<(), Failed>
     ensures sent { OnOk result
         (Appends (E.written messages.old) (E.written messages.new) (fault_text fault.now)) }
-    ensures failures { SendsPart (E.failures messages.old) (E.failures messages.new) result }
+    ensures failures { CountsAny (E.failures messages.old) (E.failures messages.new) result }
 {
     send_label(messages, "F", fault.number(), fault.name())?;
     send_code(messages, fault)
@@ -90,7 +74,7 @@ pub fn send_fault<E: Sink>(messages: &mut E, fault: &Fault) -> Result<(), Failed
 pub fn send_read_fault<E: Sink>(messages: &mut E, fault: &Fault, message: u64) -> Result<(), Failed>
     ensures sent { OnOk result (Appends (E.written messages.old) (E.written messages.new)
         (stop_line fault.now message)) }
-    ensures failures { SendsPart (E.failures messages.old) (E.failures messages.new) result }
+    ensures failures { CountsAny (E.failures messages.old) (E.failures messages.new) result }
 {
     match fault {
         Fault::OutOfMemory => send(messages, "out of memory"),
@@ -106,7 +90,7 @@ pub fn send_read_fault<E: Sink>(messages: &mut E, fault: &Fault, message: u64) -
 fn send_steps<E: Sink>(messages: &mut E, path: &[u32]) -> Result<(), Failed>
     ensures sent { OnOk result
         (Appends (E.written messages.old) (E.written messages.new) (steps_text path.now)) }
-    ensures failures { SendsPart (E.failures messages.old) (E.failures messages.new) result }
+    ensures failures { CountsAny (E.failures messages.old) (E.failures messages.new) result }
 {
     let Some((first, rest)) = path.split_first() else {
         return Ok(());
@@ -124,7 +108,7 @@ fn send_steps<E: Sink>(messages: &mut E, path: &[u32]) -> Result<(), Failed>
 fn send_place<E: Sink>(messages: &mut E, fault: &WriteFault) -> Result<(), Failed>
     ensures sent { OnOk result
         (Appends (E.written messages.old) (E.written messages.new) (place_text fault.now)) }
-    ensures failures { SendsPart (E.failures messages.old) (E.failures messages.new) result }
+    ensures failures { CountsAny (E.failures messages.old) (E.failures messages.new) result }
 {
     match fault {
         WriteFault::Row { row, fault } => {
@@ -141,7 +125,7 @@ fn send_place<E: Sink>(messages: &mut E, fault: &WriteFault) -> Result<(), Faile
 pub fn send_write_fault<E: Sink>(messages: &mut E, fault: &WriteFault) -> Result<(), Failed>
     ensures sent { OnOk result
         (Appends (E.written messages.old) (E.written messages.new) (write_line fault.now)) }
-    ensures failures { SendsPart (E.failures messages.old) (E.failures messages.new) result }
+    ensures failures { CountsAny (E.failures messages.old) (E.failures messages.new) result }
 {
     match fault {
         WriteFault::OutOfMemory => send(messages, "out of memory"),
@@ -156,7 +140,7 @@ pub fn send_write_fault<E: Sink>(messages: &mut E, fault: &WriteFault) -> Result
 pub fn send_text_fault<E: Sink>(messages: &mut E, fault: &TextFault) -> Result<(), Failed>
     ensures sent { OnOk result
         (Appends (E.written messages.old) (E.written messages.new) (text_fault_line fault.now)) }
-    ensures failures { SendsPart (E.failures messages.old) (E.failures messages.new) result }
+    ensures failures { CountsAny (E.failures messages.old) (E.failures messages.new) result }
 {
     match fault {
         TextFault::NotFlat => send(messages, "X1 NotFlat"),

@@ -1,13 +1,13 @@
 //! A source that keeps the message that is being read.
 ghost use Rattle.std.specs.Prelude.{◌≡◌, ◌≤◌, ◌<◌, ◌+◌, length, take, IfErr, IfOk};
 ghost use Rattle.std.specs.Io.KnownBytes.{ReadConsumes};
-ghost use Rattle.ipc_frame.specs.Failures.{CountsFailures};
+ghost use Rattle.ipc_device.specs.Failures.{CountsFailures};
 ghost use Rattle.job_explain.specs.Explained.{Explains, ExplainsUnwritten};
 ghost use Rattle.job_explain.specs.Followed.{Follows, StartsRecorder};
 
 use crate::message_record::MessageRecord;
 use crate::writes::explain_write;
-use ipc_frame::{Failed, Source};
+use ipc_device::{Failed, Source};
 use ipc_model::{Fault, Limits, WriteFault};
 use std::alloc::Global;
 use std::mem::replace;

@@ -15,10 +15,10 @@ ghost use Rattle.csv.specs.Reading.{reader_source};
 
 use crate::records::{csv_reader, read_header};
 use crate::rows::RowReader;
-use crate::source_reader::{ReportsFailure, SourceReader};
 use crate::stop::FromCsvStop;
+use ipc_device::{ReportsFailure, Sink, Source, SourceReader};
 use ipc_model::{Items, Limits, Schema, WriteFault};
-use ipc_stream::{BatchWriter, Seed, Sink, Source, StreamWriter};
+use ipc_stream::{BatchWriter, Seed, StreamWriter};
 use ipc_text_csv::{Dialect, check_flat};
 use std::alloc::Global;
 use std::io::Read;

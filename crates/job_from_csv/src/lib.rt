@@ -4,7 +4,6 @@
 mod convert;
 mod records;
 mod rows;
-mod source_reader;
 mod stop;
 
 pub use convert::from_csv;

@@ -11,9 +11,9 @@ ghost use Rattle.job_from_csv.specs.Records.{FindsRecord, IsSetUp, HasReadRecord
 ghost use Rattle.job_from_csv.specs.Conversion.{AnswersHeader};
 ghost use Rattle.job_from_csv.specs.Stops.{CountsInputFailure, CountsNextFailure};
 
-use crate::source_reader::ReportsFailure;
 use crate::stop::{FromCsvStop, RecordFault};
 use csv::{ByteRecord, Reader, ReaderBuilder};
+use ipc_device::ReportsFailure;
 use ipc_model::Schema;
 use ipc_text_csv::{Dialect, check_header};
 use ipc_text_temporal::TextFault;

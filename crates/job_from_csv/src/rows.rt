@@ -9,9 +9,9 @@ ghost use Rattle.csv.specs.Reading.{reader_source};
 ghost use Rattle.csv.specs.Records.{fields_of};
 
 use crate::records::next_record;
-use crate::source_reader::ReportsFailure;
 use crate::stop::RecordFault;
 use csv::{ByteRecord, Reader};
+use ipc_device::ReportsFailure;
 use ipc_model::{Items, Row, Schema};
 use ipc_text_csv::{Dialect, fill_row_from_csv};
 use ipc_text_temporal::TextFault;

@@ -1,8 +1,7 @@
 -- Text that was put, part by part.
 use Rattle.std.proofs.Common.{◌≡◌, ◌∙◌, refl, sym, ap, subst, ℕ, ◌+◌, ◌≤◌, List, [], ◌++◌, length, take, drop, Option, Some, None}
 use Rattle.std.proofs.Common.{append_assoc, append-nil, take-append-drop, arith, length-append, length-drop}
-use Rattle.std.specs.Io.KnownBytes.{Appends, Keeps}
-use Rattle.ipc_stream.proofs.SentBytes.{SentSome}
+use Rattle.std.specs.Io.KnownBytes.{Appends}
 use Rattle.job_print.specs.declared.line_buffer.PrintFault.{PrintFault}
 use Rattle.job_print.specs.declared.line_buffer.PrintFault.TheVariants.{Write, OutOfMemory}
 use Rattle.job_print.specs.Output.{Output, output, AppendsText, Puts, PutFails}
@@ -101,19 +100,13 @@ grows_sent (Some xs) (Some ys) bytes sent p =
     ∙ (append_assoc xs (take sent bytes) (drop sent bytes)
     ∙ (ap (λ (l : List ℕ). xs ++ l) (take-append-drop sent bytes) ∙ sym (append-nil (xs ++ bytes))))
 
-grows_same : (a b c : Option (List ℕ)) (k0 k1 t : List ℕ) → AppendsText a k0 b k1 t → Keeps b c → AppendsText a k0 c k1 t
-grows_same None b c k0 k1 t p q = tt
-grows_same (Some xs) None c k0 k1 t p q = absurd p
-grows_same (Some xs) (Some ys) None k0 k1 t p q = absurd q
-grows_same (Some xs) (Some ys) (Some zs) k0 k1 t p q = ap (λ (l : List ℕ). l ++ k1) q ∙ p
-
--- the sink failed behind the first of the bytes
-pub sent_cut : (old now new : Option (List ℕ)) (f0 f1 f2 : ℕ) (bytes : List ℕ) (sent : ℕ) → SentSome old now f0 f1 bytes sent
-    → Keeps now new → f2 ≡ 1 → PutFails (output old f0 bytes) new f2 [] Write
-sent_cut old now new f0 f1 f2 bytes sent i kept failed = record {
-  behind = drop sent bytes;
-  bytes = grows_same old now new bytes (drop sent bytes) [] (grows_sent old now bytes sent i.appended) kept;
-  few = omega (arith, length-drop sent bytes, length-append bytes []);
+-- the sink failed after a beginning of the bytes
+pub sent_cut : (old new : Option (List ℕ)) (f0 f1 : ℕ) (bytes : List ℕ) → (n : ℕ) × Appends old new (take n bytes) → f1 ≡ 1
+    → PutFails (output old f0 bytes) new f1 [] Write
+sent_cut old new f0 f1 bytes (n, appended) failed = record {
+  behind = drop n bytes;
+  bytes = grows_sent old new bytes n appended;
+  few = omega (arith, length-drop n bytes, length-append bytes []);
   failed = λ is. failed;
   stayed = λ other. absurd (other refl);
 }

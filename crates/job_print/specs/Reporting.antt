@@ -1,7 +1,8 @@
 -- Which batches are reported when a stream is printed.
 use Rattle.std.specs.Prelude.{ℕ, List, Option, Result, Ok, Err, ⊤}
 use Rattle.ipc_model.specs.declared.limits.Limits.{Limits}
-use Rattle.ipc_stream.specs.Progress.{Report, ReportsAll, ReportsBefore, ReportsSome}
+use Rattle.ipc_device.specs.Reports.{Report}
+use Rattle.ipc_stream_read.specs.Progress.{ReportsAll, ReportsBefore, ReportsSome}
 use Rattle.job_print.specs.declared.line_buffer.PrintFault.{PrintFault}
 use Rattle.job_print.specs.declared.stop.Outcome.{Outcome}
 use Rattle.job_print.specs.declared.stop.Outcome.TheVariants as o

@@ -19,13 +19,13 @@ use Rattle.ipc_stream_read.specs.declared.end.End.TheVariants.{Closed, Mark}
 use Rattle.ipc_stream_read.specs.Stream.{State, Event, schema, batch, initial_state, Run, events_of}
 use Rattle.ipc_stream_read.specs.Stream.{Denotes}
 use Rattle.ipc_stream_read.specs.Stream.{OpensStream}
-use Rattle.ipc_stream_read.specs.Failures.{CountsFault}
+use Rattle.ipc_frame.specs.Failures.{CountsFault, CountsSinkFault}
+use Rattle.ipc_stream_read.specs.Ends.{as_required}
 use Rattle.ipc_stream_read.specs.Reasons.{Ends, IsOutside, Reads}
 use Rattle.ipc_stream_read.specs.Reader.{Reader, in_force_of}
 use Rattle.ipc_stream_read.specs.Counts.{count_up, messages_in}
 use Rattle.ipc_text_json.specs.SchemaJson.{schema_text}
 use Rattle.ipc_text_temporal.specs.declared.fault.TextFault.{TextFault}
-use Rattle.ipc_text_temporal.specs.declared.fault.TextFault.TheVariants as x
 use Rattle.job_print.specs.declared.form.Form.{Form}
 use Rattle.job_print.specs.declared.form.PrintOptions.{PrintOptions}
 use Rattle.job_print.specs.declared.line_buffer.PrintFault.{PrintFault}
@@ -53,13 +53,6 @@ stream_text form s batches =
 abbrev pub last_batch_text : Form → Schema → List BatchRows → List ℕ
 last_batch_text form s batches =
     last_lines (front_text form s) (batch_heading form) (line_of form s.fields) batches
-
--- how reading ends for a caller: at the source's end, with F4 if the end mark is required
-abbrev pub as_required : Bool → Result End Fault → Result End Fault
-as_required mark (Err fault) = Err fault
-as_required mark (Ok Mark) = Ok Mark
-as_required true (Ok Closed) = Err Truncated
-as_required false (Ok Closed) = Ok Closed
 
 -- the bytes that were taken denote a table and its end, which is the end mark if that is required,
 -- and exactly its text was printed: the front, the rows in order, and the text at the end. Under a
@@ -175,29 +168,6 @@ pub data PrintsSome (options : PrintOptions) (limits : Limits)
       ++ tail)
       → AreLast limits σ rest new behind
       → PrintsSome options limits old new written_old written_new
-
--- the exit status of a refusal of texts
-abbrev pub text_status : TextFault → ℕ
-text_status x.OutOfMemory = write_fault_status w.OutOfMemory
-text_status _ = 1
-
--- the exit status of a program that stopped: memory ran out, a device failed, or what was read is
--- refused
-abbrev pub stop_status : PrintStop → ℕ
-stop_status (stop.Read fault message) = fault_status fault
-stop_status (stop.Write fault) = write_fault_status fault
-stop_status (stop.Text fault) = text_status fault
-
--- the exit status of a program that prints
-abbrev pub exit_status : {T : Type 0} → Result T PrintStop → ℕ
-exit_status (Ok done) = 0
-exit_status (Err why) = stop_status why
-
--- the sink's count of failures before and after a call that returned this fault: at W9 it is 1, and
--- any other fault leaves it as it was
-pub record CountsSinkFault (old new : ℕ) (fault : WriteFault) : Type 0 where
-  pub failed : fault ≡ w.Write → new ≡ 1
-  pub stayed : fault ≢ w.Write → new ≡ old
 
 -- the counts of failures of source and sink before and after a call with this result. At Ok neither
 -- ever failed. At `Read` the source's count is 1 if the fault is F36, and another fault leaves it;

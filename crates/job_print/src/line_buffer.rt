@@ -13,8 +13,8 @@ use crate::form::Form;
 use crate::line::add_line;
 use crate::number_rows::{NumberForm, print_number_rows};
 use ipc_column::Batch;
+use ipc_device::{Failed, Sink, send_all};
 use ipc_model::Field;
-use ipc_stream::Sink;
 use std::alloc::{AllocError, Global};
 use std::marker::Model;
 
@@ -49,14 +49,10 @@ pub(crate) fn send<W: Sink>(sink: &mut W, text: &[u8]) -> Result<(), PrintFault>
         (W.written sink.new) (W.failures sink.new) [] [] result }
     ensures only { IfErr result (λ fault. fault ≡ PrintFault.Write) }
 {
-    let mut sent = 0;
-    while sent < text.len() {
-        match sink.write(&text[sent..]) {
-            Ok(count) => sent += count,
-            Err(_) => return Err(PrintFault::Write),
-        }
+    match send_all(sink, text) {
+        Ok(()) => Ok(()),
+        Err(Failed) => Err(PrintFault::Write),
     }
-    Ok(())
 }
 
 // Adds a text of any length after the first `start` bytes, and returns where it ends.

@@ -16,8 +16,8 @@ use crate::bytes::{put_array, put_byte, put_word};
 use crate::digits::put_i64;
 use crate::line_buffer::{PrintFault, send};
 use ipc_column::{Batch, Numbers};
+use ipc_device::Sink;
 use ipc_model::{DataType, Field, IntBits};
-use ipc_stream::Sink;
 use std::alloc::{AllocError, Global};
 
 /// The form of rows of numbers.

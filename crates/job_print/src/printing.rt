@@ -14,37 +14,23 @@ ghost use Rattle.job_print.specs.Output.{output, PrintsAs};
 ghost use Rattle.job_print.specs.Reporting.{ReportsPrintedBatches, ReportsOutcome};
 ghost use Rattle.job_print.specs.Streams.{AnswersFirst, AnswersPrintedTable, IsReadToEnd, Prints};
 ghost use Rattle.job_print.specs.Streams.{PrintsAll};
-ghost use Rattle.job_print.specs.Streams.{PrintsBatches, as_required};
+ghost use Rattle.job_print.specs.Streams.{PrintsBatches};
 ghost use Rattle.job_print.specs.Streams.{PrintsSome, PrintsStream, ReachesLimit};
 ghost use Rattle.job_print.specs.Streams.{CountsPrintFailures};
-ghost use Rattle.job_print.specs.Streams.{exit_status, outcome_tail, write_fault};
+ghost use Rattle.job_print.specs.Streams.{outcome_tail, write_fault};
 
 use crate::batch_text::print_batch;
 use crate::form::{Form, PrintOptions, count_wanted, has_reached};
 use crate::line_buffer::{LineBuffer, PrintFault};
 use crate::stop::{Outcome, PrintCounts, PrintStop};
+use ipc_device::{Progress, Sink, Source};
 use ipc_model::{Fault, Limits, Schema, WriteFault};
-use ipc_stream::{End, Progress, Sink, Source, StreamReader};
+use ipc_stream_read::{End, StreamReader};
 use ipc_text_csv::{check_flat, csv_header};
 use ipc_text_json::schema_json;
 use ipc_text_temporal::TextFault;
 use itoa::Buffer;
 use std::alloc::{AllocError, Global};
-
-// The end of a stream that was read, or F4 if it is not the mark that is required.
-fn check_end(end: End, require_mark: bool) -> Result<End, Fault>
-    ensures { result ≡ as_required require_mark (Ok end) }
-{
-    match end {
-        End::Mark => Ok(End::Mark),
-        End::Closed => {
-            if require_mark {
-                return Err(Fault::Truncated);
-            }
-            Ok(End::Closed)
-        }
-    }
-}
 
 // Prints the rows of a stream up to the limit, and returns how that ended. The text of each batch
 // is sent before the next one is read, and the batch is reported then.
@@ -90,7 +76,7 @@ fn print_batches<R: Source, W: Sink, P: Progress>(
             // `next` returned None, so `end` is Some: the default is never used.
             Ok(None) => {
                 let end = stream.end().unwrap_or(End::Closed);
-                match check_end(end, options.require_mark) {
+                match end.check_mark(options.require_mark) {
                     Ok(_) => return Ok(Outcome::Whole(end, tally)),
                     Err(missing) => return Ok(Outcome::Broken(missing)),
                 }

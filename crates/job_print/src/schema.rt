@@ -10,8 +10,9 @@ use crate::form::Form;
 use crate::line_buffer::{LineBuffer, PrintFault};
 use crate::printing::{print_front, write_fault_of};
 use crate::stop::PrintStop;
+use ipc_device::{Sink, Source};
 use ipc_model::{Limits, Schema};
-use ipc_stream::{Sink, Source, StreamReader};
+use ipc_stream_read::StreamReader;
 use std::alloc::Global;
 
 // Prints the line of a schema, and sends it.

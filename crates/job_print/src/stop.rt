@@ -4,7 +4,7 @@ ghost use Rattle.std.specs.Prelude.{◌≡◌};
 ghost use Rattle.ipc_stream_read.specs.Counts.{count_up};
 
 use ipc_model::{Fault, WriteFault};
-use ipc_stream::End;
+use ipc_stream_read::End;
 use ipc_text_temporal::TextFault;
 
 /// Why printing stopped.

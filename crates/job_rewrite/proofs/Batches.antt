@@ -27,7 +27,8 @@ use Rattle.ipc_stream.specs.Writing.{AcceptsBatch, RefusesBatch, Sent, NotSentWh
 use Rattle.ipc_stream_read.proofs.Runs.{run_one, run_then, messages_one, messages_then}
 use Rattle.ipc_stream.proofs.Chains.{batches_more, kept_then}
 use Rattle.job_rewrite.specs.declared.stop.RewriteStop.TheVariants as stop
-use Rattle.job_rewrite.specs.Rewriting.{CopiesBatches, CopiesRest, RefusesLast, as_required}
+use Rattle.job_rewrite.specs.Rewriting.{CopiesBatches, CopiesRest, RefusesLast}
+use Rattle.ipc_stream_read.specs.Ends.{as_required}
 
 -- these batches were read behind the schema, and sent
 pub record Copied (old now : Reader) (before after : Writer) : Type 0 where

@@ -16,6 +16,7 @@ use Rattle.ipc_model.specs.declared.table.BatchRows.{BatchRows}
 use Rattle.ipc_model.specs.declared.table.Table.{Table}
 use Rattle.ipc_stream_read.specs.declared.end.End.{End}
 use Rattle.ipc_stream_read.specs.declared.end.End.TheVariants.{Mark, Closed}
+use Rattle.ipc_stream_read.specs.Ends.{as_required}
 use Rattle.ipc_stream_read.specs.Failures.{CountsFault}
 use Rattle.ipc_stream_read.specs.Reasons.{Reads}
 use Rattle.ipc_stream_read.specs.Stream.{schema, batch, initial_state, events_of, Denotes, EndsStream, IsTableOf, OpensStream}
@@ -25,13 +26,13 @@ use Rattle.ipc_stream.specs.Writing.{AcceptsBatch, AcceptsTable, BreaksOff, CutS
 use Rattle.ipc_stream.specs.Writing.{RefusesBatch, RefusesSchema, Sent}
 use Rattle.ipc_stream_read.proofs.Answered.{answers_marked, answers_closed}
 use Rattle.ipc_stream_read.proofs.Runs.{reads_after}
-use Rattle.ipc_stream.proofs.Beginnings.{Holds, front_begins, holds_closed, holds_marked, left_of, reads_of, schema_begins, table_begins}
+use Rattle.ipc_stream_read.proofs.Beginnings.{Holds, front_begins, holds_closed, holds_marked, left_of, reads_of, schema_begins, table_begins}
 use Rattle.ipc_stream.proofs.TablesWritten.{IsOut, batch_breaks, end_broken, start_breaks}
 use Rattle.job_rewrite.specs.declared.stop.RewriteStop.{RewriteStop}
 use Rattle.job_rewrite.specs.declared.stop.RewriteStop.TheVariants as stop
 use Rattle.job_rewrite.specs.RewriteLimits.{at_least_standard}
 use Rattle.job_rewrite.specs.Rewriting.{AnswersRewrittenTable, BreaksReading, unopened, broken, BreaksWriting, unstarted, refused}
-use Rattle.job_rewrite.specs.Rewriting.{unended, Rewrites, CountsRewriteFailures, as_required, with_batch}
+use Rattle.job_rewrite.specs.Rewriting.{unended, Rewrites, CountsRewriteFailures, with_batch}
 
 -- the batch behind the first ones is inside
 inside_behind : (xs more : List BatchRows) (last : BatchRows) → length xs < length (xs ++ last ∷ more)

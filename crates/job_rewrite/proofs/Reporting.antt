@@ -2,8 +2,9 @@
 use Rattle.std.specs.Prelude.{⊤}
 use Rattle.std.proofs.Common.{ℕ, List, Option, Result, Ok, Err, inr}
 use Rattle.ipc_model.specs.declared.limits.Limits.{Limits}
-use Rattle.ipc_stream.specs.Progress.{Report, ReportsAll}
-use Rattle.ipc_stream.proofs.Reporting.{some_of_all}
+use Rattle.ipc_device.specs.Reports.{Report}
+use Rattle.ipc_stream_read.specs.Progress.{ReportsAll}
+use Rattle.ipc_stream_read.proofs.Reporting.{some_of_all}
 use Rattle.job_rewrite.specs.declared.stop.RewriteStop.{RewriteStop}
 use Rattle.job_rewrite.specs.declared.stop.RewriteStop.TheVariants as stop
 use Rattle.job_rewrite.specs.Reporting.{ReportsSentBatches}

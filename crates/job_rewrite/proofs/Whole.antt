@@ -1,7 +1,7 @@
 -- A whole stream, from its schema on.
 use Rattle.std.proofs.Common.{◌≡◌, ◌∙◌, refl, sym, ap, subst, ℕ, List, [], ◌∷◌, ◌++◌, map, Option, Some, None, Result, Ok, Err}
 use Rattle.std.proofs.Common.{arith}
-use Rattle.std.specs.Prelude.{⊤, Bool, IsTrue, MatchResult}
+use Rattle.std.specs.Prelude.{Bool, IsTrue, false}
 use Rattle.std.specs.List.{AllByRecursion}
 use Rattle.std.specs.Io.KnownBytes.{Consumes}
 use Rattle.std.proofs.KnownBytes.{Appends-trans, Consumes-trans}
@@ -19,7 +19,7 @@ use Rattle.ipc_stream_read.specs.Stream.{InForce, schema, batch, Run, events_of,
 use Rattle.ipc_stream_read.specs.Counts.{count_up, messages_in}
 use Rattle.ipc_stream.specs.Dictionaries.{SendsBatch, SendsBatches, SendsTable, kept_after, kept_at_start}
 use Rattle.ipc_stream.specs.OpenStreams.{OpenStreamState}
-use Rattle.ipc_stream.specs.Writer.{Writer, StartsWriter, StartFails}
+use Rattle.ipc_stream.specs.Writer.{FinishFails, Writer, StartsWriter, StartFails}
 use Rattle.ipc_stream.specs.Writing.{AcceptsBatch, AcceptsSchema, AcceptsTable, CutShort, NotSentWhole}
 use Rattle.ipc_stream.specs.Writing.{RefusesBatch, Sent}
 use Rattle.ipc_stream_read.proofs.Answered.{taken_denotes}
@@ -112,7 +112,8 @@ module _ {limits : Limits} (start : Option (List ℕ)) (s t : Reader) (before : 
         let counted = r.counted 1 (omega (arith, o.one_message)) in
         omega (arith, counted, reads_behind.1)
 
-  table_copied : (required : Bool) (after : Writer) (end : End) (w1 : Option (List ℕ)) (f1 : ℕ)
+  -- where all batches and the mark were sent, so was the table
+  pub table_copied : (required : Bool) (after : Writer) (end : End) (w1 : Option (List ℕ)) (f1 : ℕ)
       → CopiesRest s t before after (Ok end) → (IsTrue required → end ≡ Mark) → Sent EndsStream after.written w1 after.failures f1
       → CopiesTable required limits start t.remaining w0 w1 f0 f1
   table_copied required after end w1 f1 r marked mark =
@@ -146,16 +147,13 @@ module _ {limits : Limits} (start : Option (List ℕ)) (s t : Reader) (before : 
       unended h.0 (table_with r.batches) end after.written after.failures h.1 h.2 h.3 (all_accepted r.batches r.accepts)
       (all_sent r.batches after.written after.failures r.sent) refl cut
 
-  -- where all batches were sent, the stream is written as far as the last call says
-  pub stream_ended : (required : Bool) (after : Writer) (end : End) (w1 : Option (List ℕ)) (f1 : ℕ) (r : Result ⊤ RewriteStop)
-      → CopiesRest s t before after (Ok end) → (IsTrue required → end ≡ Mark)
-      → MatchResult r (λ _. Sent EndsStream after.written w1 after.failures f1)
-      (λ why. (why ≡ stop.Write w.Write) × CutShort EndsStream after.written w1 f1)
-      → Rewrites required limits start t.remaining w0 w1 f0 f1 r
-  stream_ended required after end w1 f1 (Ok done) r marked mark = table_copied required after end w1 f1 r marked mark
-  stream_ended required after end w1 f1 (Err why) r marked (is, cut) =
-      subst (λ (e : RewriteStop). Rewrites required limits start t.remaining w0 w1 f0 f1 (Err e)) (sym is)
-      (mark_refused after end w1 f1 r cut)
+  -- where the mark was not sent after all batches, the sink failed
+  pub end_refused : (required : Bool) (after : Writer) (end : End) (w1 : Option (List ℕ)) (f1 : ℕ) (fault : WriteFault) → after.failed ≡ false
+      → CopiesRest s t before after (Ok end) → FinishFails after w1 f1 fault
+      → Rewrites required limits start t.remaining w0 w1 f0 f1 (Err (stop.Write fault))
+  end_refused required after end w1 f1 w.Write works r fails = mark_refused after end w1 f1 r fails.1
+  end_refused required after end w1 f1 w.Failed works r fails = absurd (cc (works, fails.0))
+  end_refused required after end w1 f1 fault works r fails = absurd fails
 
   -- the schema and these batches were read
   all_read : (batches : List BatchRows) (x : List ℕ) → Run s.limits (Some (in_force_of s)) x (map batch batches) (Some (in_force_of t))

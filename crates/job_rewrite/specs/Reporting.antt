@@ -1,7 +1,8 @@
 -- Which batches are reported when a stream is rewritten.
 use Rattle.std.specs.Prelude.{ℕ, List, Option, Result, Ok, Err, ⊤}
 use Rattle.ipc_model.specs.declared.limits.Limits.{Limits}
-use Rattle.ipc_stream.specs.Progress.{Report, ReportsAll, ReportsBefore, ReportsSome}
+use Rattle.ipc_device.specs.Reports.{Report}
+use Rattle.ipc_stream_read.specs.Progress.{ReportsAll, ReportsBefore, ReportsSome}
 use Rattle.job_rewrite.specs.declared.stop.RewriteStop.{RewriteStop}
 use Rattle.job_rewrite.specs.declared.stop.RewriteStop.TheVariants as stop
 

@@ -13,7 +13,8 @@ use Rattle.ipc_model.specs.declared.table.BatchRows.{BatchRows}
 use Rattle.ipc_model.specs.declared.table.Table.{Table}
 use Rattle.ipc_stream_read.specs.declared.end.End.{End}
 use Rattle.ipc_stream_read.specs.declared.end.End.TheVariants.{Closed, Mark}
-use Rattle.ipc_stream_read.specs.Failures.{CountsFault}
+use Rattle.ipc_frame.specs.Failures.{CountsFault, CountsSinkFault}
+use Rattle.ipc_stream_read.specs.Ends.{as_required}
 use Rattle.ipc_stream_read.specs.Reader.{Reader, in_force_of}
 use Rattle.ipc_stream_read.specs.Reasons.{Reads}
 use Rattle.ipc_stream_read.specs.Stream.{batch, initial_state, Run, Denotes, DenotesClosed}
@@ -32,13 +33,6 @@ use Rattle.job_rewrite.specs.RewriteLimits.{at_least_standard}
 -- a table with one more batch
 abbrev pub with_batch : Table → BatchRows → Table
 with_batch t last = record { schema = t.schema; batches = t.batches ++ last ∷ [] }
-
--- how reading ends for a caller: at the source's end, with F4 if the end mark is required
-abbrev pub as_required : Bool → Result End Fault → Result End Fault
-as_required mark (Err fault) = Err fault
-as_required mark (Ok Mark) = Ok Mark
-as_required true (Ok Closed) = Err Truncated
-as_required false (Ok Closed) = Ok Closed
 
 -- the bytes that were taken denote a table and its end, which is the end mark if that is required,
 -- and this table was sent with the end mark
@@ -131,12 +125,6 @@ AnswersRewrittenTable limits t written_old written_new failures_old failures_new
 AnswersRewrittenTable limits t written_old written_new failures_old failures_new
     (Err (stop.Write fault)) =
     BreaksOff limits t written_old written_new failures_old failures_new fault
-
--- how a fault changes the sink's count of failures: after W9 it is 1; any other fault leaves it as
--- it was
-pub record CountsSinkFault (old new : ℕ) (fault : WriteFault) : Type 0 where
-  pub failed : fault ≡ w.Write → new ≡ 1
-  pub stayed : fault ≢ w.Write → new ≡ old
 
 -- how a result changes the counts of failures of the source and the sink. Success needs 0 before
 -- and after. If reading is refused, the sink did not fail in the call; if writing is refused, the

@@ -16,13 +16,13 @@ ghost use Rattle.job_rewrite.specs.declared.stop.RewriteStop.TheVariants.{Write}
 ghost use Rattle.job_rewrite.specs.RewriteLimits.{at_least_standard};
 ghost use Rattle.job_rewrite.specs.Reporting.{ReportsSentBatches};
 ghost use Rattle.job_rewrite.specs.Rewriting.{AnswersRewrittenTable, CopiesBatches, Rewrites};
-ghost use Rattle.job_rewrite.specs.Rewriting.{as_required};
 ghost use Rattle.job_rewrite.specs.Rewriting.{CountsRewriteFailures};
 
 use crate::limits::at_least_standard;
 use crate::stop::RewriteStop;
-use ipc_model::{Fault, Items, Limits, Schema, Text, WriteFault};
-use ipc_stream::{Batch, End, Progress, Seed, Sink, Source, StreamReader, StreamWriter};
+use ipc_device::{Progress, Sink, Source};
+use ipc_model::{Items, Limits, Schema, Text, WriteFault};
+use ipc_stream::{Batch, End, Seed, StreamReader, StreamWriter};
 use std::alloc::Global;
 
 // Writes the rows of a batch, with these pairs.
@@ -47,21 +47,6 @@ fn copy_batch<W: Sink>(
     ensures works { OnOk result (writer.new.failed ≡ false) }
 {
     writer.write_columns(batch, pairs)
-}
-
-// The end of a stream that was read, or F4 if it is not the mark that is required.
-fn check_end(end: End, require_mark: bool) -> Result<End, Fault>
-    ensures { result ≡ as_required require_mark (Ok end) }
-{
-    match end {
-        End::Mark => Ok(End::Mark),
-        End::Closed => {
-            if require_mark {
-                return Err(Fault::Truncated);
-            }
-            Ok(End::Closed)
-        }
-    }
 }
 
 // Writes each batch that is read, and reports it then, to the end of the stream, which is F4 if it
@@ -99,48 +84,12 @@ fn copy_batches<R: Source, W: Sink, P: Progress>(
                 progress.batch_done(stream.taken(), batches, rows);
             }
             // `next` returned None, so `end` is Some: the default is never used.
-            Ok(None) => match check_end(stream.end().unwrap_or(End::Closed), require_mark) {
+            Ok(None) => match stream.end().unwrap_or(End::Closed).check_mark(require_mark) {
                 Ok(_) => return Ok(()),
                 Err(missing) => return Err(RewriteStop::Read(missing, stream.messages())),
             },
             Err(fault) => return Err(RewriteStop::Read(fault, stream.messages())),
         }
-    }
-}
-
-// Begins the new stream, whose values of dictionaries are hashed with this seed.
-fn begin_stream<W: Sink>(
-    alloc: Global,
-    seed: Seed,
-    limits: &Limits,
-    sink: W,
-    schema: &Schema,
-) -> Result<StreamWriter<W>, (WriteFault, W)>
-    ensures started { IfOk result
-        (λ s. StartsWriter (at_least_standard limits.now) schema.now (W.written sink)
-        (W.failures sink) s) }
-    ensures seeded { IfOk result (λ s. s.seed ≡ seed) }
-    ensures refused { IfErr result (λ e. StartFails (at_least_standard limits.now) schema.now
-        (W.written sink) (W.written e.1) (W.failures sink) (W.failures e.1) e.0) }
-{
-    let mut writer = StreamWriter::start(alloc, at_least_standard(limits), sink, schema)?;
-    writer.set_seed(seed);
-    Ok(writer)
-}
-
-// Ends the new stream with its mark.
-fn end_stream<W: Sink>(writer: StreamWriter<W>) -> (Result<(), RewriteStop>, W)
-    requires { writer.failed ≡ false }
-    ensures ends { MatchResult result.0
-        (λ _. Sent EndsStream writer.written (W.written result.1) writer.failures
-        (W.failures result.1))
-        (λ stop. (stop ≡ Write WriteFault.Write)
-        × CutShort EndsStream writer.written (W.written result.1) (W.failures result.1)) }
-    ensures handed_on { OnOk result.0 (W.held_back result.1 ≡ Some []) }
-{
-    match writer.finish() {
-        Ok(sink) => (Ok(()), sink),
-        Err((fault, sink)) => (Err(RewriteStop::Write(fault)), sink),
     }
 }
 
@@ -166,12 +115,17 @@ fn copy_stream<R: Source, W: Sink, P: Progress>(
         → ReportsSentBatches limits start stream.new.remaining (P.reports progress.old)
         (P.reports progress.new) result.0 }
 {
-    let mut writer = match begin_stream(alloc, seed, &stream.limits(), sink, stream.schema()) {
+    let limits = at_least_standard(&stream.limits());
+    let started = StreamWriter::start_with_seed(alloc, seed, limits, sink, stream.schema());
+    let mut writer = match started {
         Ok(writer) => writer,
         Err((fault, sink)) => return (Err(RewriteStop::Write(fault)), sink),
     };
     match copy_batches(require_mark, stream, &mut writer, progress) {
-        Ok(()) => end_stream(writer),
+        Ok(()) => match writer.finish() {
+            Ok(sink) => (Ok(()), sink),
+            Err((fault, sink)) => (Err(RewriteStop::Write(fault)), sink),
+        },
         Err(stop) => (Err(stop), writer.into_inner()),
     }
 }

@@ -27,7 +27,8 @@ use Rattle.job_print.specs.Output.{Output, output, Puts, PutFails}
 use Rattle.job_print.specs.Rows.{lines, batch_lines, last_lines}
 use Rattle.ipc_stream_read.specs.Decoding.{ReportsLastEvent}
 use Rattle.job_print.proofs.streams.Shortest.{last_shortest, none_shorter}
-use Rattle.job_print.specs.Streams.{AreShortest, IsTally, PrintsRows, PrintsPart, PrintsBatches, PutsRows, as_required}
+use Rattle.job_print.specs.Streams.{AreShortest, IsTally, PrintsRows, PrintsPart, PrintsBatches, PutsRows}
+use Rattle.ipc_stream_read.specs.Ends.{as_required}
 use Rattle.job_print.proofs.streams.FirstRows.{within_none, within_all, within_more, wanted_more, wanted_none, wanted_within, below_refused}
 use Rattle.job_print.proofs.streams.FirstRows.{refuses_all, row_count_last, take_fewer}
 use Rattle.job_print.proofs.Puts.{puts_then, puts_not_then, puts_none, missing_all, missing_at, missing_then}

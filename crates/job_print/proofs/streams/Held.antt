@@ -12,6 +12,7 @@ use Rattle.ipc_model.specs.declared.table.Table.{Table}
 use Rattle.ipc_frame.specs.Frames.{end_of_stream}
 use Rattle.ipc_stream_read.specs.declared.end.End.{End}
 use Rattle.ipc_stream_read.specs.declared.end.End.TheVariants.{Mark, Closed}
+use Rattle.ipc_stream_read.specs.Ends.{as_required}
 use Rattle.ipc_stream_read.specs.Failures.{CountsFault}
 use Rattle.ipc_stream_read.specs.Reader.{Reader}
 use Rattle.ipc_stream_read.specs.Reasons.{Reads}
@@ -20,7 +21,7 @@ use Rattle.ipc_stream_read.specs.Taken.{TakesTable}
 use Rattle.ipc_stream_read.proofs.Answered.{answers_marked, answers_closed}
 use Rattle.ipc_stream_read.proofs.OneReading.{at_eos, one_run}
 use Rattle.ipc_text_temporal.specs.declared.fault.TextFault.{TextFault}
-use Rattle.ipc_stream.proofs.Beginnings.{Holds, front_begins, holds_closed, holds_marked, left_of, reads_of, schema_begins, table_begins}
+use Rattle.ipc_stream_read.proofs.Beginnings.{Holds, front_begins, holds_closed, holds_marked, left_of, reads_of, schema_begins, table_begins}
 use Rattle.job_print.specs.declared.form.PrintOptions.{PrintOptions}
 use Rattle.job_print.specs.declared.stop.PrintStop.{PrintStop}
 use Rattle.job_print.specs.declared.stop.PrintStop.TheVariants as stop
@@ -30,7 +31,7 @@ use Rattle.job_print.specs.Forms.{form_fault, row_count, RefusesFirstRow}
 use Rattle.job_print.specs.Output.{Output}
 use Rattle.job_print.specs.Streams.{AnswersPrintedTable, EndsPrinting, HasUnprintableRow, Prints, PrintsFirst, PrintsStream, PrintsTable}
 use Rattle.job_print.specs.Streams.{PrintsText, StopsPrinting}
-use Rattle.job_print.specs.Streams.{as_required, broken, stream_text, refused}
+use Rattle.job_print.specs.Streams.{broken, stream_text, refused}
 use Rattle.job_print.specs.Streams.{unfit, unopened}
 use Rattle.job_print.proofs.streams.FirstRows.{reached_more, refused_within, within_prefix}
 use Rattle.job_print.proofs.streams.Streams.{one_more, reads_opened}

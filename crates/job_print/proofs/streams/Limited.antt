@@ -12,13 +12,14 @@ use Rattle.ipc_model.specs.declared.table.Table.{Table}
 use Rattle.ipc_frame.proofs.OneFrame.{frame_one}
 use Rattle.ipc_stream_read.specs.declared.end.End.{End}
 use Rattle.ipc_stream_read.specs.declared.end.End.TheVariants.{Mark, Closed}
+use Rattle.ipc_stream_read.specs.Ends.{as_required}
 use Rattle.ipc_stream_read.specs.Failures.{CountsFault}
 use Rattle.ipc_stream_read.specs.Reasons.{EndsReading as BreaksOff, IsOutside, Reads}
 use Rattle.ipc_stream_read.specs.Stream.{State, Event, schema, batch, Step, Run, done, more, Denotes, events_of}
 use Rattle.ipc_stream_read.proofs.OneReading.{step_one}
 use Rattle.ipc_stream_read.proofs.Reasons.{told_breaks}
 use Rattle.ipc_text_temporal.specs.declared.fault.TextFault.{TextFault}
-use Rattle.ipc_stream.proofs.Beginnings.{Holds, front_begins, holds_closed, holds_marked, left_of, schema_begins, table_begins}
+use Rattle.ipc_stream_read.proofs.Beginnings.{Holds, front_begins, holds_closed, holds_marked, left_of, schema_begins, table_begins}
 use Rattle.job_print.specs.declared.form.PrintOptions.{PrintOptions}
 use Rattle.job_print.specs.declared.stop.PrintStop.{PrintStop}
 use Rattle.job_print.specs.declared.stop.PrintStop.TheVariants as stop
@@ -26,7 +27,7 @@ use Rattle.job_print.specs.FirstRows.{within, AreWanted, HasReached, WantsMoreRo
 use Rattle.job_print.specs.Forms.{form_fault, row_count}
 use Rattle.job_print.specs.Streams.{AnswersFirst, EndsPrinting, HasUnprintableRow, Prints, PrintsFirst, PrintsTable, ReachesLimit}
 use Rattle.job_print.specs.Streams.{StopsPrinting}
-use Rattle.job_print.specs.Streams.{as_required, broken, stream_text, refused, unfit, unopened}
+use Rattle.job_print.specs.Streams.{broken, stream_text, refused, unfit, unopened}
 use Rattle.job_print.proofs.streams.FirstRows.{below_less, not_both, reached_more, wanted_more}
 use Rattle.job_print.proofs.streams.Held.{TellsRead, lacking_row}
 use Rattle.job_print.proofs.streams.Streams.{one_more, reads_opened}

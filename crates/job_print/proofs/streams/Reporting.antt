@@ -2,9 +2,10 @@
 use Rattle.std.specs.Prelude.{⊤}
 use Rattle.std.proofs.Common.{ℕ, List, Option, Result, Ok, Err}
 use Rattle.ipc_model.specs.declared.limits.Limits.{Limits}
-use Rattle.ipc_stream.specs.Progress.{Report, ReportsAll, ReportsSome}
+use Rattle.ipc_device.specs.Reports.{Report}
+use Rattle.ipc_stream_read.specs.Progress.{ReportsAll, ReportsSome}
 use Rattle.ipc_stream_read.specs.Reader.{Opens, Reader}
-use Rattle.ipc_stream.proofs.Reporting.{opened_some, some_of_all, some_of_before}
+use Rattle.ipc_stream_read.proofs.Reporting.{opened_some, some_of_all, some_of_before}
 use Rattle.job_print.specs.declared.stop.Outcome.{Outcome}
 use Rattle.job_print.specs.declared.stop.Outcome.TheVariants.{Whole, Limited, Broken, Refused}
 use Rattle.job_print.specs.Reporting.{ReportsOutcome}

@@ -1,5 +1,5 @@
 use Rattle.std.proofs.Common.{◌∙◌, sym, inl, None, Err}
-use Rattle.ipc_stream.proofs.Reporting.{unopened_to}
+use Rattle.ipc_stream_read.proofs.Reporting.{unopened_to}
 use Rattle.job_print.specs.declared.stop.PrintStop.TheVariants.{Read}
 use Rattle.job_print.proofs.streams.Held.{printed_closed, printed_marked, stream_tells}
 use Rattle.job_print.proofs.streams.Limited.{printed_first}

@@ -1,8 +1,8 @@
 use Rattle.std.proofs.Common.{◌≡◌, ◌∙◌, ap, subst, sym, inl, inr}
 use Rattle.std.proofs.lemmas.Result.{err_from_is_err_and}
 use Rattle.ipc_model.specs.declared.schema.Schema.{Schema}
-use Rattle.ipc_stream.proofs.Reporting.{progressed_all, progressed_break, progressed_end, progressed_less, progressed_more}
-use Rattle.ipc_stream.proofs.Reporting.{progressed_none}
+use Rattle.ipc_stream_read.proofs.Reporting.{progressed_all, progressed_break, progressed_end, progressed_less, progressed_more}
+use Rattle.ipc_stream_read.proofs.Reporting.{progressed_none}
 use Rattle.job_print.specs.Output.{output}
 use Rattle.job_print.proofs.streams.BatchesRead.{batches_none, batches_limited, batches_more, batches_cut, batches_unsent}
 use Rattle.job_print.proofs.streams.BatchesRead.{batches_refused, batches_end, batches_unmarked, batches_break}
@@ -82,15 +82,15 @@ returns-in-Ok-clause-prints g c =
     let below = c.has_reached.ensures.below _ c.loop-form.invariant.printed.tallies.1 c.if-has_reached.false in
     batches_end c.args.options _ _ _ _ _ _ c.loop-form.invariant.printed below c.end.result c.unwrap_or-end.result _
     (rw c.in-Ok-None.field-0-is at c.in-Ok-None.ensures.next) c.in-Ok-None.ensures.failures c.end.ensures c.unwrap_or-end.ensures
-    (sym c.check_end.ensures ∙ c.in-Ok.is)
+    (sym c.check_mark.ensures ∙ c.in-Ok.is)
 
-pub returns-in-Err-check_end-clause-prints : goal.returns-in-Err-check_end-clause-prints
-returns-in-Err-check_end-clause-prints g c =
+pub returns-in-Err-check_mark-clause-prints : goal.returns-in-Err-check_mark-clause-prints
+returns-in-Err-check_mark-clause-prints g c =
     let below = c.has_reached.ensures.below _ c.loop-form.invariant.printed.tallies.1 c.if-has_reached.false in
     batches_unmarked c.args.options _ _ _ _ _ _ c.loop-form.invariant.printed below c.end.result c.unwrap_or-end.result
-    c.in-Err-check_end.missing
+    c.in-Err-check_mark.missing
     (rw c.in-Ok-None.field-0-is at c.in-Ok-None.ensures.next) c.in-Ok-None.ensures.failures c.end.ensures c.unwrap_or-end.ensures
-    (sym c.check_end.ensures ∙ c.in-Err-check_end.is)
+    (sym c.check_mark.ensures ∙ c.in-Err-check_mark.is)
 
 pub returns-in-Err-clause-prints : goal.returns-in-Err-clause-prints
 returns-in-Err-clause-prints g c =
@@ -127,8 +127,8 @@ returns-in-Ok-clause-reports g c = λ limits start o.
     progressed_end start _ _ _ _ _ (c.loop-form.invariant.reported limits start o) _ c.loop-form.invariant.printed.reading
     (rw c.in-Ok-None.field-0-is at c.in-Ok-None.ensures.next)
 
-pub returns-in-Err-check_end-clause-reports : goal.returns-in-Err-check_end-clause-reports
-returns-in-Err-check_end-clause-reports g c = λ limits start o.
+pub returns-in-Err-check_mark-clause-reports : goal.returns-in-Err-check_mark-clause-reports
+returns-in-Err-check_mark-clause-reports g c = λ limits start o.
     inr (progressed_end start _ _ _ _ _ (c.loop-form.invariant.reported limits start o) _ c.loop-form.invariant.printed.reading
     (rw c.in-Ok-None.field-0-is at c.in-Ok-None.ensures.next))
 

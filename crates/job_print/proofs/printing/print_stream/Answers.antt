@@ -1,6 +1,6 @@
 use Rattle.std.proofs.Common.{Ok, Err, refl}
 use Rattle.std.proofs.lemmas.Result.{err_from_is_err_and}
-use Rattle.ipc_stream.proofs.Reporting.{opened_some}
+use Rattle.ipc_stream_read.proofs.Reporting.{opened_some}
 use Rattle.job_print.specs.Output.{output}
 use Rattle.job_print.proofs.streams.Endings.{behind_front, flushed, unflushed, tail_cut}
 use Rattle.job_print.proofs.FrontPuts.{part_none, part_front, front_sent, front_unsent}

@@ -1,6 +1,6 @@
 use Rattle.std.proofs.Common.{◌∙◌, sym, inl, inr, arith, rules}
 use Rattle.std.proofs.lemmas.Result.{err_from_is_err_and}
-use Rattle.ipc_stream.proofs.Reporting.{progressed_break, progressed_end, progressed_less, progressed_more, progressed_none}
+use Rattle.ipc_stream_read.proofs.Reporting.{progressed_break, progressed_end, progressed_less, progressed_more, progressed_none}
 use Rattle.job_rewrite.proofs.Batches.{copied_none, copied_more, copied_refused, copied_end, copied_unmarked, copied_break}
 use Rattle.job_rewrite.proofs.copying.copy_batches.Goals as goal
 
@@ -15,13 +15,13 @@ returns-in_err-copy_batch-in-Ok-Some-clause-copies g c =
 pub returns-in-Ok-clause-copies : goal.returns-in-Ok-clause-copies
 returns-in-Ok-clause-copies g c =
     copied_end _ _ _ _ _ c.loop-batch.invariant.copied c.args.require_mark c.end.result c.unwrap_or.result _
-    (rw c.in-Ok-None.field-0-is at c.in-Ok-None.ensures.next) c.end.ensures c.unwrap_or.ensures (sym c.check_end.ensures ∙ c.in-Ok.is)
+    (rw c.in-Ok-None.field-0-is at c.in-Ok-None.ensures.next) c.end.ensures c.unwrap_or.ensures (sym c.check_mark.ensures ∙ c.in-Ok.is)
 
-pub returns-in-Err-check_end-clause-copies : goal.returns-in-Err-check_end-clause-copies
-returns-in-Err-check_end-clause-copies g c =
+pub returns-in-Err-check_mark-clause-copies : goal.returns-in-Err-check_mark-clause-copies
+returns-in-Err-check_mark-clause-copies g c =
     rw c.messages.ensures (copied_unmarked _ _ _ _ _ c.loop-batch.invariant.copied c.args.require_mark c.end.result c.unwrap_or.result
-    c.in-Err-check_end.missing (rw c.in-Ok-None.field-0-is at c.in-Ok-None.ensures.next) c.end.ensures c.unwrap_or.ensures
-    (sym c.check_end.ensures ∙ c.in-Err-check_end.is))
+    c.in-Err-check_mark.missing (rw c.in-Ok-None.field-0-is at c.in-Ok-None.ensures.next) c.end.ensures c.unwrap_or.ensures
+    (sym c.check_mark.ensures ∙ c.in-Err-check_mark.is))
 
 pub returns-in-Err-clause-copies : goal.returns-in-Err-clause-copies
 returns-in-Err-clause-copies g c =
@@ -55,8 +55,8 @@ returns-in-Ok-clause-reports g c = λ limits start o.
     progressed_end start _ _ _ _ _ (c.loop-batch.invariant.reported limits start o) _ c.loop-batch.invariant.copied.reading
     (rw c.in-Ok-None.field-0-is at c.in-Ok-None.ensures.next)
 
-pub returns-in-Err-check_end-clause-reports : goal.returns-in-Err-check_end-clause-reports
-returns-in-Err-check_end-clause-reports g c = λ limits start o.
+pub returns-in-Err-check_mark-clause-reports : goal.returns-in-Err-check_mark-clause-reports
+returns-in-Err-check_mark-clause-reports g c = λ limits start o.
     inr (progressed_end start _ _ _ _ _ (c.loop-batch.invariant.reported limits start o) _ c.loop-batch.invariant.copied.reading
     (rw c.in-Ok-None.field-0-is at c.in-Ok-None.ensures.next))
 

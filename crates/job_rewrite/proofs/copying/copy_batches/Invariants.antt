@@ -1,7 +1,7 @@
 use Rattle.std.proofs.Common.{ℕ, List, Option}
 use Rattle.ipc_model.specs.declared.limits.Limits.{Limits}
 use Rattle.ipc_stream_read.specs.Reader.{Opens}
-use Rattle.ipc_stream.proofs.Reporting.{Progressed}
+use Rattle.ipc_stream_read.proofs.Reporting.{Progressed}
 use Rattle.job_rewrite.proofs.Batches.{Copied}
 use Rattle.job_rewrite.proofs.copying.copy_batches.Given as goal
 

@@ -1,4 +1,4 @@
-use Rattle.ipc_stream.proofs.Reporting.{opened_some}
+use Rattle.ipc_stream_read.proofs.Reporting.{opened_some}
 use Rattle.job_rewrite.proofs.Reporting.{all_reported}
 use Rattle.job_rewrite.proofs.Whole.{schema_refused, batches_broken, stream_ended}
 use Rattle.job_rewrite.proofs.copying.copy_stream.Goals as goal

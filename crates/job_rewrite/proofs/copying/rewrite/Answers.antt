@@ -1,5 +1,5 @@
 use Rattle.std.proofs.Common.{◌∙◌, refl, sym, inl, Err}
-use Rattle.ipc_stream.proofs.Reporting.{unopened_to}
+use Rattle.ipc_stream_read.proofs.Reporting.{unopened_to}
 use Rattle.job_rewrite.specs.declared.stop.RewriteStop.TheVariants as stop
 use Rattle.job_rewrite.proofs.Complete.{answered_marked, answered_closed}
 use Rattle.job_rewrite.proofs.Whole.{none_read}

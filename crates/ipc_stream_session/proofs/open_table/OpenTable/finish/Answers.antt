@@ -1,5 +1,5 @@
 use Rattle.std.proofs.Common.{Some}
-use Rattle.ipc_stream.specs.Failures.{count_or}
+use Rattle.ipc_device.specs.Failures.{count_or}
 use Rattle.ipc_stream_session.proofs.Sent.{fails}
 use Rattle.ipc_stream_session.proofs.open_table.OpenTable.finish.Goals as goal
 

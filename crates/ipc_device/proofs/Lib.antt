@@ -1,0 +1,2 @@
+pub mod FromMemory
+pub mod SentBytes
