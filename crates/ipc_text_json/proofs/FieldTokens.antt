@@ -1,7 +1,7 @@
 -- The tokens of a field are those of its members.
 use Rattle.std.proofs.lemmas.List.Concat.{flat_map-append}
-use Rattle.std.proofs.Common.{◌≡◌, ◌∙◌, refl, sym, ap, ℕ, ◌+◌, ◌<◌, length, drop, drop-cons, get_or, map, add-one, List, [], ◌∷◌, ◌++◌, flat_map}
-use Rattle.std.proofs.Common.{append_assoc}
+use Rattle.std.proofs.Common.{◌≡◌, ◌∙◌, refl, sym, ap, ℕ, ◌+◌, ◌<◌, length, drop, drop-cons, get_or, map, add-one, List, [], ◌∷◌, ◌++◌}
+use Rattle.std.proofs.Common.{append_assoc, flat_map}
 use Rattle.json.specs.Token.{Token}
 use Rattle.json.specs.Tree.{json_tokens, items_tokens}
 use Rattle.std.specs.Prelude.{codes}

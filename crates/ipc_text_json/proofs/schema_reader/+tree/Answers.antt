@@ -1,5 +1,5 @@
-use Rattle.std.proofs.Common.{◌≡◌, ◌∙◌, ◌++◌, ◌∷◌, ◌+◌, [], map, length, length-append, append_assoc, take, drop, ◌-◌, sym, ap, arith, flat_map}
-use Rattle.std.proofs.Common.{rules}
+use Rattle.std.proofs.Common.{◌≡◌, ◌∙◌, ◌++◌, ◌∷◌, ◌+◌, [], map, length, length-append, append_assoc, take, drop, ◌-◌, sym, ap, arith}
+use Rattle.std.proofs.Common.{rules, flat_map}
 use Rattle.serde_json.specs.View.{view}
 use Rattle.ipc_model.specs.declared.schema.Field.{out-Field}
 use Rattle.ipc_text_json.specs.SchemaJson.{own_json, field_json}
