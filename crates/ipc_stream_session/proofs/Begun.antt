@@ -2,8 +2,9 @@
 use Rattle.std.proofs.Common.{◌≡◌, refl, sym, subst, ℕ, List, [], Some, Ok}
 use Rattle.ipc_model.specs.declared.schema.Schema.{Schema}
 use Rattle.ipc_stream.specs.Writer.{StartsWriter}
+use Rattle.ipc_text_json.specs.SchemaTexts.{StatesSchema}
 use Rattle.ipc_stream_session.specs.Tables.{TableState}
-use Rattle.ipc_stream_session.specs.Writes.{Begins, BeginsAt, StatesSchema}
+use Rattle.ipc_stream_session.specs.Writes.{Begins, BeginsAt}
 use Rattle.ipc_stream_session.specs.declared.stage.Stage.{Stage}
 use Rattle.ipc_stream_session.specs.declared.stage.Stage.TheVariants as stage
 use Rattle.ipc_stream_session.specs.declared.write_session.WriteSession.{WriteSession}

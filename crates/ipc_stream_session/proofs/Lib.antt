@@ -1,4 +1,3 @@
 mod Begun
 mod Moved
-mod SchemaTexts
 mod Sent

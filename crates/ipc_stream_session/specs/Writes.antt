@@ -1,16 +1,11 @@
 -- What the calls of a writer's session do to its stream, its row and its pending rows.
 use Rattle.std.specs.Prelude.{◌≡◌, ◌≢◌, ◌⊎◌, ◌++◌, ◌≤◌, ◌<◌, ⊤, ℕ, List, [], ◌∷◌, length}
 use Rattle.std.specs.Prelude.{Option, Some, None, Result, Ok, Err, IsUtf8, string_bytes}
-use Rattle.std.specs.List.{AllByRecursion}
 use Rattle.std.specs.declared.alloc.AllocError.{AllocError}
 use Rattle.std.specs.declared.alloc.Global.{Global}
 use Rattle.std.specs.declared.string.String.{String}
-use Rattle.serde_json.specs.Read.{read}
-use Rattle.ipc_model.specs.Entries.{entries}
 use Rattle.ipc_model.specs.FirstRowFault.{IsFirstRowFault}
 use Rattle.ipc_model.specs.Fits.{RowFits}
-use Rattle.ipc_model.specs.Limits.{IsStandard}
-use Rattle.ipc_model.specs.WellFormed.{WellFormed}
 use Rattle.ipc_model.specs.declared.fault.Fault.{Fault}
 use Rattle.ipc_model.specs.declared.fault.Fault.TheVariants.{OutOfMemory as NoMemory}
 use Rattle.ipc_model.specs.declared.fault.WriteFault.{WriteFault}
@@ -20,8 +15,7 @@ use Rattle.ipc_model.specs.declared.schema.Schema.{Schema}
 use Rattle.ipc_model.specs.declared.table.BatchRows.{BatchRows}
 use Rattle.ipc_model.specs.declared.value.Value.{Value}
 use Rattle.ipc_model.specs.declared.value.Value.TheVariants as value
-use Rattle.ipc_text_json.specs.SchemaJson.{schema_json}
-use Rattle.ipc_text_json.specs.SchemaTexts.{HasWideId}
+use Rattle.ipc_text_json.specs.SchemaTexts.{StatesSchema, StatesNoSchema}
 use Rattle.ipc_stream.specs.PendingBatches.{with_rows}
 use Rattle.ipc_stream.specs.Writer.{StartsWriter}
 use Rattle.ipc_stream_session.specs.Cells.{nested_cell}
@@ -82,19 +76,6 @@ TakesTable old new (Ok t) =
 TakesTable old new (Err e) = IsNotOpen old.stage e × (new ≡ old)
 
 -- ---- the schema
-
--- the text is the JSON of this schema
-pub record StatesSchema (text : List ℕ) (s : Schema) : Type 0 where
-  pub utf8 : IsUtf8 text
-  pub json : read text ≡ Some (schema_json s)
-  pub limits : Limits
-  pub standard : IsStandard limits
-  pub well_formed : WellFormed limits s
-
--- the text is the JSON of no schema whose ids fit 64 bits
-abbrev pub StatesNoSchema : List ℕ → Type 0
-StatesNoSchema text = (s : Schema) → StatesSchema text s
-    → AllByRecursion (λ e. HasWideId e.dictionary) (entries s.fields) → ⊥
 
 -- the table is open, and the message of its schema is written
 pub record IsBegun (limits : Limits) (s : Schema) (t : TableState) : Type 0 where

@@ -1,5 +1,5 @@
 //! A stream that is written, as a value between the calls of a program in another language.
-ghost use Rattle.std.specs.Prelude.{◌≡◌, ◌⊎◌, IfErr, IfOk, length};
+ghost use Rattle.std.specs.Prelude.{◌≡◌};
 ghost use Rattle.ipc_stream_session.specs.Writes as w;
 
 use crate::batch::ReadBatch;
@@ -9,7 +9,7 @@ use crate::ready::Ready;
 use crate::stage::Stage;
 use crate::write_error::WriteError;
 use ipc_model::{BatchRows, Fault, Items, Limits, Row, Schema, Text, Value, WriteFault, conforms};
-use ipc_text_json::schema_from_json;
+use ipc_text_json::schema_from_json_bytes;
 use ipc_text_temporal::TextFault;
 use std::alloc::{AllocError, Global};
 use std::mem;
@@ -39,18 +39,6 @@ pub struct WriteSession {
     pairs: Items<(Text, Text)>,
     error: Option<WriteError>,
     alloc: Global,
-}
-
-// The schema that a JSON text states.
-fn schema_of(alloc: Global, text: &[u8]) -> Result<Schema, TextFault>
-    ensures read { IfOk result (w.StatesSchema text.now) }
-    ensures none { IfErr result (λ fault. (fault ≡ TextFault.OutOfMemory)
-        ⊎ ((fault ≡ TextFault.BadSchemaJson) × w.StatesNoSchema text.now)) }
-{
-    let Ok(text) = str::from_utf8(text) else {
-        return Err(TextFault::BadSchemaJson);
-    };
-    schema_from_json(alloc, text)
 }
 
 // Copies two texts as a pair, if both are UTF-8.
@@ -84,7 +72,7 @@ impl WriteSession {
         ensures { w.Begins text.now self.old self.new result }
     {
         self.stage.check_new()?;
-        let schema = match schema_of(self.alloc, text) {
+        let schema = match schema_from_json_bytes(self.alloc, text) {
             Ok(schema) => schema,
             Err(TextFault::OutOfMemory) => return Err(self.end(WriteFault::OutOfMemory)),
             Err(_) => return Err(WriteError::BadSchemaJson),

@@ -2,7 +2,7 @@
 use Rattle.std.proofs.Common.{◌≡◌, ◌≢◌, ◌∙◌, ◌<◌, ◌+◌, ℕ, zero, suc, List, [], ◌∷◌, ◌++◌, length, take, set, drop, drop-cons, get_or}
 use Rattle.std.proofs.Common.{Some, None, Option, Bool, true, false, ◌||◌, if◌then◌else◌}
 use Rattle.std.specs.List.{list_any}
-use Rattle.std.proofs.Common.{Result, Ok, Err, refl, sym, ap, subst, inl, inr, append_assoc, add-one, arith}
+use Rattle.std.proofs.Common.{refl, sym, ap, subst, inl, inr, append_assoc, add-one, arith}
 use Rattle.std.proofs.lemmas.List.{append-nil, length-set, take-set, take_more_set}
 use Rattle.csv.specs.Records.{field_at}
 use Rattle.ipc_model.specs.declared.schema.Field.{Field, out-Field}

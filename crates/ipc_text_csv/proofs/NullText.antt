@@ -1,5 +1,5 @@
 -- Only null has the text of null.
-use Rattle.std.proofs.Common.{◌≡◌, ℕ, ℤ, pos, negsuc, ◌<◌, ◌^◌, Bool, true, false, List, [], ◌∷◌, Some, refl, ap, subst, inl, inr, arith}
+use Rattle.std.proofs.Common.{◌≡◌, ℕ, ℤ, pos, negsuc, ◌<◌, ◌^◌, Bool, true, false, List, [], ◌∷◌, Some, refl, subst, inl, inr, arith}
 use Rattle.std.proofs.Common.{◌∙◌, ◌≢◌, ◌≤◌, ◌+◌, ◌/◌, ◌%◌, ◌||◌, ◌++◌, sym, None, false, codes, length, suc, append-nil, if◌then◌else◌}
 use Rattle.std.proofs.Common.{FitsSigned, decimal}
 use Rattle.std.specs.Prelude.{◌==◌}
@@ -23,7 +23,7 @@ use Rattle.ipc_model.specs.declared.schema.TimeUnit.TheVariants as u
 use Rattle.ipc_model.specs.declared.schema.IntBits.TheVariants as b
 use Rattle.ipc_model.specs.declared.value.Value.{Value}
 use Rattle.ipc_model.specs.declared.value.Value.TheOpen.{Value-F}
-use Rattle.ipc_text_csv.specs.Dialects.{IsDialect, begins_number, is_hexadecimal, is_like_value, standard_null}
+use Rattle.ipc_text_csv.specs.Dialects.{begins_number, is_hexadecimal, standard_null}
 use Rattle.ipc_text_csv.specs.declared.dialect.Dialect.{Dialect}
 use Rattle.ipc_text_csv.specs.CsvRows.{StandsFor}
 use Rattle.ipc_text_csv.specs.RowCsv.{null_text, int_text, with_backslash, bool_text, unless_null, chars_text}

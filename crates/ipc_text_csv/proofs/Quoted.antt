@@ -1,14 +1,13 @@
 -- Two texts as one field.
-use Rattle.std.proofs.Common.{◌≡◌, ◌==◌, ◌||◌, ◌<◌, ◌+◌, ◌∙◌, ℕ, false, true, List, [], ◌∷◌, ◌++◌, length, take, drop}
+use Rattle.std.proofs.Common.{◌≡◌, ◌==◌, ◌||◌, ◌<◌, ◌+◌, ◌∙◌, ℕ, false, true, List, [], ◌∷◌, ◌++◌, length, drop}
 use Rattle.std.proofs.Common.{get_or, refl, sym, ap, inl, inr, arith}
 use Rattle.std.proofs.Common.{add-one, append_assoc, drop-cons}
 use Rattle.std.proofs.lemmas.Bool.Decides.{nat_tests}
-use Rattle.std.proofs.Math.Seq.{take-append_seam}
 use Rattle.std.proofs.lemmas.Bool.{cases_Bool}
 use Rattle.std.proofs.lemmas.List.Folds.{list_any-append}
 use Rattle.csv.specs.Writing.{escaped, quoted, needs_quotes, needs_byte, default_writer, quote_mark}
 use Rattle.ipc_text_csv.specs.Dialects.{writer}
-use Rattle.ipc_text_csv.specs.RowCsv.{BeginsWith, with_field}
+use Rattle.ipc_text_csv.specs.RowCsv.{with_field}
 
 -- two texts are escaped one after the other
 pub escaped_both : (xs ys : List ℕ) → escaped default_writer (xs ++ ys) ≡ escaped default_writer xs ++ escaped default_writer ys
@@ -43,10 +42,6 @@ pub field_plain : (c : ℕ) (text xs ys : List ℕ) → (needs_quotes (writer c)
     → text ++ xs ++ ys ≡ with_field c text (xs ++ ys)
 field_plain c text xs ys needs = rw (quotes_both c xs ys, needs) (append_assoc text xs ys)
 
--- what begins with a text is that text where it is cut to its length
-pub cut_back : (old new : List ℕ) → BeginsWith old new → take (length old) new ≡ old
-cut_back old new b = rw b.1 (take-append_seam old b.0)
-
 from_place : (xs : List ℕ) (i : ℕ) → i < length xs → drop i xs ≡ get_or xs i 0 ∷ drop (i + 1) xs
 from_place xs i h = rw (add-one, drop-cons xs i 0) refl
 
@@ -67,7 +62,3 @@ mark_more o m n xs whole i h quote d e k =
     let yes : (get_or xs i 0 == quote_mark) ≡ true = grind (arith, nat_tests) in
     let whole_from = ap (escaped default_writer) (from_place xs i h) in
     rw (e, d) (append_assoc (o ++ 34 ∷ []) _ _ ∙ append_assoc o (34 ∷ []) _ ∙ ap (λ zs. o ++ zs) (sym (rw yes at whole_from)) ∙ k)
-
--- what has one byte more begins with the same
-pub begins_more : (front o n : List ℕ) (b : ℕ) → n ≡ o ++ b ∷ [] → BeginsWith front o → BeginsWith front n
-begins_more front o n b e k = (k.0 ++ b ∷ [], rw (e, k.1) (append_assoc front k.0 (b ∷ [])))

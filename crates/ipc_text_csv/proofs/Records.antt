@@ -10,7 +10,7 @@ use Rattle.ipc_model.specs.declared.schema.Field.{Field, out-Field}
 use Rattle.ipc_model.specs.declared.value.Value.{Value, out-Value}
 use Rattle.ipc_text_csv.specs.Dialects.{writer}
 use Rattle.ipc_text_csv.specs.declared.dialect.Dialect.{Dialect}
-use Rattle.ipc_text_csv.specs.RowCsv.{with_field, with_fields, body_from, all_texts, in_front, each_text, value_text, end_behind, Ended}
+use Rattle.ipc_text_csv.specs.RowCsv.{with_field, with_fields, body_from, all_texts, in_front, each_text, value_text, Ended}
 use Rattle.ipc_text_temporal.specs.declared.fault.TextFault.{TextFault}
 
 some_byte : (n : ℕ) → (suc n == 0) ≡ false
@@ -107,6 +107,10 @@ added m (suc n) k e = grind (arith, nat_tests, e)
 -- nothing stands behind a text where both are as long together as it is alone
 nothing_behind : (before xs : List ℕ) (n : ℕ) → length before ≡ n → (length (before ++ xs) == n) ≡ (length xs == 0)
 nothing_behind before xs n e = rw (length-append before xs) (added (length before) (length xs) n e)
+
+-- the end of a record whose fields begin at `start`: a line feed, behind two quotes where the fields are empty
+abbrev pub end_behind : ℕ → List ℕ → List ℕ
+end_behind start text = if length text == start then 34 ∷ 34 ∷ 10 ∷ [] else 10 ∷ []
 
 end_of : (blank : Bool) (before body : List ℕ) → before ++ body ++ (if blank then 34 ∷ 34 ∷ 10 ∷ [] else 10 ∷ [])
     ≡ before ++ (body ++ ((if blank then 34 ∷ 34 ∷ [] else []) ++ 10 ∷ []))

@@ -169,15 +169,6 @@ Ended delimiter start old new =
     → old ≡ before ++ csv.row_body (writer delimiter) texts
     → new ≡ before ++ csv.row_text (writer delimiter) texts
 
--- the end of a record whose fields begin at `start`: a line feed, after two quotes if the fields
--- are empty
-abbrev pub end_behind : ℕ → List ℕ → List ℕ
-end_behind start text = if length text == start then codes "\"\"\n" else codes "\n"
-
--- a list begins with another
-abbrev pub BeginsWith : List ℕ → List ℕ → Type 0
-BeginsWith front whole = (behind : List ℕ) × (whole ≡ front ++ behind)
-
 -- a text, followed by a row's fields, or the fault
 abbrev pub put_texts : Dialect → List ℕ → List Field → List Value → Result (List ℕ) TextFault
 put_texts d text fields row = with_fields d.delimiter 0 text (row_texts d fields row)

@@ -1,21 +1,19 @@
 //! Reads values from the texts of CSV fields, each in the one spelling that is written.
 ghost use Rattle.std.specs.Prelude.{◌≡◌, ℤ, ℕ, List, ◌<◌, ◌^◌, IfSome, Some, FitsSigned, decimal};
-ghost use Rattle.std.specs.Prelude.{Bool, IfOk, IfErr, MatchOption, None, option_map, false};
-ghost use Rattle.std.specs.Prelude.{IsTrue};
+ghost use Rattle.std.specs.Prelude.{IfOk, MatchOption, None, false, IsTrue};
 ghost use Rattle.std.specs.Int.{w64};
 ghost use Rattle.std.specs.Fmt.{signed_decimal};
-ghost use Rattle.ipc_text_csv.specs.RowCsv.{bool_text, with_backslash, chars_text};
+ghost use Rattle.ipc_text_csv.specs.RowCsv.{with_backslash, chars_text};
 ghost use Rattle.ipc_text_csv.specs.CsvCells.{decoded_hex};
 
 use crate::dialect::Dialect;
 use crate::hexadecimal::decode_pairs;
-use ipc_text_temporal::TextFault;
 use itoa::Buffer;
-use std::alloc::{AllocError, Global};
+use std::alloc::AllocError;
 
 /// Reads a signed number, of an integer or a duration, in decimal: without plus sign, leading zero
 /// or `-0`. Returns `None` for any other text.
-pub fn read_int(text: &str) -> Option<i64>
+pub(crate) fn read_int(text: &str) -> Option<i64>
     ensures only { IfSome result (λ z. signed_decimal z ≡ text.now) }
     ensures all { (z : ℤ) → FitsSigned w64 z → signed_decimal z ≡ text.now → result ≡ Some z }
 {
@@ -31,7 +29,7 @@ pub fn read_int(text: &str) -> Option<i64>
 
 /// Reads an unsigned number in decimal: without sign or leading zero. Returns `None` for any other
 /// text.
-pub fn read_uint(text: &str) -> Option<u64>
+pub(crate) fn read_uint(text: &str) -> Option<u64>
     ensures only { IfSome result (λ n. decimal n ≡ text.now) }
     ensures all { (n : ℕ) → n < 2 ^ 64 → decimal n ≡ text.now → result ≡ Some n }
 {
@@ -43,18 +41,6 @@ pub fn read_uint(text: &str) -> Option<u64>
         Some(count)
     } else {
         None
-    }
-}
-
-/// Reads a boolean, `true` or `false`. Returns `None` for any other text.
-pub fn read_bool(text: &str) -> Option<bool>
-    ensures only { IfSome result (λ truth. bool_text truth ≡ text.now) }
-    ensures all { (truth : Bool) → bool_text truth ≡ text.now → result ≡ Some truth }
-{
-    match text {
-        "true" => Some(true),
-        "false" => Some(false),
-        _ => None,
     }
 }
 
@@ -78,7 +64,7 @@ fn read_backslashed(field: &[u8]) -> Option<&[u8]>
 /// Reads a text from its CSV field: if null is `\N`, one of two leading backslashes is removed.
 /// Returns `None` for the text of null, and, if that is `\N`, for any field with exactly one
 /// leading backslash.
-pub fn read_text<'a>(dialect: Dialect<'_>, field: &'a [u8]) -> Option<&'a [u8]>
+pub(crate) fn read_text<'a>(dialect: Dialect<'_>, field: &'a [u8]) -> Option<&'a [u8]>
     ensures only { IfSome result
         (λ text. chars_text dialect.entry text.now ≡ Some field.now) }
     ensures all { (t : List ℕ) → chars_text dialect.entry t ≡ Some field.now
@@ -91,20 +77,6 @@ pub fn read_text<'a>(dialect: Dialect<'_>, field: &'a [u8]) -> Option<&'a [u8]>
         return None;
     }
     Some(field)
-}
-
-/// Reads bytes from their hexadecimal digits, in either case. Returns `None` for any other text.
-/// Errors: `OutOfMemory` only.
-pub fn read_bytes(alloc: Global, text: &[u8]) -> Result<Option<Vec<u8>>, TextFault>
-    ensures bytes { IfOk result (λ read. option_map (λ b. b.items) read ≡ decoded_hex text.now) }
-    ensures refused { IfErr result (λ fault. fault ≡ TextFault.OutOfMemory) }
-{
-    let mut bytes = Vec::new(alloc);
-    if decode_bytes(&mut bytes, text)? {
-        Ok(Some(bytes))
-    } else {
-        Ok(None)
-    }
 }
 
 /// Replaces bytes by those with these hexadecimal digits, in either case. Returns whether the text

@@ -1,9 +1,7 @@
 //! Reads a row from the fields of a CSV record.
 ghost use Rattle.std.specs.Prelude.{◌≡◌, ◌≢◌, ◌<◌, ◌^◌, ℕ, ℤ, List, IfOk, IfErr, IfSome};
-ghost use Rattle.std.specs.Prelude.{MatchResult};
-ghost use Rattle.std.specs.Prelude.{Some, Bool, FitsSigned, decimal, option_map, length, OnOk};
-ghost use Rattle.std.specs.Prelude.{None, Ok};
-ghost use Rattle.std.specs.Prelude.{IsTrue, IsSome, ◌↔◌, false};
+ghost use Rattle.std.specs.Prelude.{MatchResult, Some, Bool, FitsSigned, decimal, option_map};
+ghost use Rattle.std.specs.Prelude.{length, OnOk, None, Ok, IsTrue, IsSome, ◌↔◌, false};
 ghost use Rattle.std.specs.List.{AllByRecursion, list_any};
 ghost use Rattle.std.specs.Fmt.{signed_decimal};
 ghost use Rattle.std.specs.Int.{w64};
@@ -19,9 +17,9 @@ ghost use Rattle.ipc_text_csv.specs.CsvCells.{decoded_hex};
 ghost use Rattle.ipc_text_csv.specs.CsvRows.{StandsFor, ReadsAs, RecordReadsAs, IsRecordFault};
 ghost use Rattle.ipc_text_csv.specs.CsvRows.{IsCharsOf, EachReadsAs, IsBadField, IsFirstUnlike};
 ghost use Rattle.ipc_text_csv.specs.CsvRows.{IsHeaderFault, IsStored};
-ghost use Rattle.ipc_text_temporal.specs.Temporals.{date_text, time_text, timestamp_text};
-ghost use Rattle.ipc_text_csv.specs.RowCsv.{int_text, bool_text, chars_text, names, flat_fault};
-ghost use Rattle.ipc_text_csv.specs.RowCsv.{null_text, row_texts};
+ghost use Rattle.ipc_text_temporal.specs.Temporals.{date_text, time_text};
+ghost use Rattle.ipc_text_csv.specs.RowCsv.{bool_text, chars_text, names, flat_fault, null_text};
+ghost use Rattle.ipc_text_csv.specs.RowCsv.{row_texts};
 ghost use Rattle.ipc_text_csv.specs.RowCsv as spec;
 
 use crate::ascii::text_of;
@@ -75,7 +73,7 @@ fn read_count(text: &[u8]) -> Option<u64>
 }
 
 // The boolean whose text this is.
-fn read_bool_bytes(text: &[u8]) -> Option<bool>
+fn read_bool(text: &[u8]) -> Option<bool>
     ensures only { IfSome result (λ truth. bool_text truth ≡ text.now) }
     ensures all { (truth : Bool) → bool_text truth ≡ text.now → result ≡ Some truth }
 {
@@ -352,7 +350,7 @@ fn read_own(
 {
     let read = match &field.kind {
         DataType::Null | DataType::List | DataType::FixedSizeList(_) | DataType::Struct => false,
-        DataType::Bool => put_bool_value(read_bool_bytes(text), place),
+        DataType::Bool => put_bool_value(read_bool(text), place),
         DataType::Int { signed: false, .. } => put_count(field, text, place),
         DataType::Int { bits, signed: true } => {
             put_int(within(*bits, read_decimal(text)), place)

@@ -1,20 +1,16 @@
 //! Writes a row as CSV.
-ghost use Rattle.std.specs.Prelude.{◌≡◌, ◌++◌, length, List, ℕ, OnOk, OnErr, IfOk};
-ghost use Rattle.std.specs.Prelude.{IfErr, Ok, decimal};
+ghost use Rattle.std.specs.Prelude.{◌≡◌, ◌++◌, List, ℕ, OnOk, IfOk, IfErr, Ok, decimal};
 ghost use Rattle.std.specs.List.{list_any};
 ghost use Rattle.csv.specs.Writing as csv;
 ghost use Rattle.csv.specs.Writing.{default_writer};
 ghost use Rattle.hex.specs.Hex.{encode_lower};
-ghost use Rattle.ipc_model.specs.declared.value.Value.{out-Value};
 ghost use Rattle.ipc_text_temporal.specs.Temporals.{temporal_text};
 ghost use Rattle.ipc_text_csv.specs.Dialects.{writer};
 ghost use Rattle.ipc_text_csv.specs.RowCsv as spec;
 ghost use Rattle.ipc_text_csv.specs.RowCsv.{RefusesValue, IsRefusal, null_text, bool_text};
-ghost use Rattle.ipc_text_csv.specs.RowCsv.{with_backslash};
-ghost use Rattle.ipc_text_csv.specs.RowCsv.{chars_text, unless_null};
-ghost use Rattle.ipc_text_csv.specs.RowCsv.{with_field, flat_fault, unless_fault};
-ghost use Rattle.ipc_text_csv.specs.RowCsv.{Appended, Ended, names, csv_text, int_text, body_from};
-ghost use Rattle.ipc_text_csv.specs.RowCsv.{put_texts, BeginsWith, end_behind};
+ghost use Rattle.ipc_text_csv.specs.RowCsv.{with_backslash, chars_text, unless_null, with_field};
+ghost use Rattle.ipc_text_csv.specs.RowCsv.{flat_fault, unless_fault, Appended, names, csv_text};
+ghost use Rattle.ipc_text_csv.specs.RowCsv.{int_text, body_from, put_texts, Ended};
 ghost use Rattle.ipc_model.specs.declared.schema.Field.{out-Field};
 
 use crate::dialect::{Dialect, needs_quotes};
@@ -25,9 +21,8 @@ use std::alloc::{AllocError, Global};
 
 #[tactic(auto, unfolding(csv::specs::Writing::escaped))]
 fn push_escaped(out: &mut Vec<u8>, field: &[u8]) -> Result<(), AllocError>
-    ensures ok { OnOk result
+    ensures { OnOk result
         (out.new.items ≡ out.old.items ++ csv.escaped default_writer field.now) }
-    ensures refused { BeginsWith out.old.items out.new.items }
 {
     for byte in field {
         if *byte == b'"' {
@@ -38,11 +33,10 @@ fn push_escaped(out: &mut Vec<u8>, field: &[u8]) -> Result<(), AllocError>
     Ok(())
 }
 
-// Appends two texts between quotes, until memory runs out.
+// Appends two texts between quotes.
 fn push_quoted(out: &mut Vec<u8>, front: &[u8], field: &[u8]) -> Result<(), AllocError>
-    ensures ok { OnOk result
+    ensures { OnOk result
         (out.new.items ≡ out.old.items ++ csv.quoted default_writer (front.now ++ field.now)) }
-    ensures refused { BeginsWith out.old.items out.new.items }
 {
     out.push(b'"')?;
     push_escaped(out, front)?;
@@ -51,63 +45,51 @@ fn push_quoted(out: &mut Vec<u8>, front: &[u8], field: &[u8]) -> Result<(), Allo
     Ok(())
 }
 
-// Appends two texts without quotes, until memory runs out.
+// Appends two texts without quotes.
 fn push_plain(out: &mut Vec<u8>, front: &[u8], field: &[u8]) -> Result<(), AllocError>
-    ensures ok { OnOk result (out.new.items ≡ out.old.items ++ front.now ++ field.now) }
-    ensures refused { BeginsWith out.old.items out.new.items }
+    ensures { OnOk result (out.new.items ≡ out.old.items ++ front.now ++ field.now) }
 {
     out.extend_from_slice(front)?;
     out.extend_from_slice(field)
 }
 
-// Two texts as one field, or nothing.
-#[tactic(auto, using(crate::proofs::Quoted::field_quoted, crate::proofs::Quoted::field_plain, crate::proofs::Quoted::cut_back))]
+// Appends two texts as one field.
+#[tactic(auto, using(crate::proofs::Quoted::field_quoted, crate::proofs::Quoted::field_plain))]
 fn push_joined(
     out: &mut Vec<u8>,
     delimiter: u8,
     front: &[u8],
     field: &[u8],
 ) -> Result<(), AllocError>
-    ensures ok { OnOk result
+    ensures { OnOk result
         (out.new.items ≡ with_field delimiter out.old.items (front.now ++ field.now)) }
-    ensures refused { OnErr result (out.new.items ≡ out.old.items) }
 {
-    let start = out.len();
-    let pushed = if needs_quotes(delimiter, front) || needs_quotes(delimiter, field) {
+    if needs_quotes(delimiter, front) || needs_quotes(delimiter, field) {
         push_quoted(out, front, field)
     } else {
         push_plain(out, front, field)
-    };
-    if pushed.is_err() {
-        out.truncate(start);
     }
-    pushed
 }
 
-/// Appends a text as a CSV field (RFC 4180, section 2). It is quoted if it has a delimiter, a quote
-/// or an end of line, and each quote in it is doubled. If memory ran out, `out` is unchanged.
-pub fn push_field(out: &mut Vec<u8>, dialect: Dialect<'_>, field: &[u8]) -> Result<(), AllocError>
-    ensures ok { OnOk result
+// Appends a text as a CSV field (RFC 4180, section 2). It is quoted if it has a delimiter, a quote
+// or an end of line, and each quote in it is doubled.
+fn push_field(out: &mut Vec<u8>, dialect: Dialect<'_>, field: &[u8]) -> Result<(), AllocError>
+    ensures { OnOk result
         (out.new.items ≡ with_field dialect.entry.delimiter out.old.items field.now) }
-    ensures refused { OnErr result (out.new.items ≡ out.old.items) }
 {
     push_joined(out, dialect.delimiter(), b"", field)
 }
 
-/// Appends null as a CSV field. If memory ran out, `out` is unchanged.
-pub fn push_null(out: &mut Vec<u8>, dialect: Dialect<'_>) -> Result<(), AllocError>
-    ensures ok { OnOk result (out.new.items
+fn push_null(out: &mut Vec<u8>, dialect: Dialect<'_>) -> Result<(), AllocError>
+    ensures { OnOk result (out.new.items
         ≡ with_field dialect.entry.delimiter out.old.items (null_text dialect.entry)) }
-    ensures refused { OnErr result (out.new.items ≡ out.old.items) }
 {
     push_field(out, dialect, dialect.null().as_bytes())
 }
 
-/// Appends a boolean as a CSV field: `true` or `false`. If memory ran out, `out` is unchanged.
-pub fn push_bool(out: &mut Vec<u8>, dialect: Dialect<'_>, truth: bool) -> Result<(), AllocError>
-    ensures ok { OnOk result
+fn push_bool(out: &mut Vec<u8>, dialect: Dialect<'_>, truth: bool) -> Result<(), AllocError>
+    ensures { OnOk result
         (out.new.items ≡ with_field dialect.entry.delimiter out.old.items (bool_text truth)) }
-    ensures refused { OnErr result (out.new.items ≡ out.old.items) }
 {
     match truth {
         true => push_field(out, dialect, b"true"),
@@ -115,11 +97,10 @@ pub fn push_bool(out: &mut Vec<u8>, dialect: Dialect<'_>, truth: bool) -> Result
     }
 }
 
-/// Appends an unsigned number as a CSV field, in decimal. If memory ran out, `out` is unchanged.
-pub fn push_uint(out: &mut Vec<u8>, dialect: Dialect<'_>, number: u64) -> Result<(), AllocError>
-    ensures ok { OnOk result
+// Appends an unsigned number as a CSV field, in decimal.
+fn push_uint(out: &mut Vec<u8>, dialect: Dialect<'_>, number: u64) -> Result<(), AllocError>
+    ensures { OnOk result
         (out.new.items ≡ with_field dialect.entry.delimiter out.old.items (decimal number)) }
-    ensures refused { OnErr result (out.new.items ≡ out.old.items) }
 {
     let mut digits = Buffer::new();
     push_field(out, dialect, digits.format(number).as_bytes())
@@ -135,7 +116,6 @@ fn push_temporal(
     ensures ok { OnOk result (Appended dialect.entry.delimiter out.old.items
         (temporal_text kind.now number) out.new.items) }
     ensures refused { IfErr result (RefusesValue column (temporal_text kind.now number)) }
-    ensures same { OnErr result (out.new.items ≡ out.old.items) }
 {
     let Some(text) = temporal_text(kind, number) else {
         return Err(TextFault::NoTextForm { column });
@@ -143,10 +123,10 @@ fn push_temporal(
     Ok(push_field(out, dialect, text.as_str().as_bytes())?)
 }
 
-/// Appends a signed number of a column of this type as a CSV field: a date, a time or a timestamp
-/// as its text, any other number in decimal. Errors: X3 with the column's number if it has no text;
-/// `OutOfMemory`. After an error `out` is unchanged.
-pub fn push_int(
+// Appends a signed number of a column of this type as a CSV field: a date, a time or a timestamp
+// as its text, any other number in decimal. Errors: X3 with the column's number if it has no text;
+// `OutOfMemory`.
+fn push_int(
     out: &mut Vec<u8>,
     dialect: Dialect<'_>,
     column: u64,
@@ -156,7 +136,6 @@ pub fn push_int(
     ensures ok { OnOk result (Appended dialect.entry.delimiter out.old.items
         (int_text kind.now number) out.new.items) }
     ensures refused { IfErr result (RefusesValue column (int_text kind.now number)) }
-    ensures same { OnErr result (out.new.items ≡ out.old.items) }
 {
     match kind {
         DataType::Date(_) | DataType::Time(_) | DataType::Timestamp { .. } => {
@@ -166,10 +145,9 @@ pub fn push_int(
     }
 }
 
-/// Appends bytes as a CSV field: two lower-case hexadecimal digits for each. Errors: X3 with the
-/// column's number if there are no bytes and null is the empty text; `OutOfMemory`. After an error
-/// `out` is unchanged.
-pub fn push_bytes(
+// Appends bytes as a CSV field: two lower-case hexadecimal digits for each. Errors: X3 with the
+// column's number if there are no bytes and null is the empty text; `OutOfMemory`.
+fn push_bytes(
     out: &mut Vec<u8>,
     dialect: Dialect<'_>,
     column: u64,
@@ -179,7 +157,6 @@ pub fn push_bytes(
         (unless_null dialect.entry (encode_lower bytes.now)) out.new.items) }
     ensures refused { IfErr result
         (RefusesValue column (unless_null dialect.entry (encode_lower bytes.now))) }
-    ensures same { OnErr result (out.new.items ≡ out.old.items) }
 {
     if bytes.is_empty() && dialect.null().is_empty() {
         return Err(TextFault::NoTextForm { column });
@@ -197,7 +174,6 @@ fn push_unless_null(
     ensures ok { OnOk result (Appended dialect.entry.delimiter out.old.items
         (unless_null dialect.entry text.now) out.new.items) }
     ensures refused { IfErr result (RefusesValue column (unless_null dialect.entry text.now)) }
-    ensures same { OnErr result (out.new.items ≡ out.old.items) }
 {
     if text == dialect.null().as_bytes() {
         return Err(TextFault::NoTextForm { column });
@@ -207,9 +183,8 @@ fn push_unless_null(
 
 // Appends a text as a CSV field, with one more backslash before it if it begins with one.
 fn push_backslashed(out: &mut Vec<u8>, dialect: Dialect<'_>, text: &[u8]) -> Result<(), AllocError>
-    ensures ok { OnOk result (out.new.items
+    ensures { OnOk result (out.new.items
         ≡ with_field dialect.entry.delimiter out.old.items (with_backslash text.now)) }
-    ensures refused { OnErr result (out.new.items ≡ out.old.items) }
 {
     if text.first() != Some(&b'\\') {
         return push_field(out, dialect, text);
@@ -217,10 +192,10 @@ fn push_backslashed(out: &mut Vec<u8>, dialect: Dialect<'_>, text: &[u8]) -> Res
     push_joined(out, dialect.delimiter(), b"\\", text)
 }
 
-/// Appends a text as a CSV field. If null is `\N` and the text begins with a backslash, one more is
-/// added before it. Errors: X3 with the column's number if it is the text of null, other than `\N`;
-/// `OutOfMemory`. After an error `out` is unchanged.
-pub fn push_text(
+// Appends a text as a CSV field. If null is `\N` and the text begins with a backslash, one more is
+// added before it. Errors: X3 with the column's number if it is the text of null, other than `\N`;
+// `OutOfMemory`.
+fn push_text(
     out: &mut Vec<u8>,
     dialect: Dialect<'_>,
     column: u64,
@@ -229,7 +204,6 @@ pub fn push_text(
     ensures ok { OnOk result (Appended dialect.entry.delimiter out.old.items
         (chars_text dialect.entry text.now) out.new.items) }
     ensures refused { IfErr result (RefusesValue column (chars_text dialect.entry text.now)) }
-    ensures same { OnErr result (out.new.items ≡ out.old.items) }
 {
     if dialect.escapes_backslash() {
         return Ok(push_backslashed(out, dialect, text.as_bytes())?);
@@ -237,17 +211,9 @@ pub fn push_text(
     push_unless_null(out, dialect, column, text.as_bytes())
 }
 
-/// Appends a value of a column of this type as a CSV field. After an error `out` is unchanged.
-///
-/// Errors: `OutOfMemory`, and X3 with the column's number if the value has no text. These values
-/// have no text:
-///
-/// - a date or a timestamp outside the years 0001 to 9999;
-/// - milliseconds of a date that are no whole days;
-/// - a time outside 24 hours;
-/// - if null is not `\N`: its text, and no bytes if it is empty;
-/// - a list, a fixed-size list or a struct.
-pub fn push_value(
+// Appends a value of a column of this type as a CSV field. Errors: X3 with the column's number if
+// the value has no text; `OutOfMemory`.
+fn push_value(
     out: &mut Vec<u8>,
     dialect: Dialect<'_>,
     column: u64,
@@ -258,7 +224,6 @@ pub fn push_value(
         (csv_text dialect.entry kind.now value.now) out.new.items) }
     ensures refused { IfErr result
         (RefusesValue column (csv_text dialect.entry kind.now value.now)) }
-    ensures same { OnErr result (out.new.items ≡ out.old.items) }
 {
     match value {
         Value::Null => push_null(out, dialect)?,
@@ -272,16 +237,10 @@ pub fn push_value(
     Ok(())
 }
 
-/// Appends the delimiter before the column with this number. The first column, number 0, has none.
-/// If memory ran out, `out` is unchanged.
-pub fn push_delimiter(
-    out: &mut Vec<u8>,
-    dialect: Dialect<'_>,
-    column: usize,
-) -> Result<(), AllocError>
-    ensures ok { OnOk result (out.new.items
+// Appends the delimiter before the column with this number. The first column, number 0, has none.
+fn push_delimiter(out: &mut Vec<u8>, dialect: Dialect<'_>, column: usize) -> Result<(), AllocError>
+    ensures { OnOk result (out.new.items
         ≡ out.old.items ++ csv.next_sep (writer dialect.entry.delimiter) column) }
-    ensures refused { OnErr result (out.new.items ≡ out.old.items) }
 {
     if column > 0 {
         out.push(dialect.delimiter())?;
@@ -289,33 +248,15 @@ pub fn push_delimiter(
     Ok(())
 }
 
-// Appends the end of a record, until memory runs out.
-fn push_end(out: &mut Vec<u8>, start: usize) -> Result<(), AllocError>
-    ensures ok { OnOk result (out.new.items ≡ out.old.items ++ end_behind start out.old.items) }
-    ensures refused { BeginsWith out.old.items out.new.items }
+// Ends a record whose fields are in `out`: a line feed, after two quotes if there are no bytes.
+fn end_record(out: &mut Vec<u8>) -> Result<(), AllocError>
+    ensures { (delimiter : ℕ) → OnOk result (Ended delimiter 0 out.old.items out.new.items) }
 {
-    if out.len() == start {
+    if out.is_empty() {
         out.extend_from_slice(b"\"\"")?;
     }
     out.push(b'\n')?;
     Ok(())
-}
-
-/// Ends a record whose fields are in `out` from `start` on. It appends a line feed; if there are no
-/// bytes from `start` on, two quotes come before it. If memory ran out, `out` is unchanged.
-#[tactic(auto, using(crate::proofs::Quoted::cut_back))]
-pub fn end_record(out: &mut Vec<u8>, start: usize) -> Result<(), AllocError>
-    ensures ok { OnOk result (out.new.items ≡ out.old.items ++ end_behind start out.old.items) }
-    ensures ended { (delimiter : ℕ) → OnOk result
-        (Ended delimiter start out.old.items out.new.items) }
-    ensures refused { OnErr result (out.new.items ≡ out.old.items) }
-{
-    let length = out.len();
-    let pushed = push_end(out, start);
-    if pushed.is_err() {
-        out.truncate(length);
-    }
-    pushed
 }
 
 fn push_names(out: &mut Vec<u8>, dialect: Dialect<'_>, fields: &[Field]) -> Result<(), AllocError>
@@ -396,7 +337,7 @@ pub fn csv_header(
     check_flat(schema)?;
     let mut out = Vec::new(alloc);
     push_names(&mut out, dialect, schema.fields.as_slice())?;
-    end_record(&mut out, 0)?;
+    end_record(&mut out)?;
     Ok(out)
 }
 
@@ -407,8 +348,13 @@ pub fn csv_header(
 /// that begins with a backslash gets one more before it. The row must conform to the schema, except
 /// that nulls in columns that are not nullable are written too.
 ///
-/// Errors: X1 and X2 as in `check_flat`; X3 with the first column whose value has no text, as in
-/// `push_value`; `OutOfMemory`.
+/// Errors: X1 and X2 as in `check_flat`; X3 with the first column whose value has no text;
+/// `OutOfMemory`. These values have no text:
+///
+/// - a date or a timestamp outside the years 0001 to 9999;
+/// - milliseconds of a date that are no whole days;
+/// - a time outside 24 hours;
+/// - if null is not `\N`: its text, and no bytes if it is empty.
 pub fn csv_record(
     alloc: Global,
     dialect: Dialect<'_>,
@@ -423,6 +369,6 @@ pub fn csv_record(
     check_flat(schema)?;
     let mut out = Vec::new(alloc);
     push_values(&mut out, dialect, schema.fields.as_slice(), row)?;
-    end_record(&mut out, 0)?;
+    end_record(&mut out)?;
     Ok(out)
 }

@@ -1,13 +1,13 @@
 //! Reads dates and timestamps by the positions of their digits, and passes other texts to
 //! `ipc_text_temporal`.
-ghost use Rattle.std.specs.Prelude.{◌≡◌, ◌<◌, ◌≤◌, ◌+◌, ◌*◌, ◌/◌, ◌%◌, ◌++◌, ◌^◌, ℤ, pos, length};
+ghost use Rattle.std.specs.Prelude.{◌≡◌, ◌<◌, ◌≤◌, ◌+◌, ◌*◌, ◌/◌, ◌%◌, ◌++◌, ℤ, pos, length};
 ghost use Rattle.std.specs.Prelude.{get_or, drop, ◌-◌, take, unsigned_abs, IfSome, Some};
 ghost use Rattle.std.specs.Prelude.{FitsSigned, IsTrue, ℕ};
 ghost use Rattle.std.specs.Int.{w64, int_div_euclid, int_rem_euclid};
 ghost use Rattle.ipc_model.specs.Ranges.{ticks_in_a_day};
 ghost use Rattle.ipc_text_temporal.specs.Calendar.{day_text};
-ghost use Rattle.ipc_text_temporal.specs.Temporals.{timestamp_text, per_second};
-ghost use Rattle.ipc_text_temporal.specs.Temporals.{clock_text, fraction_text, zone_text};
+ghost use Rattle.ipc_text_temporal.specs.Temporals.{timestamp_text, per_second, clock_text};
+ghost use Rattle.ipc_text_temporal.specs.Temporals.{fraction_text, zone_text};
 ghost use Rattle.jiff_core.specs.Calendar.{IsEpochDay};
 
 use ipc_model::{DateUnit, Text, TimeUnit};

@@ -1,27 +1,24 @@
 -- The tokens of a field are those of its members.
+use Rattle.std.proofs.lemmas.List.Concat.{flat_map-append}
 use Rattle.std.proofs.Common.{◌≡◌, ◌∙◌, refl, sym, ap, ℕ, ◌+◌, ◌<◌, length, drop, drop-cons, get_or, map, add-one, List, [], ◌∷◌, ◌++◌}
-use Rattle.std.proofs.Common.{append_assoc}
+use Rattle.std.proofs.Common.{append_assoc, flat_map}
 use Rattle.json.specs.Token.{Token}
 use Rattle.json.specs.Tree.{json_tokens, items_tokens}
 use Rattle.std.specs.Prelude.{codes}
 use Rattle.serde_json.specs.Data.{Data}
 use Rattle.serde_json.specs.Written.{outline, items_outline}
-use Rattle.ipc_model.specs.declared.schema.Field.{Field}
+use Rattle.ipc_model.specs.declared.schema.Field.{Field, out-Field}
 use Rattle.ipc_model.specs.declared.schema.Field.TheOpen.{Field-F}
 use Rattle.ipc_model.specs.declared.schema.Schema.{Schema}
-use Rattle.ipc_text_json.specs.SchemaJson.{own_json, first_tokens, last_tokens, tokens_of, field_json, concat_lists, items_of, pair_json}
+use Rattle.serde_json.specs.View.{items_of}
+use Rattle.ipc_text_json.specs.SchemaJson.{own_json, first_tokens, last_tokens, tokens_of, field_json, pair_json}
 use Rattle.ipc_text_json.specs.SchemaJson.{schema_json}
+use Rattle.ipc_text_json.proofs.Trees.{field_unrolled}
 
 -- the tokens of a field by itself are those of its first and its last members, in braces
 pub own_tokens : {A : Type 0} → (f : Field-F A)
     → Token.begin_object ∷ first_tokens f ++ last_tokens f ++ Token.end_object ∷ [] ≡ json_tokens (outline (own_json f))
 own_tokens f = simp append_assoc refl
-
--- the tokens of two lists of values are those of the first and then those of the second
-pub tokens_of_both : (xs ys : List Data) → tokens_of (xs ++ ys) ≡ tokens_of xs ++ tokens_of ys
-tokens_of_both [] ys = refl
-tokens_of_both (x ∷ xs) ys = ap (λ ts. json_tokens (outline x) ++ ts) (tokens_of_both xs ys)
-    ∙ sym (append_assoc (json_tokens (outline x)) (tokens_of xs) (tokens_of ys))
 
 -- what three tokens, others, and one more, put one after another, make
 pub three_and_one : (o o1 o2 o3 o4 o5 : List Token) (a b c z : Token) (ms : List Token)
@@ -47,12 +44,17 @@ pub more_entries : (o before after : List Token) (xs ys : List Data) → o ≡ b
     → o ++ tokens_of ys ≡ after
 more_entries o before after xs ys e h =
     ap (λ ts. ts ++ tokens_of ys) e ∙ append_assoc before (tokens_of xs) (tokens_of ys)
-    ∙ ap (λ ts. before ++ ts) (sym (tokens_of_both xs ys)) ∙ h
+    ∙ ap (λ ts. before ++ ts) (sym (flat_map-append (λ x. json_tokens (outline x)) xs ys)) ∙ h
 
 -- the entries from a field on: its own and those below it, and then the rest
 pub entries_from : (fs : List Field) (i : ℕ) (f : Field) → i < length fs → f ≡ get_or fs i f
-    → concat_lists (map field_json (drop i fs)) ≡ field_json f ++ concat_lists (map field_json (drop (i + 1) fs))
+    → flat_map field_json (drop i fs) ≡ field_json f ++ flat_map field_json (drop (i + 1) fs)
 entries_from fs i f h e = rw (drop-cons fs i f) (rw (← e, add-one) refl)
+
+-- where a field's own entry was put and then those below it, all entries of the field were
+pub own_and_below : (f : Field) (o o1 o2 : List Token) → o1 ≡ o ++ json_tokens (outline (own_json (out-Field f)))
+    → o2 ≡ o1 ++ tokens_of (flat_map field_json (out-Field f).children) → o2 ≡ o ++ tokens_of (field_json f)
+own_and_below f o o1 o2 own below = rw (below, own, field_unrolled f) (append_assoc o _ _)
 
 -- the tokens of an array's items are those of its values, and the closing bracket
 pub items_are : (xs : List Data) → items_tokens (items_outline (items_of xs)) ≡ tokens_of xs ++ Token.end_array ∷ []
@@ -64,9 +66,9 @@ items_are (x ∷ xs) =
 -- the tokens of a schema's parts, put one after another, are those of the schema
 pub schema_tokens : (o o1 o2 o3 o4 o5 o6 o7 o8 o9 : List Token) (s : Schema)
     → o1 ≡ o ++ Token.begin_object ∷ [] → o2 ≡ o1 ++ Token.key (codes "fields") ∷ [] → o3 ≡ o2 ++ Token.begin_array ∷ []
-    → o4 ≡ o3 ++ tokens_of (concat_lists (map field_json s.fields)) → o5 ≡ o4 ++ Token.end_array ∷ []
+    → o4 ≡ o3 ++ tokens_of (flat_map field_json s.fields) → o5 ≡ o4 ++ Token.end_array ∷ []
     → o6 ≡ o5 ++ Token.key (codes "metadata") ∷ [] → o7 ≡ o6 ++ Token.begin_array ∷ []
     → o8 ≡ o7 ++ items_tokens (items_outline (items_of (map pair_json s.metadata)))
     → o9 ≡ o8 ++ Token.end_object ∷ [] → o9 ≡ o ++ json_tokens (outline (schema_json s))
 schema_tokens o o1 o2 o3 o4 o5 o6 o7 o8 o9 s a b c d e f g h i =
-    rw (i, h, g, f, e, d, c, b, a, items_are (concat_lists (map field_json s.fields))) (simp append_assoc refl)
+    rw (i, h, g, f, e, d, c, b, a, items_are (flat_map field_json s.fields)) (simp append_assoc refl)

@@ -1,11 +1,10 @@
 -- A field by itself, of the values of its members.
-use Rattle.std.proofs.Common.{◌≡◌, ◌∙◌, ℕ, List, Bool, Option, refl, sym, ap, length, map, ◌∷◌, []}
+use Rattle.std.proofs.Common.{◌≡◌, ◌∙◌, ℕ, List, Bool, Option, sym, ap, length, map}
 use Rattle.std.proofs.Math.ListN.{replicate}
 use Rattle.std.proofs.lemmas.List.{length-replicate}
 use Rattle.std.specs.List.{AllByRecursion}
 use Rattle.std.specs.Prelude.{◌≢◌, ⊤}
-use Rattle.serde_json.specs.Data.{Data, boolean, item, number, string, unsigned}
-use Rattle.serde_json.specs.View as seen
+use Rattle.serde_json.specs.Data.{Data, boolean, number, string, unsigned}
 use Rattle.serde_json.specs.View.{view, items_view}
 use Rattle.serde_json.specs.declared.value.Value.{Value}
 use Rattle.ipc_model.specs.Entries.{entries}
@@ -13,7 +12,8 @@ use Rattle.ipc_model.specs.declared.schema.DataType.{DataType}
 use Rattle.ipc_model.specs.declared.schema.Dictionary.{Dictionary}
 use Rattle.ipc_model.specs.declared.schema.Schema.{Schema}
 use Rattle.ipc_text_json.specs.SchemaErrors.{IsField, IsPairs, IsValueError}
-use Rattle.ipc_text_json.specs.SchemaJson.{dictionary_json, items_of, schema_json, type_json}
+use Rattle.serde_json.specs.View.{items_of}
+use Rattle.ipc_text_json.specs.SchemaJson.{dictionary_json, schema_json, type_json}
 use Rattle.ipc_text_json.specs.SchemaMembers.{field_object, schema_object}
 use Rattle.ipc_text_json.specs.SchemaTexts.{IsReadable}
 use Rattle.ipc_text_json.specs.declared.schema_errors.SchemaError.TheVariants as e
@@ -37,11 +37,6 @@ field_of value c d m n u k count dictionary name nullable is ec ed em en eu ek =
       is ∙ (λ i. field_object (counted i) (ed i) (em.1 i) (en i) (eu i) (ek.1 i)),
     )
 
--- the items of an array, as both definitions have them
-items_same : (xs : List Data) → seen.items_of xs ≡ items_of xs
-items_same [] = refl
-items_same (x ∷ xs) = ap (λ ys. item x ys) (items_same xs)
-
 -- where each entry is a field and the pairs are good, and yet the value is no schema's, the nesting is wrong
 pub nesting_of : (value metadata : Data) (vs : List Value) → value ≡ schema_object (items_view vs) metadata → IsPairs metadata
     → AllByRecursion IsField (map view vs)
@@ -54,6 +49,6 @@ nesting_of value metadata vs is pairs all other = (
   (
     all,
     λ fields readable same. other (record { fields = fields; metadata = pairs.0 }) readable
-        (is ∙ (λ i. schema_object ((ap seen.items_of same ∙ items_same _) i) (pairs.1 i))),
+        (is ∙ (λ i. schema_object (ap items_of same i) (pairs.1 i))),
   ),
 )

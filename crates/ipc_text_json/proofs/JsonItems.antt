@@ -4,9 +4,8 @@ use Rattle.std.proofs.Common.{add-one, refl, sym, ap}
 use Rattle.std.proofs.lemmas.List.{take_all}
 use Rattle.serde_json.specs.Data.{Data, Items, item, no_items, Members, member, array, object}
 use Rattle.serde_json.specs.Events.{items_len}
-use Rattle.serde_json.specs.View as seen
 use Rattle.serde_json.specs.View.{view, items_view}
-use Rattle.ipc_text_json.specs.SchemaJson.{items_of}
+use Rattle.serde_json.specs.View.{items_of}
 use Rattle.serde_json.specs.declared.value.Value.{Value}
 use Rattle.serde_json.proofs.Views.{items_len-items_view}
 
@@ -59,9 +58,9 @@ pub first_of_members : {k l : List ℕ} {d e : Data} {a b : Members} → member 
 first_of_members h = cc
 
 -- two lists of values are the same where their items are
-pub same_list : (xs ys : List Data) → seen.items_of xs ≡ items_of ys → xs ≡ ys
+pub same_list : (xs ys : List Data) → items_of xs ≡ items_of ys → xs ≡ ys
 same_list [] [] e = refl
 same_list [] (y ∷ ys) e = absurd cc
 same_list (x ∷ xs) [] e = absurd cc
 same_list (x ∷ xs) (y ∷ ys) e =
-    let p : x ≡ y = cc in let q : seen.items_of xs ≡ items_of ys = cc in ap (λ z. z ∷ xs) p ∙ ap (λ zs. y ∷ zs) (same_list xs ys q)
+    let p : x ≡ y = cc in let q : items_of xs ≡ items_of ys = cc in ap (λ z. z ∷ xs) p ∙ ap (λ zs. y ∷ zs) (same_list xs ys q)

@@ -1,10 +1,11 @@
 pub mod FieldTokens
 pub mod Fields
 pub mod FirstBad
-pub mod Fronts
 pub mod JsonItems
 pub mod PairSteps
 pub mod ReadBack
 pub mod Readable
 pub mod SchemaBack
+pub mod StatedSchemas
 pub mod Trees
+pub mod ValueTokens

@@ -2,7 +2,8 @@
 use Rattle.std.proofs.Common.{◌≡◌, ◌∙◌, ℕ, List, [], ◌∷◌, ◌++◌, map, refl, sym, ap, append_assoc}
 use Rattle.std.proofs.lemmas.List.{append-nil}
 use Rattle.serde_json.specs.Data.{Data, Items, item, no_items}
-use Rattle.ipc_text_json.specs.SchemaJson.{items_of, pair_json}
+use Rattle.serde_json.specs.View.{items_of}
+use Rattle.ipc_text_json.specs.SchemaJson.{pair_json}
 
 abbrev pub Pairs : Type 0
 Pairs = List (List ℕ × List ℕ)

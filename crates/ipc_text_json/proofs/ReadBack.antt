@@ -17,7 +17,7 @@ use Rattle.serde_json.specs.Written.{outline, items_outline, compact_text}
 use Rattle.serde_json.proofs.Numbers.{number_of-decimal, number_of-negative}
 use Rattle.serde_json.proofs.Texts.{print-outline}
 use Rattle.ipc_text_json.specs.RowJson.{json_number}
-use Rattle.ipc_text_json.specs.SchemaJson.{items_of}
+use Rattle.serde_json.specs.View.{items_of}
 
 -- a value that its JSON reads as, no deeper than n
 pub record IsBack (n : ℕ) (d : Data) : Type 0 where

@@ -1,5 +1,5 @@
 -- The text that is printed of a schema reads as its JSON data.
-use Rattle.std.proofs.Common.{◌≡◌, refl, sym, ap, subst, ℕ, ◌+◌, ◌^◌, ◌<◌, ◌≤◌, List, [], ◌∷◌, ◌++◌, map, length, arith}
+use Rattle.std.proofs.Common.{◌≡◌, refl, sym, ap, subst, ℕ, ◌+◌, ◌^◌, ◌<◌, ◌≤◌, List, [], ◌∷◌, ◌++◌, map, length, arith, flat_map}
 use Rattle.std.proofs.Common.{Option, Some, None, length-append}
 use Rattle.std.proofs.lemmas.List.{length-map}
 use Rattle.std.proofs.Math.Nat.{max-le}
@@ -25,14 +25,14 @@ use Rattle.ipc_model.specs.declared.schema.Schema.{}
 use Rattle.ipc_text_json.specs.SchemaJson.{int_name, unit_name, date_unit_name, type_array, text_or_null, type_json, dictionary_json}
 use Rattle.ipc_text_json.specs.SchemaJson.{pair_json}
 use Rattle.ipc_text_json.specs.SchemaJson.{pairs_json, own_json}
-use Rattle.ipc_text_json.specs.SchemaJson.{field_step, field_json, concat_lists, schema_json, schema_text}
+use Rattle.ipc_text_json.specs.SchemaJson.{field_step, field_json, schema_json, schema_text}
 use Rattle.ipc_text_json.specs.SchemaJson.{}
 use Rattle.ipc_text_json.specs.SchemaTexts.{HasWideId}
 use Rattle.ipc_text_json.specs.SchemaTexts.{}
 use Rattle.ipc_text_json.proofs.ReadBack.{IsBack, string_back, boolean_back, null_back, unsigned_back, signed_back, none_back}
 use Rattle.ipc_text_json.proofs.ReadBack.{item_back, items_back}
 use Rattle.ipc_text_json.proofs.ReadBack.{array_back, text_back}
-use Rattle.ipc_text_json.proofs.Trees.{preorder_unrolled}
+use Rattle.ipc_text_json.proofs.Trees.{preorder_unrolled, joined, all_split}
 
 -- ---- the parts of a field
 
@@ -142,12 +142,8 @@ all_both : {A : Type 0} (P : A → Type 0) (xs ys : List A) → AllByRecursion P
 all_both P [] ys h k = k
 all_both P (x ∷ xs) ys h k = (h.0, all_both P xs ys h.1 k)
 
-all_split : {A : Type 0} (P : A → Type 0) (xs ys : List A) → AllByRecursion P (xs ++ ys) → AllByRecursion P xs × AllByRecursion P ys
-all_split P [] ys h = (tt, h)
-all_split P (x ∷ xs) ys h = let r = all_split P xs ys h.1 in ((h.0, r.0), r.1)
-
 children_back : (bs : List Back) (d : ℕ) → AllByRecursion IsNarrow (all_at d (map preorder (fields_of bs)))
-    → length (all_at d (map preorder (fields_of bs))) < 2 ^ 64 → AllByRecursion (IsBack 3) (concat_lists (map field_json (fields_of bs)))
+    → length (all_at d (map preorder (fields_of bs))) < 2 ^ 64 → AllByRecursion (IsBack 3) (flat_map field_json (fields_of bs))
 children_back [] d h few = tt
 children_back (f ∷ fs) d h few =
     let rest = all_at d (map preorder (fields_of fs)) in
@@ -168,14 +164,15 @@ field_layer y = λ d narrow few.
     let same = length-map (fields_of y.children) field_json in
     subst (AllByRecursion (IsBack 3)) (sym (fold-roll-Field (List Data) field_step z)) (
       own_back (map-Field Field (List Data) field_json z) each.0.0 each.0.1 (omega (arith, all, some, same)),
-      children_back y.children (d + 1) each.1 (omega (arith, all)),
+      subst (AllByRecursion (IsBack 3)) (sym (joined (fields_of y.children)))
+          (children_back y.children (d + 1) each.1 (omega (arith, all))),
     )
 
 field_back : (f : Field) → IsFieldBack f
 field_back = ind-Field IsFieldBack (λ x y is. subst (λ z. IsFieldBack (roll-Field z)) is (field_layer y))
 
 fields_back : (fs : List Field) (d : ℕ) → AllByRecursion IsNarrow (all_at d (map preorder fs))
-    → length (all_at d (map preorder fs)) < 2 ^ 64 → AllByRecursion (IsBack 3) (concat_lists (map field_json fs))
+    → length (all_at d (map preorder fs)) < 2 ^ 64 → AllByRecursion (IsBack 3) (flat_map field_json fs)
 fields_back [] d h few = tt
 fields_back (f ∷ fs) d h few =
     let rest = all_at d (map preorder fs) in

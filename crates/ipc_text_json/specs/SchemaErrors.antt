@@ -1,5 +1,5 @@
 -- Where and why a text is not the JSON of a schema (RFC 8259).
-use Rattle.std.specs.Prelude.{◌≡◌, ◌≢◌, ℕ, Bool, List, Option, Some, None, ⊤, codes, map, take}
+use Rattle.std.specs.Prelude.{◌≡◌, ◌≢◌, ℕ, Bool, List, Option, Some, None, ⊤, codes, flat_map, take}
 use Rattle.std.specs.Prelude.{slice_get}
 use Rattle.std.specs.List.{AllByRecursion}
 use Rattle.serde_json.specs.Data.{Data, Items, boolean, number, string, unsigned}
@@ -16,7 +16,7 @@ use Rattle.ipc_model.specs.declared.schema.Field.{Field}
 use Rattle.ipc_model.specs.declared.schema.Field.TheOpen.{Field-F}
 use Rattle.ipc_model.specs.declared.schema.Schema.{Schema}
 use Rattle.serde_json.specs.View.{items_of}
-use Rattle.ipc_text_json.specs.SchemaJson.{dictionary_json, field_json, concat_lists, own_json}
+use Rattle.ipc_text_json.specs.SchemaJson.{dictionary_json, field_json, own_json}
 use Rattle.ipc_text_json.specs.SchemaJson.{pairs_json, schema_json, type_json}
 use Rattle.ipc_text_json.specs.SchemaMembers.{field_object, schema_object}
 use Rattle.ipc_text_json.specs.SchemaTexts.{HasWideId, IsReadable}
@@ -62,7 +62,7 @@ IsFirstBadEntry values entry part = (value : Data) × (slice_get values entry �
 -- children do not fit, or fields are nested too deep
 abbrev pub IsBadNesting : List Data → Type 0
 IsBadNesting values = AllByRecursion IsField values × ((fields : List Field)
-    → AllByRecursion IsReadable (entries fields) → values ≢ concat_lists (map field_json fields))
+    → AllByRecursion IsReadable (entries fields) → values ≢ flat_map field_json fields)
 
 -- why the value of a JSON text is no schema's: it is no object of the two members of a schema; this
 -- entry is no field; the pairs are none; the nesting is wrong; or the schema is refused

@@ -1,11 +1,12 @@
 -- The JSON text of a schema (RFC 8259), as serde_json prints it: its fields with all below them in
 -- pre-order, and its pairs. The keys of each object ascend.
-use Rattle.std.specs.Prelude.{ℕ, List, [], ◌∷◌, ◌++◌, map, length, codes, decimal, Bool, true}
-use Rattle.std.specs.Prelude.{false, Option, Some, None}
+use Rattle.std.specs.Prelude.{ℕ, List, [], ◌∷◌, ◌++◌, map, flat_map, length, codes, decimal, Bool}
+use Rattle.std.specs.Prelude.{true, false, Option, Some, None}
 use Rattle.json.specs.Token.{Token}
 use Rattle.json.specs.Tree.{json_tokens}
 use Rattle.serde_json.specs.Data.{unsigned, Data, null, boolean, number, string, array, object}
-use Rattle.serde_json.specs.Data.{Items, no_items, item, no_members, member}
+use Rattle.serde_json.specs.Data.{item, no_members, member}
+use Rattle.serde_json.specs.View.{items_of}
 use Rattle.serde_json.specs.Written.{compact_text, outline}
 use Rattle.ipc_model.specs.Ranges.{width}
 use Rattle.ipc_model.specs.declared.schema.DataType.{DataType}
@@ -19,11 +20,6 @@ use Rattle.ipc_model.specs.declared.schema.Schema.{Schema}
 use Rattle.ipc_model.specs.declared.schema.TimeUnit.{TimeUnit}
 use Rattle.ipc_model.specs.declared.schema.TimeUnit.TheVariants as u
 use Rattle.ipc_text_json.specs.RowJson.{json_number}
-
--- the items of an array
-abbrev pub items_of : List Data → Items
-items_of [] = no_items
-items_of (x ∷ xs) = item x (items_of xs)
 
 -- the short name of a unit of time (Schema.fbs, enum TimeUnit)
 abbrev pub unit_name : TimeUnit → List ℕ
@@ -96,14 +92,9 @@ own_json f =
     (member (codes "nullable") (boolean f.nullable)
     (member (codes "type") (type_json f.kind) no_members))))))
 
--- several lists, one after another
-abbrev pub concat_lists : List (List Data) → List Data
-concat_lists [] = []
-concat_lists (x ∷ xs) = x ++ concat_lists xs
-
 -- a field and all below it, given the lists of its children
 abbrev pub field_step : Field-F (List Data) → List Data
-field_step f = own_json f ∷ concat_lists f.children
+field_step f = own_json f ∷ flat_map (λ below. below) f.children
 
 -- a field and all below it, in pre-order
 abbrev pub field_json : Field → List Data
@@ -112,7 +103,7 @@ field_json = fold-Field (List Data) field_step
 -- a schema as an object (Schema.fbs, table Schema)
 abbrev pub schema_json : Schema → Data
 schema_json s =
-    object (member (codes "fields") (array (items_of (concat_lists (map field_json s.fields))))
+    object (member (codes "fields") (array (items_of (flat_map field_json s.fields)))
     (member (codes "metadata") (pairs_json s.metadata) no_members))
 
 -- the text of a schema
@@ -125,8 +116,7 @@ pairs_text pairs = compact_text (pairs_json pairs)
 
 -- the tokens of several values, one after another
 abbrev pub tokens_of : List Data → List Token
-tokens_of [] = []
-tokens_of (x ∷ xs) = json_tokens (outline x) ++ tokens_of xs
+tokens_of values = flat_map (λ x. json_tokens (outline x)) values
 
 -- the tokens of a field's first three members
 abbrev pub first_tokens : {A : Type 0} → Field-F A → List Token

@@ -1,16 +1,13 @@
 //! Writes a row as JSON.
-ghost use Rattle.std.specs.Prelude.{◌≡◌, ◌++◌, ◌∷◌, [], map, OnOk, OnErr, IfOk};
-ghost use Rattle.std.specs.Prelude.{IfErr, string_bytes};
+ghost use Rattle.std.specs.Prelude.{◌≡◌, ◌++◌, ◌∷◌, [], map, OnOk, IfOk, IfErr, string_bytes};
 ghost use Rattle.hex.specs.Hex.{encode_lower};
 ghost use Rattle.json.specs.Token.{Token};
 ghost use Rattle.json.specs.Tree.{json_tokens, items_tokens};
-ghost use Rattle.json.specs.Written.{WritesFront};
 ghost use Rattle.serde_json.specs.Data.{array};
 ghost use Rattle.serde_json.specs.Written.{outline, items_outline};
 ghost use Rattle.ipc_text_json.specs.RowJson as spec;
 ghost use Rattle.ipc_text_json.specs.RowJson.{cell_json, int_json, items_json, list_json};
-ghost use Rattle.ipc_text_json.specs.RowJson.{row_field};
-ghost use Rattle.ipc_text_json.specs.RowJson.{row_text};
+ghost use Rattle.ipc_text_json.specs.RowJson.{row_field, row_text};
 ghost use Rattle.ipc_text_json.specs.RowTokens.{closing, name_tokens, opening};
 
 use ipc_model::{DataType, Field, Schema, Value};
@@ -27,13 +24,11 @@ pub enum RowShape {
     Object,
 }
 
-/// Appends a signed number of a field of this type to a JSON writer. A date, a time or a timestamp
-/// is written as its text if it has one; any other number is written as a number. If memory ran
-/// out, the writer is unchanged.
-pub fn put_int(out: &mut Writer, kind: &DataType, number: i64) -> Result<(), AllocError>
+// A signed number of a field of this type. A date, a time or a timestamp is written as its text if
+// it has one; any other number is written as a number.
+fn put_int(out: &mut Writer, kind: &DataType, number: i64) -> Result<(), AllocError>
     ensures ok { OnOk result (out.new.tokens
         ≡ out.old.tokens ++ json_tokens (outline (int_json kind.now number))) }
-    ensures refused { OnErr result (out.new.tokens ≡ out.old.tokens) }
     ensures before { out.new.before ≡ out.old.before }
 {
     match temporal_text(kind, number) {
@@ -42,12 +37,11 @@ pub fn put_int(out: &mut Writer, kind: &DataType, number: i64) -> Result<(), All
     }
 }
 
-/// Appends bytes to a JSON writer as a string of lower-case hexadecimal digits. `digits` is scratch
-/// memory, whose contents have no meaning. If memory ran out, the writer is unchanged.
-pub fn put_bytes(out: &mut Writer, digits: &mut Vec<u8>, bytes: &[u8]) -> Result<(), AllocError>
+// Bytes as a string of lower-case hexadecimal digits. `digits` is scratch memory, whose contents
+// have no meaning.
+fn put_bytes(out: &mut Writer, digits: &mut Vec<u8>, bytes: &[u8]) -> Result<(), AllocError>
     ensures ok { OnOk result (out.new.tokens
         ≡ out.old.tokens ++ Token.string (encode_lower bytes.now) ∷ []) }
-    ensures refused { OnErr result (out.new.tokens ≡ out.old.tokens) }
     ensures before { out.new.before ≡ out.old.before }
 {
     digits.clear();
@@ -58,7 +52,6 @@ pub fn put_bytes(out: &mut Writer, digits: &mut Vec<u8>, bytes: &[u8]) -> Result
 // The opening bracket of a row or a struct.
 fn begin_values(out: &mut Writer, shape: RowShape) -> Result<(), AllocError>
     ensures ok { OnOk result (out.new.tokens ≡ out.old.tokens ++ opening shape ∷ []) }
-    ensures refused { OnErr result (out.new.tokens ≡ out.old.tokens) }
     ensures before { out.new.before ≡ out.old.before }
 {
     match shape {
@@ -70,7 +63,6 @@ fn begin_values(out: &mut Writer, shape: RowShape) -> Result<(), AllocError>
 // In an object, the name of the next value's field.
 fn put_name(out: &mut Writer, shape: RowShape, name: &str) -> Result<(), AllocError>
     ensures ok { OnOk result (out.new.tokens ≡ out.old.tokens ++ name_tokens shape name.now) }
-    ensures refused { OnErr result (out.new.tokens ≡ out.old.tokens) }
     ensures before { out.new.before ≡ out.old.before }
 {
     match shape {
@@ -82,7 +74,6 @@ fn put_name(out: &mut Writer, shape: RowShape, name: &str) -> Result<(), AllocEr
 // The closing bracket of a row or a struct.
 fn end_values(out: &mut Writer, shape: RowShape) -> Result<(), AllocError>
     ensures ok { OnOk result (out.new.tokens ≡ out.old.tokens ++ closing shape ∷ []) }
-    ensures refused { OnErr result (out.new.tokens ≡ out.old.tokens) }
     ensures before { out.new.before ≡ out.old.before }
 {
     match shape {
@@ -101,8 +92,6 @@ fn put_cell(
 ) -> Result<(), AllocError>
     ensures ok { OnOk result (out.new.tokens
         ≡ out.old.tokens ++ json_tokens (outline (cell_json shape field.now value.now))) }
-    ensures refused { OnErr result (WritesFront out.old.tokens out.new.tokens
-        (json_tokens (outline (cell_json shape field.now value.now)))) }
     ensures before { out.new.before ≡ out.old.before }
 {
     let children = field.children.as_slice();
@@ -130,9 +119,6 @@ fn put_list(
     ensures ok { OnOk result (out.new.tokens
         ≡ out.old.tokens ++ json_tokens
         (outline (array (list_json (map (row_field shape) children.now) values.now)))) }
-    ensures refused { OnErr result (WritesFront out.old.tokens out.new.tokens
-        (json_tokens (outline (array
-        (list_json (map (row_field shape) children.now) values.now))))) }
     ensures before { out.new.before ≡ out.old.before }
 {
     out.begin_array()?;
@@ -154,8 +140,6 @@ fn put_items(
     ensures ok { OnOk result (out.new.tokens
         ≡ out.old.tokens ++ items_tokens
         (items_outline (items_json (cell_json shape child.now) values.now))) }
-    ensures refused { OnErr result (WritesFront out.old.tokens out.new.tokens
-        (items_tokens (items_outline (items_json (cell_json shape child.now) values.now)))) }
     ensures before { out.new.before ≡ out.old.before }
 {
     for value in values {
@@ -175,8 +159,6 @@ fn put_values(
 ) -> Result<(), AllocError>
     ensures ok { OnOk result (out.new.tokens
         ≡ out.old.tokens ++ json_tokens (outline (spec.row_json shape fields.now values.now))) }
-    ensures refused { OnErr result (WritesFront out.old.tokens out.new.tokens
-        (json_tokens (outline (spec.row_json shape fields.now values.now)))) }
     ensures before { out.new.before ≡ out.old.before }
 {
     begin_values(out, shape)?;
@@ -190,30 +172,12 @@ fn put_values(
     end_values(out, shape)
 }
 
-/// Appends a row to a JSON writer, in this shape.
+/// Returns a row as compact JSON (RFC 8259), in this shape: an array of its values, or an object
+/// with the names of its columns as keys, in their order. Names that repeat are not joined.
 ///
 /// The row must have values of the kinds of its columns. It need not conform in every way: nulls in
 /// columns that are not nullable, milliseconds of a date that are no whole days, and times outside
-/// 24 hours are written too. `digits` is scratch memory, whose contents have no meaning. If memory
-/// ran out, the first tokens of the row may have been appended.
-pub fn put_row_json(
-    out: &mut Writer,
-    digits: &mut Vec<u8>,
-    shape: RowShape,
-    schema: &Schema,
-    row: &[Value],
-) -> Result<(), AllocError>
-    ensures ok { OnOk result (out.new.tokens
-        ≡ out.old.tokens ++ json_tokens (outline (spec.row_json shape schema.now.fields row.now))) }
-    ensures refused { OnErr result (WritesFront out.old.tokens out.new.tokens
-        (json_tokens (outline (spec.row_json shape schema.now.fields row.now)))) }
-    ensures before { out.new.before ≡ out.old.before }
-{
-    put_values(out, digits, shape, schema.fields.as_slice(), row)
-}
-
-/// Returns a row as compact JSON (RFC 8259), in this shape: an array of its values, or an object
-/// with the names of its columns as keys, in their order. Names that repeat are not joined.
+/// 24 hours are written too.
 ///
 /// Numbers and durations are integers, bytes are strings of lower-case hexadecimal digits, lists
 /// are arrays, and structs have the shape of the row. A date, a time or a timestamp is its text if

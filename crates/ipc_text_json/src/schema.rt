@@ -1,18 +1,16 @@
 //! Writes a schema as JSON.
-ghost use Rattle.std.specs.Prelude.{◌≡◌, ◌++◌, ◌∷◌, [], map, OnOk, IfOk, IfErr, string_bytes};
-ghost use Rattle.std.specs.Prelude.{codes};
-ghost use Rattle.json.specs.Token.{Token};
+ghost use Rattle.std.specs.Prelude.{◌≡◌, ◌++◌, ◌∷◌, [], map, flat_map, OnOk, IfOk, IfErr};
+ghost use Rattle.std.specs.Prelude.{string_bytes, codes};
 ghost use Rattle.json.specs.Tree.{json_tokens, items_tokens};
 ghost use Rattle.serde_json.specs.Data.{string, number, unsigned};
+ghost use Rattle.serde_json.specs.View.{items_of};
 ghost use Rattle.serde_json.specs.Written.{compact_text, outline, items_outline};
 ghost use Rattle.ipc_model.specs.declared.schema.Field.{out-Field};
 ghost use Rattle.ipc_text_json.specs.SchemaJson as spec;
 ghost use Rattle.ipc_text_json.specs.SchemaJson.{type_array, type_json, dictionary_json, pair_json};
-ghost use Rattle.ipc_text_json.specs.SchemaJson.{pairs_json, own_json, field_json, concat_lists};
-ghost use Rattle.ipc_text_json.specs.SchemaJson.{schema_text};
+ghost use Rattle.ipc_text_json.specs.SchemaJson.{pairs_json, own_json, field_json, schema_text};
 ghost use Rattle.ipc_text_json.specs.SchemaJson.{pairs_text, tokens_of, first_tokens, last_tokens};
 ghost use Rattle.ipc_text_json.specs.SchemaJson.{unit_name, date_unit_name, int_name, text_or_null};
-ghost use Rattle.ipc_text_json.specs.SchemaJson.{items_of};
 
 use ipc_model::{DataType, DateUnit, Dictionary, Field, Schema, Text, TimeUnit};
 use ipc_text_temporal::TextFault;
@@ -239,7 +237,7 @@ fn put_field(out: &mut Writer, field: &Field) -> Result<(), AllocError>
 #[cycle(fields)]
 fn put_fields(out: &mut Writer, fields: &[Field]) -> Result<(), AllocError>
     ensures ok { OnOk result (out.new.tokens
-        ≡ out.old.tokens ++ tokens_of (concat_lists (map field_json fields.now))) }
+        ≡ out.old.tokens ++ tokens_of (flat_map field_json fields.now)) }
     ensures before { out.new.before ≡ out.old.before }
 {
     for field in fields {

@@ -1,19 +1,17 @@
 //! Says where and why a text is not the JSON of a schema.
-ghost use Rattle.std.specs.Prelude.{◌≡◌, ◌≢◌, Ok, IfErr, IfOk, IfSome, List, Some, None};
-ghost use Rattle.std.specs.Prelude.{map, true, false};
+ghost use Rattle.std.specs.Prelude.{◌≡◌, ◌≢◌, Ok, IfErr, IfOk, IfSome, Some, None, map, true};
+ghost use Rattle.std.specs.Prelude.{false};
 ghost use Rattle.std.specs.List.{AllByRecursion};
 ghost use Rattle.serde_json.specs.Read.{read as read_text};
 ghost use Rattle.serde_json.specs.View.{view};
 ghost use Rattle.ipc_model.specs.Entries.{entries as spec_entries};
-ghost use Rattle.ipc_model.specs.FirstFault.{IsFirstFault};
 ghost use Rattle.ipc_model.specs.Limits.{IsStandard};
 ghost use Rattle.ipc_model.specs.WellFormed.{HasGoodType, WellFormed};
 ghost use Rattle.ipc_model.specs.declared.limits.Limits.{Limits};
 ghost use Rattle.ipc_model.specs.declared.schema.DataType.{DataType};
 ghost use Rattle.ipc_model.specs.declared.schema.Schema.{Schema};
 ghost use Rattle.ipc_text_json.specs.SchemaErrors.{IsBadPart, IsErrorOf, IsField, IsFirstBadEntry};
-ghost use Rattle.ipc_text_json.specs.SchemaErrors.{IsPairs};
-ghost use Rattle.ipc_text_json.specs.SchemaErrors.{IsValueError};
+ghost use Rattle.ipc_text_json.specs.SchemaErrors.{IsPairs, IsValueError};
 ghost use Rattle.ipc_text_json.specs.SchemaJson.{schema_json, type_json};
 ghost use Rattle.ipc_text_json.specs.SchemaTexts.{IsReadable};
 

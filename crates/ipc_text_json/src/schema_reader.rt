@@ -1,12 +1,10 @@
 //! Reads a schema from its JSON text.
-ghost use Rattle.std.specs.Prelude.{◌≡◌, ◌≢◌, ◌⊎◌, ◌∷◌, [], ℕ, List, Bool, Option, Some, None};
-ghost use Rattle.std.specs.Prelude.{Ok, IfOk, OnOk};
-ghost use Rattle.std.specs.Prelude.{IfErr, IfSome, MatchResult, FitsSigned, IsSome, IsOk, length};
-ghost use Rattle.std.specs.Prelude.{map, ◌++◌, ◌+◌, codes};
+ghost use Rattle.std.specs.Prelude.{◌≡◌, ◌≢◌, ◌⊎◌, ◌∷◌, [], ℕ, List, Bool, Option, Some, None, Ok};
+ghost use Rattle.std.specs.Prelude.{IfOk, OnOk, IfErr, IfSome, MatchResult, FitsSigned, IsSome};
+ghost use Rattle.std.specs.Prelude.{IsOk, length, map, flat_map, ◌++◌, ◌+◌};
 ghost use Rattle.std.specs.Int.{w64};
 ghost use Rattle.serde_json.specs.Data.{Items as JsonItems, string, boolean, number, unsigned};
-ghost use Rattle.serde_json.specs.Data.{array, Data, item};
-ghost use Rattle.serde_json.specs.Data.{no_items, no_members, Members, member, object};
+ghost use Rattle.serde_json.specs.Data.{array, Data, item, no_items, Members, member, object};
 ghost use Rattle.serde_json.specs.View.{view, items_view, members_view};
 ghost use Rattle.ipc_model.specs.Ranges.{width as spec_width};
 ghost use Rattle.ipc_model.specs.WellFormed.{HasGoodType, WellFormed};
@@ -21,17 +19,17 @@ ghost use Rattle.ipc_model.specs.declared.schema.IntBits.{IntBits};
 ghost use Rattle.ipc_model.specs.declared.schema.TimeUnit.{TimeUnit};
 ghost use Rattle.ipc_text_json.specs.SchemaJson.{unit_name, date_unit_name, type_array, type_json};
 ghost use Rattle.ipc_text_json.specs.SchemaJson.{own_json, text_or_null, pair_json, pairs_json};
-ghost use Rattle.ipc_text_json.specs.SchemaJson.{dictionary_json};
+ghost use Rattle.ipc_text_json.specs.SchemaJson.{dictionary_json, field_json, schema_json};
+ghost use Rattle.ipc_text_json.specs.SchemaJson.{schema_text};
 ghost use Rattle.ipc_text_json.specs.SchemaMembers.{field_object, schema_object};
 ghost use Rattle.ipc_text_json.specs.SchemaTexts.{IsUnread, HasWideId, IsZoneless, IsReadable};
+ghost use Rattle.ipc_text_json.specs.SchemaTexts.{StatesSchema, StatesNoSchema};
 ghost use Rattle.ipc_model.specs.Entries.{preorder, all_at, entries as spec_entries};
 ghost use Rattle.ipc_model.specs.Limits.{IsStandard};
 ghost use Rattle.ipc_model.specs.declared.limits.Limits.{Limits};
 ghost use Rattle.ipc_model.specs.declared.schema.Schema.{Schema};
 ghost use Rattle.serde_json.specs.Read.{read as read_text};
 ghost use Rattle.std.specs.List.{AllByRecursion};
-ghost use Rattle.ipc_text_json.specs.SchemaJson.{field_json, concat_lists, schema_json};
-ghost use Rattle.ipc_text_json.specs.SchemaJson.{schema_text};
 
 use ipc_model::{
     DataType, DateUnit, Dictionary, Field, IndexType, IntBits, Items, Limits, Schema, SchemaFault,
@@ -520,10 +518,10 @@ fn read_children(
 ) -> Result<(Vec<Field>, &[Value]), TextFault>
     ensures count { IfOk result (λ read. length read.0.items ≡ count) }
     ensures read { IfOk result (λ read. map view entries.now
-        ≡ concat_lists (map field_json read.0.items) ++ map view read.1.now) }
+        ≡ flat_map field_json read.0.items ++ map view read.1.now) }
     ensures all { (fs : List Field) (place : ℕ) (rest : List Data) → place + depth ≡ 65
         → length fs ≡ count → AllByRecursion IsReadable (all_at place (map preorder fs))
-        → map view entries.now ≡ concat_lists (map field_json fs) ++ rest
+        → map view entries.now ≡ flat_map field_json fs ++ rest
         → MatchResult result (λ read. (read.0.items ≡ fs) × (map view read.1.now ≡ rest))
         (λ fault. fault ≡ TextFault.OutOfMemory) }
     ensures refused { IfErr result IsUnread }
@@ -541,9 +539,9 @@ fn read_children(
 // The columns, each with all below it.
 fn read_columns(alloc: Global, entries: &[Value]) -> Result<Vec<Field>, TextFault>
     ensures read { IfOk result (λ fields.
-        map view entries.now ≡ concat_lists (map field_json fields.items)) }
+        map view entries.now ≡ flat_map field_json fields.items) }
     ensures all { (fs : List Field) → AllByRecursion IsReadable (spec_entries fs)
-        → map view entries.now ≡ concat_lists (map field_json fs)
+        → map view entries.now ≡ flat_map field_json fs
         → MatchResult result (λ read. read.items ≡ fs) (λ fault. fault ≡ TextFault.OutOfMemory) }
     ensures refused { IfErr result IsUnread }
 {
@@ -661,4 +659,22 @@ pub fn schema_from_json(alloc: Global, text: &str) -> Result<Schema, TextFault>
     ensures refused { IfErr result IsUnread }
 {
     read_text_of(alloc, text)
+}
+
+/// Reads a schema from the bytes of its JSON text, as `schema_from_json` does from the text.
+///
+/// Errors: X6 if the bytes are not UTF-8, or are a text for which `schema_from_json` returns X6;
+/// `OutOfMemory`.
+pub fn schema_from_json_bytes(alloc: Global, bytes: &[u8]) -> Result<Schema, TextFault>
+    ensures read { IfOk result (StatesSchema bytes.now) }
+    ensures all { (s : Schema) → StatesSchema bytes.now s
+        → AllByRecursion (λ e. HasWideId e.dictionary) (spec_entries s.fields)
+        → MatchResult result (λ read. read ≡ s) (λ fault. fault ≡ TextFault.OutOfMemory) }
+    ensures refused { IfErr result (λ fault. (fault ≡ TextFault.OutOfMemory)
+        ⊎ ((fault ≡ TextFault.BadSchemaJson) × StatesNoSchema bytes.now)) }
+{
+    let Ok(text) = str::from_utf8(bytes) else {
+        return Err(TextFault::BadSchemaJson);
+    };
+    schema_from_json(alloc, text)
 }

@@ -1,6 +1,6 @@
 //! Writes dates, times and timestamps at a position of a text.
-ghost use Rattle.std.specs.Prelude.{◌≡◌, ◌<◌, ◌≤◌, ◌+◌, ◌/◌, ◌%◌, option_map, length};
-ghost use Rattle.std.specs.Prelude.{IsTrue, ◌↔◌, pos, unsigned_abs};
+ghost use Rattle.std.specs.Prelude.{◌≡◌, ◌<◌, ◌≤◌, ◌+◌, ◌/◌, ◌%◌, option_map, length, IsTrue, ◌↔◌};
+ghost use Rattle.std.specs.Prelude.{pos, unsigned_abs};
 ghost use Rattle.std.specs.Int.{int_div_euclid, int_rem_euclid};
 ghost use Rattle.ipc_model.specs.Ranges.{IsTimeOfDay, ticks_in_a_day};
 ghost use Rattle.ipc_text_temporal.specs.Temporals as spec;

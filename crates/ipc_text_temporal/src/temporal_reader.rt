@@ -1,15 +1,14 @@
 //! Reads dates, times and timestamps: parses a text into a number, and compares the number's text
 //! with it.
-ghost use Rattle.std.specs.Prelude.{◌≡◌, ◌<◌, ◌+◌, ◌*◌, ◌/◌, ◌%◌, ◌++◌, ◌∷◌, ◌^◌, ℕ, ℤ, pos};
-ghost use Rattle.std.specs.Prelude.{◌*ℤ◌, ◌+ℤ◌, List, IfSome, Some, option_map, FitsSigned};
+ghost use Rattle.std.specs.Prelude.{◌≡◌, ◌<◌, ◌+◌, ◌*◌, ◌/◌, ◌%◌, ◌++◌, ◌∷◌, ◌^◌, ℕ, ℤ, pos, ◌*ℤ◌};
+ghost use Rattle.std.specs.Prelude.{◌+ℤ◌, List, IfSome, Some, option_map, FitsSigned};
 ghost use Rattle.std.specs.Int.{w64};
 ghost use Rattle.ipc_model.specs.Ranges.{ticks_in_a_day};
 ghost use Rattle.ipc_text_temporal.specs.Calendar.{Civil, two_digits, four_digits, civil_text};
 ghost use Rattle.ipc_text_temporal.specs.Calendar.{day_text};
 ghost use Rattle.ipc_text_temporal.specs.Temporals as spec;
 ghost use Rattle.ipc_text_temporal.specs.Temporals.{per_second, three_digits, clock_text};
-ghost use Rattle.ipc_text_temporal.specs.Temporals.{fraction_text};
-ghost use Rattle.ipc_text_temporal.specs.Temporals.{time_of_day, date_of_day};
+ghost use Rattle.ipc_text_temporal.specs.Temporals.{fraction_text, time_of_day, date_of_day};
 ghost use Rattle.jiff_core.specs.Calendar.{IsEpochDay};
 
 use crate::short_text::ShortText;

@@ -1,6 +1,6 @@
 //! Writes dates, times and timestamps as short texts, or at a position of a text.
-ghost use Rattle.std.specs.Prelude.{◌≡◌, ◌≤◌, ◌+◌, ◌++◌, option_map, length, take, ◌↔◌};
-ghost use Rattle.std.specs.Prelude.{drop, IfSome, IsNone, IsSome};
+ghost use Rattle.std.specs.Prelude.{◌≡◌, ◌≤◌, ◌+◌, ◌++◌, option_map, length, take, ◌↔◌, drop};
+ghost use Rattle.std.specs.Prelude.{IfSome, IsNone, IsSome};
 ghost use Rattle.ipc_model.specs.Ranges.{IsTimeOfDay};
 ghost use Rattle.ipc_model.specs.declared.schema.DateUnit.{DateUnit};
 ghost use Rattle.ipc_model.specs.declared.schema.TimeUnit.{TimeUnit};

@@ -1,10 +1,7 @@
 -- What the jobs read and send, and the exit statuses.
 use Rattle.std.specs.Prelude.{◌≡◌, ◌≢◌, ◌⊎◌, ℕ, List, Option, Some, Result, Ok, Err, ⊤}
 use Rattle.std.specs.Prelude.{Bool, IfSome, None, option_and_then, string_bytes, true, false}
-use Rattle.std.specs.List.{AllByRecursion}
-use Rattle.std.specs.Str.{IsUtf8}
 use Rattle.serde_json.specs.Read.{read}
-use Rattle.ipc_model.specs.Entries.{entries}
 use Rattle.ipc_model.specs.Limits.{IsStandard}
 use Rattle.ipc_model.specs.Numbering.{fault_status, write_fault_status}
 use Rattle.ipc_model.specs.WellFormed.{WellFormed}
@@ -13,7 +10,7 @@ use Rattle.ipc_model.specs.declared.fault.WriteFault.TheVariants as w
 use Rattle.ipc_model.specs.declared.limits.Limits.{Limits}
 use Rattle.ipc_model.specs.declared.schema.Schema.{Schema}
 use Rattle.ipc_text_json.specs.SchemaJson.{schema_json}
-use Rattle.ipc_text_json.specs.SchemaTexts.{HasWideId}
+use Rattle.ipc_text_json.specs.SchemaTexts.{StatesNoSchema}
 use Rattle.ipc_text_temporal.specs.declared.fault.TextFault.{TextFault}
 use Rattle.ipc_text_temporal.specs.declared.fault.TextFault.TheVariants as x
 use Rattle.job_print.specs.Streams.{Prints, PrintsSchema, CountsPrintFailures as PrintTells}
@@ -131,13 +128,6 @@ pub record IsSchemaOf (bytes : Option (List ℕ)) (s : Schema) : Type 0 where
   pub standard : IsStandard limits
   pub formed : WellFormed limits s
 
--- the text is no schema's: it is not UTF-8 (RFC 8259, section 8.1), or not a schema that is well
--- formed under the standard limits and has dictionary ids of 64 bits
-abbrev pub HoldsNoSchema : List ℕ → Type 0
-HoldsNoSchema text = (s : Schema) (limits : Limits) → IsUtf8 text → read text ≡ Some (schema_json s)
-    → IsStandard limits → WellFormed limits s
-    → AllByRecursion (λ e. HasWideId e.dictionary) (entries s.fields) → ⊥
-
 -- how many calls of a file failed; 1 if it was not opened
 abbrev pub failures_of : {P : Type 0} → (P → ℕ) → Option P → ℕ
 failures_of failures None = 1
@@ -154,7 +144,7 @@ IsUnreadable failures why =
 abbrev pub HasNoSchema : Option (List ℕ) → ℕ → Stop → Type 0
 HasNoSchema bytes failures stop.Schema = failures ≡ 1
 HasNoSchema bytes failures (stop.SchemaText text) =
-    (failures ≡ 0) × IfSome bytes (λ xs. text.items ≡ xs) × HoldsNoSchema text.items
+    (failures ≡ 0) × IfSome bytes (λ xs. text.items ≡ xs) × StatesNoSchema text.items
 HasNoSchema bytes failures (stop.Text x.OutOfMemory) = ⊤
 HasNoSchema bytes failures why = ⊥
 

@@ -1,14 +1,14 @@
 //! Reads a schema from a file.
-ghost use Rattle.std.specs.Prelude.{◌≡◌, ◌⊎◌, ◌++◌, ◌+◌, ◌≤◌, List, ℕ, Some, IfErr, IfOk, IfSome};
-ghost use Rattle.std.specs.Prelude.{OnOk, is_some};
+ghost use Rattle.std.specs.Prelude.{◌≡◌, ◌++◌, ◌+◌, ◌≤◌, List, ℕ, Some, IfErr, IfOk, IfSome, OnOk};
+ghost use Rattle.std.specs.Prelude.{is_some};
 ghost use Rattle.std.specs.Io.KnownBytes.{Consumes, IsAtEnd};
-ghost use Rattle.job_command.specs.Jobs.{HasNoSchema, HoldsNoSchema, IsSchemaOf, IsUnreadable};
-ghost use Rattle.job_command.specs.Jobs.{file_bytes, failures_of};
+ghost use Rattle.job_command.specs.Jobs.{HasNoSchema, IsSchemaOf, IsUnreadable, file_bytes};
+ghost use Rattle.job_command.specs.Jobs.{failures_of};
 
 use crate::stop::Stop;
 use ipc_device::Source;
 use ipc_model::Schema;
-use ipc_text_json::schema_from_json;
+use ipc_text_json::schema_from_json_bytes;
 use ipc_text_temporal::TextFault;
 use std::alloc::Global;
 
@@ -49,18 +49,6 @@ fn read_whole<P: Source>(alloc: Global, file: &mut P) -> Result<Vec<u8>, Stop>
     Ok(text)
 }
 
-// The schema of a text.
-fn schema_of(alloc: Global, text: &[u8]) -> Result<Schema, TextFault>
-    ensures read { IfOk result (IsSchemaOf (Some text.now)) }
-    ensures none { IfErr result (λ fault. (fault ≡ TextFault.OutOfMemory)
-        ⊎ ((fault ≡ TextFault.BadSchemaJson) × HoldsNoSchema text.now)) }
-{
-    let Ok(text) = str::from_utf8(text) else {
-        return Err(TextFault::BadSchemaJson);
-    };
-    schema_from_json(alloc, text)
-}
-
 // The schema whose JSON text an open file holds.
 fn read_open<P: Source>(alloc: Global, file: &mut P) -> Result<Schema, Stop>
     ensures read { IfOk result (IsSchemaOf (P.remaining file.old)) }
@@ -68,7 +56,7 @@ fn read_open<P: Source>(alloc: Global, file: &mut P) -> Result<Schema, Stop>
     ensures none { IfErr result (HasNoSchema (P.remaining file.old) (P.failures file.new)) }
 {
     let text = read_whole(alloc, file)?;
-    match schema_of(alloc, text.as_slice()) {
+    match schema_from_json_bytes(alloc, text.as_slice()) {
         Ok(schema) => Ok(schema),
         Err(fault) => match fault {
             TextFault::OutOfMemory => Err(Stop::Text(fault)),

@@ -1,6 +1,6 @@
 //! Sends the rows of CSV records in batches.
-ghost use Rattle.std.specs.Prelude.{◌≡◌, ◌≢◌, ◌<◌, ◌≤◌, ◌-◌, ◌^◌, ◌∷◌, ℕ, List, [], Option, None};
-ghost use Rattle.std.specs.Prelude.{Some, Err, IfErr, IfOk, OnOk};
+ghost use Rattle.std.specs.Prelude.{◌≡◌, ◌≢◌, ◌<◌, ◌≤◌, ◌-◌, ◌^◌, ◌∷◌, ℕ, List, [], Option, Some};
+ghost use Rattle.std.specs.Prelude.{Err, IfErr, IfOk, OnOk};
 ghost use Rattle.ipc_model.specs.declared.fault.WriteFault.{WriteFault};
 ghost use Rattle.ipc_stream.specs.PendingBatches.{HoldsBatch, no_rows};
 ghost use Rattle.ipc_stream.specs.Writer.{Finishes, FinishFails, StartsWriter, StartFails};
@@ -9,8 +9,7 @@ ghost use Rattle.job_from_csv.specs.Records.{IsSetUp};
 ghost use Rattle.job_from_csv.specs.Conversion.{AnswersConversion, Converts, IsLeftToRefuse};
 ghost use Rattle.job_from_csv.specs.Conversion.{StopsFor};
 ghost use Rattle.job_from_csv.specs.Steps.{BeginsConversion, Came, HasRead, PushesRows};
-ghost use Rattle.job_from_csv.specs.Steps.{SendsCsvBatch};
-ghost use Rattle.job_from_csv.specs.Steps.{SendsRecords};
+ghost use Rattle.job_from_csv.specs.Steps.{SendsCsvBatch, SendsRecords};
 ghost use Rattle.job_from_csv.specs.Stops.{CountsInputFailure, CountsSourceFailure};
 ghost use Rattle.csv.specs.Reading.{reader_source};
 

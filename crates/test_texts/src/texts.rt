@@ -3,9 +3,8 @@ use csv::ByteRecord;
 use ipc_model::{DateUnit, Items, Row, Schema, Text, TimeUnit, Value};
 use ipc_text::{
     Dialect, RowShape, ShortText, TextFault, check_header, csv_header, csv_record, date_text,
-    fill_row_from_csv, pairs_json, read_bool, read_bytes, read_date, read_int, read_text,
-    read_time, read_timestamp, read_uint, row_from_csv, row_json, schema_from_json, schema_json,
-    time_text, timestamp_text,
+    fill_row_from_csv, pairs_json, read_date, read_time, read_timestamp, row_from_csv, row_json,
+    schema_from_json, schema_json, time_text, timestamp_text,
 };
 use std::alloc::{AllocError, Global};
 use std::test::Fail;
@@ -45,6 +44,15 @@ const NAMES: &str = "{\"fields\":[\
 {\"children\":0,\"dictionary\":null,\"metadata\":[],\"name\":\"\",\"nullable\":true,\
 \"type\":[\"bool\"]},\
 {\"children\":0,\"dictionary\":null,\"metadata\":[],\"name\":\"\\u0001\\n\",\"nullable\":true,\
+\"type\":[\"bool\"]}],\"metadata\":[]}";
+
+// Columns of the widest numbers and of booleans.
+const NUMBERS: &str = "{\"fields\":[\
+{\"children\":0,\"dictionary\":null,\"metadata\":[],\"name\":\"i\",\"nullable\":true,\
+\"type\":[\"int\",64]},\
+{\"children\":0,\"dictionary\":null,\"metadata\":[],\"name\":\"u\",\"nullable\":true,\
+\"type\":[\"uint\",64]},\
+{\"children\":0,\"dictionary\":null,\"metadata\":[],\"name\":\"b\",\"nullable\":true,\
 \"type\":[\"bool\"]}],\"metadata\":[]}";
 
 // What is asked under a schema.
@@ -149,7 +157,7 @@ const FIELDS: [&[u8]; 5] = [
     b"1969-12-31T23:59:59.999999Z",
 ];
 
-const CASES: [Case; 16] = [
+const CASES: [Case; 18] = [
     Case {
         schema: FLAT,
         ask: Ask::Schema,
@@ -228,6 +236,21 @@ const CASES: [Case; 16] = [
         ask: Ask::Json(RowShape::Object),
         fields: &[b"true", b"false", b"\\N"],
         wanted: Ok("{\"\":true,\"\":false,\"\\u0001\\n\":null}"),
+    },
+    Case {
+        schema: NUMBERS,
+        ask: Ask::Json(RowShape::Array),
+        fields: &[b"-9223372036854775808", b"18446744073709551615", b"false"],
+        wanted: Ok("[-9223372036854775808,18446744073709551615,false]"),
+    },
+    Case {
+        schema: NUMBERS,
+        ask: Ask::Json(RowShape::Array),
+        fields: &[b"-0", b"0", b"true"],
+        wanted: Err(TextFault::BadField {
+            record: 3,
+            column: 0,
+        }),
     },
     Case {
         schema: FLAT,
@@ -373,22 +396,4 @@ fn days_and_times(rt: HostRuntime) {
     for (number, (moment, count, wanted)) in MOMENTS.iter().enumerate() {
         assert!(rt; is_told(*moment, *count, *wanted), "moment {number}");
     }
-}
-
-// Whether a field is read as these bytes.
-fn is_read(alloc: Global, field: &[u8], wanted: &[u8]) -> Result<bool, TextFault> {
-    let bytes = read_bytes(alloc, field)?;
-    Ok(matches!(&bytes, Some(bytes) if bytes.as_slice() == wanted))
-}
-
-#[test]
-fn fields(rt: HostRuntime) {
-    assert!(rt; read_int("-9223372036854775808") == Some(i64::MIN) && read_int("-0").is_none());
-    assert!(rt; read_uint("18446744073709551615") == Some(u64::MAX));
-    assert!(rt; read_bool("false") == Some(false));
-    assert!(rt;
-        read_text(Dialect::standard(), b"\\\\x") == Some(b"\\x".as_slice())
-            && read_text(Dialect::standard(), b"\\x").is_none()
-    );
-    assert!(rt; matches!(is_read(rt.alloc(), b"00aB", &[0, 171]), Ok(true)));
 }

@@ -7,7 +7,8 @@ use Rattle.ipc_text_csv.specs.declared.dialect.Dialect.{Dialect}
 use Rattle.ipc_model.specs.declared.schema.Field.{Field}
 use Rattle.ipc_model.specs.declared.value.Value.{Value}
 use Rattle.ipc_text_temporal.specs.declared.fault.TextFault.{TextFault}
-use Rattle.ipc_text_csv.specs.RowCsv.{Ended, end_behind, flat_fault, put_texts, record_of, row_csv, row_texts, with_fields}
+use Rattle.ipc_text_csv.proofs.Records.{end_behind}
+use Rattle.ipc_text_csv.specs.RowCsv.{Ended, flat_fault, put_texts, record_of, row_csv, row_texts, with_fields}
 
 some_byte : (n : ℕ) → (suc n == 0) ≡ false
 some_byte n = grind (arith, nat_tests)

@@ -1,10 +1,7 @@
 use Rattle.std.proofs.Common.{◌≡◌, ◌++◌, drop}
 use Rattle.csv.specs.Writing.{escaped, default_writer}
-use Rattle.ipc_text_csv.specs.RowCsv.{BeginsWith}
 use Rattle.ipc_text_csv.proofs.record.push_escaped.Given as goal
 
 abbrev pub invariant-loop-byte : goal.invariant-loop-byte
-invariant-loop-byte l = record {
-  text : l.out.items ++ escaped default_writer (drop l.byte-index l.field) ≡ l.initial.out.items ++ escaped default_writer l.field;
-  begins : BeginsWith l.initial.out.items l.out.items;
-}
+invariant-loop-byte l =
+    l.out.items ++ escaped default_writer (drop l.byte-index l.field) ≡ l.initial.out.items ++ escaped default_writer l.field

@@ -9,9 +9,9 @@ pub loop-column-preserved : goal.loop-column-preserved
 loop-column-preserved c =
     let n = c.loop-column.column in
     let front = names_from c.args.fields.now n c.index-fields-column.result (omega arith) c.index-fields-column.is in
-    let pushed = rw (c.as_bytes.ensures.value, c.as_str.ensures) at c.in_ok-push_field.ensures.ok in
+    let pushed = rw (c.as_bytes.ensures.value, c.as_str.ensures) at c.in_ok-push_field.ensures in
     ap (λ t. t ++ body_from c.args.dialect.delimiter (n + 1) (map (λ f. (out-Field f).name) (drop (n + 1) c.args.fields.now))) pushed
-    ∙ name_more c.args.dialect.delimiter n _ _ _ _ c.in_ok-push_delimiter.ensures.ok ∙ ap (λ ts. c.loop-column.out.items ++ body_from
+    ∙ name_more c.args.dialect.delimiter n _ _ _ _ c.in_ok-push_delimiter.ensures ∙ ap (λ ts. c.loop-column.out.items ++ body_from
     c.args.dialect.delimiter n ts) (sym front)
     ∙ c.loop-column.invariant
 

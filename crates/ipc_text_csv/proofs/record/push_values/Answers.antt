@@ -15,7 +15,7 @@ loop-column-preserved c =
     let there = c.in-Some.ensures.lookup in
     let cells = cells_from c.args.dialect c.args.fields.now c.args.row.now n c.index-fields-column.result c.in-Some.value.now
     (omega arith) (search rules) c.index-fields-column.is (search rules) in
-    field_more c.args.dialect.delimiter n _ _ _ _ _ c.in_ok-push_delimiter.ensures.ok c.in_ok-push_value.ensures.ok
+    field_more c.args.dialect.delimiter n _ _ _ _ _ c.in_ok-push_delimiter.ensures c.in_ok-push_value.ensures.ok
     ∙ ap (λ cs. with_fields c.args.dialect.delimiter n c.loop-column.out.items (all_texts n cs)) (sym cells) ∙ c.loop-column.invariant
 
 pub returns-clause-ok : goal.returns-clause-ok

@@ -1,6 +1,7 @@
 use Rattle.std.proofs.Common.{◌∙◌, ◌++◌, ap, sym, arith}
+use Rattle.std.proofs.lemmas.Result.{on_ok_weaker}
 use Rattle.ipc_text_json.specs.SchemaJson.{tokens_of}
-use Rattle.ipc_text_json.proofs.FieldTokens.{entries_from, more_entries}
+use Rattle.ipc_text_json.proofs.FieldTokens.{entries_from, more_entries, own_and_below}
 use Rattle.ipc_text_json.proofs.schema.+fields.Goals as goal
 
 pub put_fields-loop-field-preserved : goal.put_fields-loop-field-preserved
@@ -12,3 +13,8 @@ put_fields-loop-field-preserved t c =
           (ap (λ es. c.loop-field.out.tokens ++ tokens_of es) (sym front) ∙ i.tokens);
       before = c.put_field.ensures.before ∙ i.before;
     }
+
+pub put_field-returns-clause-ok : goal.put_field-returns-clause-ok
+put_field-returns-clause-ok t c =
+    let below = rw c.as_slice.ensures at c.put_fields.ensures.ok in
+    on_ok_weaker c.put_fields.result (own_and_below c.args.field.now _ _ _ c.in_ok-put_own.ensures.ok) below

@@ -1,7 +1,8 @@
 use Rattle.std.proofs.Common.{◌≡◌, ◌++◌, map, drop}
 use Rattle.json.specs.Tree.{items_tokens}
 use Rattle.serde_json.specs.Written.{items_outline}
-use Rattle.ipc_text_json.specs.SchemaJson.{items_of, pair_json}
+use Rattle.serde_json.specs.View.{items_of}
+use Rattle.ipc_text_json.specs.SchemaJson.{pair_json}
 use Rattle.ipc_text_json.proofs.schema.put_pairs.Given as goal
 
 abbrev pub invariant-loop-pair : goal.invariant-loop-pair

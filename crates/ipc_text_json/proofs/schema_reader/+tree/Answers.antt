@@ -1,8 +1,8 @@
 use Rattle.std.proofs.Common.{◌≡◌, ◌∙◌, ◌++◌, ◌∷◌, ◌+◌, [], map, length, length-append, append_assoc, take, drop, ◌-◌, sym, ap, arith}
-use Rattle.std.proofs.Common.{rules}
+use Rattle.std.proofs.Common.{rules, flat_map}
 use Rattle.serde_json.specs.View.{view}
 use Rattle.ipc_model.specs.declared.schema.Field.{out-Field}
-use Rattle.ipc_text_json.specs.SchemaJson.{own_json, field_json, concat_lists}
+use Rattle.ipc_text_json.specs.SchemaJson.{own_json, field_json}
 use Rattle.ipc_text_temporal.specs.declared.fault.TextFault.TheVariants.{OutOfMemory}
 use Rattle.ipc_text_json.proofs.JsonItems.{front_view}
 use Rattle.ipc_text_json.proofs.Trees.{field_unrolled, split_field, same_field, next_child, joined_more}
@@ -12,7 +12,7 @@ pub read_field-returns-clause-read : goal.read_field-returns-clause-read
 read_field-returns-clause-read t c =
     let v = front_view c.args.entries.now c.entry-item.result (omega arith) c.entry-item.is in
     let o = c.in_ok-own.ensures.read c.in_ok-children.children.items c.in_ok-children.ensures.count in
-    let w = field_unrolled c.with_children.result ∙ ap (λ x. own_json x ∷ concat_lists (map field_json x.children))
+    let w = field_unrolled c.with_children.result ∙ ap (λ x. own_json x ∷ flat_map field_json x.children)
     c.with_children.ensures in
     v ∙ ap (λ d. d ∷ map view (take (length c.args.entries.now - 1) (drop 1 c.args.entries.now))) o
     ∙ ap (λ l. own_json (record (out-Field c.in_ok-own.own.field) { children = c.in_ok-children.children.items }) ∷ l)
@@ -45,7 +45,7 @@ read_children-returns-in_err-field-clause-all t c fs place rest e len h q =
     let size = a.2 in
     let n = next_child a.0 place _ rest (omega arith) a.3 a.4 in
     let z : c.in_err-field.field-0.0 ≡ OutOfMemory =
-    c.in_err-field.ensures.all n.0 place (concat_lists (map field_json n.1) ++ rest) e n.3 n.5 in
+    c.in_err-field.ensures.all n.0 place (flat_map field_json n.1 ++ rest) e n.3 n.5 in
     search (rules, z)
 
 pub read_children-loop-number-preserved : goal.read_children-loop-number-preserved
@@ -56,15 +56,15 @@ read_children-loop-number-preserved t c =
     let count = i.count in
     record {
       count = omega (arith, ap length p, length-append before (c.in_ok-field.field ∷ []));
-      read = i.read ∙ ap (λ l. concat_lists (map field_json before) ++ l) c.in_ok-field.ensures.read
-          ∙ sym (append_assoc (concat_lists (map field_json before)) (field_json c.in_ok-field.field) (map view c.in_ok-field.behind.now))
+      read = i.read ∙ ap (λ l. flat_map field_json before ++ l) c.in_ok-field.ensures.read
+          ∙ sym (append_assoc (flat_map field_json before) (field_json c.in_ok-field.field) (map view c.in_ok-field.behind.now))
           ∙ ap (λ l. l ++ map view c.in_ok-field.behind.now)
-          (sym (ap (λ l. concat_lists (map field_json l)) p ∙ joined_more before c.in_ok-field.field));
+          (sym (ap (λ l. flat_map field_json l) p ∙ joined_more before c.in_ok-field.field));
       all = λ fs place rest e len h q.
           let a = i.all fs place rest e len h q in
           let size = a.2 in
           let n = next_child a.0 place _ rest (omega arith) a.3 a.4 in
-          let z = c.in_ok-field.ensures.all n.0 place (concat_lists (map field_json n.1) ++ rest) e n.3 n.5 in
+          let z = c.in_ok-field.ensures.all n.0 place (flat_map field_json n.1 ++ rest) e n.3 n.5 in
           let same = n.2 in
           let more : a.0 ≡ c.in_ok-field.field ∷ n.1 = n.2 ∙ ap (λ g. g ∷ n.1) (sym z.0) in (
             n.1,

@@ -1,6 +1,7 @@
 use Rattle.std.proofs.Common.{◌≡◌, ◌++◌, ℕ, List, map, drop}
 use Rattle.serde_json.specs.View.{items_view}
-use Rattle.ipc_text_json.specs.SchemaJson.{items_of, pair_json}
+use Rattle.serde_json.specs.View.{items_of}
+use Rattle.ipc_text_json.specs.SchemaJson.{pair_json}
 use Rattle.ipc_text_json.proofs.schema_reader.read_pairs.Given as goal
 
 abbrev pub invariant-loop-pair : goal.invariant-loop-pair

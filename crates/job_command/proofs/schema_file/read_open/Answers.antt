@@ -7,4 +7,4 @@ returns-in-Ok-clause-read g c = known _ _ _ _ c.in_ok-text.ensures.whole c.as_sl
 pub returns-in_default-clause-none : goal.returns-in_default-clause-none
 returns-in_default-clause-none g c =
     none_of _ _ _ _ _ c.in_ok-text.ensures.works c.in_ok-text.ensures.whole c.as_slice.ensures.value
-    c.in_default.not-OutOfMemory c.in-Err.ensures.none
+    c.in_default.not-OutOfMemory c.in-Err.ensures.refused

@@ -10,10 +10,9 @@ use Rattle.ipc_model.specs.WellFormed.{WellFormed}
 use Rattle.ipc_model.specs.declared.limits.Limits.{Limits}
 use Rattle.ipc_model.specs.declared.schema.Schema.{Schema}
 use Rattle.ipc_text_json.specs.SchemaJson.{schema_json}
-use Rattle.ipc_text_json.specs.SchemaTexts.{HasWideId, IsUnread}
+use Rattle.ipc_text_json.specs.SchemaTexts.{HasWideId, IsUnread, StatesSchema, StatesNoSchema}
 use Rattle.ipc_text_temporal.specs.declared.fault.TextFault.{TextFault}
 use Rattle.ipc_text_temporal.specs.declared.fault.TextFault.TheVariants.{OutOfMemory, BadSchemaJson}
-use Rattle.ipc_stream_session.specs.Writes.{StatesSchema, StatesNoSchema}
 
 -- what is read of a text is the schema that it states
 pub stated : (r : Result Schema TextFault) (text seen : List ℕ) → seen ≡ text → IsUtf8 text
