@@ -1,7 +1,7 @@
 //! The file with the schema that a job names.
 use crate::retry::Retry;
 use ipc_stream::Device;
-use job_command::{Job, Usage};
+use job_arguments::{Job, Usage};
 use std::fs::File;
 use std::io;
 
