@@ -1,5 +1,5 @@
 //! A stream that is written, as a value between the calls of a program in another language.
-ghost use Rattle.std.specs.Prelude.{◌≡◌, ◌⊎◌, IfErr, IfOk, length};
+ghost use Rattle.std.specs.Prelude.{◌≡◌, ◌⊎◌, IfErr, IfOk};
 ghost use Rattle.ipc_stream_session.specs.Writes as w;
 
 use crate::batch::ReadBatch;
