@@ -2,14 +2,15 @@
 #![tactic(auto)]
 
 ghost use Rattle.std.specs.Prelude.{IfOk};
-ghost use Rattle.job_command.specs.Arguments.{HasGoodSize};
+ghost use Rattle.job_arguments.specs.Arguments.{HasGoodSize};
 
 mod progress;
 mod schema_file;
 
 use ipc_device::{Device, Retry, Sink};
 use ipc_stream::Seed;
-use job_command::{Invocation, Usage, read_words, run};
+use job_arguments::{Invocation, Usage, read_words};
+use job_command::run;
 use progress::ProgressLine;
 use schema_file::{SchemaFile, open_schema};
 use std::alloc::{AllocError, Global};

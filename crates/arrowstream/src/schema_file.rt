@@ -1,6 +1,6 @@
 //! The file with the schema that a job names.
 use ipc_device::{Device, Retry};
-use job_command::{Job, Usage};
+use job_arguments::{Job, Usage};
 use std::fs::File;
 use std::io;
 

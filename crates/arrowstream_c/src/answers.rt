@@ -4,7 +4,10 @@ ghost use Rattle.ipc_model.specs.Numbering.{fault_number};
 ghost use Rattle.arrowstream_c.specs.Numbers.{AreCapped, AreStandard, Caps, IsLayout, Shows};
 ghost use Rattle.arrowstream_c.specs.Numbers.{arrival_number, end_number};
 
-use ipc_model::{Fault, Layout, Limits};
+use ipc_model::{
+    Fault, Layout, Limits, MAX_BODY, MAX_DEPTH, MAX_FIELDS, MAX_METADATA, MAX_PAIRS, MAX_SLOTS,
+    MAX_TEXT,
+};
 use ipc_stream_read::End;
 use ipc_stream_session::{Arrival, ColumnFacts};
 
@@ -98,13 +101,13 @@ pub(crate) fn cap_limits(asked: &ReadLimits) -> Limits
     ensures { AreCapped asked.now result }
 {
     Limits {
-        metadata: at_most(asked.metadata, 1 << 28),
-        body: at_most(asked.body, 1 << 42),
-        slots: at_most(asked.slots, 0x7fff_ffff),
-        fields: at_most(asked.fields, 1 << 20),
-        depth: at_most(asked.depth, 64),
-        text: at_most(asked.text, 1 << 30),
-        pairs: at_most(asked.pairs, 1 << 24),
+        metadata: at_most(asked.metadata, MAX_METADATA),
+        body: at_most(asked.body, MAX_BODY),
+        slots: at_most(asked.slots, MAX_SLOTS),
+        fields: at_most(asked.fields, MAX_FIELDS),
+        depth: at_most(asked.depth, MAX_DEPTH),
+        text: at_most(asked.text, MAX_TEXT),
+        pairs: at_most(asked.pairs, MAX_PAIRS),
     }
 }
 

@@ -1,5 +1,4 @@
 //! What each export of a batch does with it.
-ghost use Rattle.std.specs.Prelude.{◌≡◌};
 ghost use Rattle.arrowstream_c.specs.Calls.{AreColumns, AreRows, CopiesBuffer, CopiesPairs};
 ghost use Rattle.arrowstream_c.specs.Calls.{DescribesColumn, GivesPairs};
 ghost use Rattle.arrowstream_c.specs.Numbers.{IsBuffer};

@@ -6,7 +6,7 @@
 //! one call at a time on each reader, batch and writer, and a batch may change its thread.
 #![tactic(auto)]
 
-ghost use Rattle.std.specs.Prelude.{◌≡◌, None, Option, length};
+ghost use Rattle.std.specs.Prelude.{◌≡◌, None, Option};
 ghost use Rattle.std.specs.Borrow.{sem};
 ghost use Rattle.ipc_stream_session.specs.declared.batch.ReadBatch.{ReadBatch};
 ghost use Rattle.ipc_stream_session.specs.declared.session.ReadSession.{ReadSession};

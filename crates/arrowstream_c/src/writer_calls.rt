@@ -1,5 +1,4 @@
 //! What each export of a writer does with it.
-ghost use Rattle.std.specs.Prelude.{◌≡◌};
 ghost use Rattle.arrowstream_c.specs.WriterCalls as w;
 
 use crate::block::Block;

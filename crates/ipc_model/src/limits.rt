@@ -1,7 +1,7 @@
 //! Limits on what one stream, schema or batch may hold.
-ghost use Rattle.std.specs.Prelude.{◌≤◌};
-ghost use Rattle.ipc_model.specs.MaxLimits.{max_metadata, max_body, max_slots, max_fields};
-ghost use Rattle.ipc_model.specs.MaxLimits.{max_depth, max_text, max_pairs};
+ghost use Rattle.std.specs.Prelude.{◌≤◌, ◌^◌, ◌-◌};
+ghost use Rattle.ipc_model.specs.MaxLimits.{max_body, max_depth, max_fields, max_metadata};
+ghost use Rattle.ipc_model.specs.MaxLimits.{max_pairs, max_slots, max_text};
 
 use crate::check::pair_text;
 use ipc_items::Text;
@@ -10,20 +10,27 @@ use ipc_items::Text;
 /// (Arrow Columnar Format, "Variable-size Binary Layout").
 pub const MAX_DATA: u64 = 0x7fff_ffff;
 
-// The greatest values of the limits.
-const MAX_METADATA: u64 = 1 << 28;
+/// The greatest limit of the bytes of a message's metadata.
+pub const MAX_METADATA: u64 = 1 << 28;
 
-const MAX_BODY: u64 = 1 << 42;
+/// The greatest limit of the bytes of a message's body.
+pub const MAX_BODY: u64 = 1 << 42;
 
-const MAX_SLOTS: u64 = 0x7fff_ffff;
+/// The greatest limit of the rows of a batch and of the slots of a column (Arrow Columnar Format,
+/// "Array lengths").
+pub const MAX_SLOTS: u64 = 0x7fff_ffff;
 
-const MAX_FIELDS: u64 = 1 << 20;
+/// The greatest limit of the fields of a schema.
+pub const MAX_FIELDS: u64 = 1 << 20;
 
-pub(crate) const MAX_DEPTH: u64 = 64;
+/// The greatest limit of the depth to which fields nest.
+pub const MAX_DEPTH: u64 = 64;
 
-const MAX_TEXT: u64 = 1 << 30;
+/// The greatest limit of the bytes of names, keys, values and timezones.
+pub const MAX_TEXT: u64 = 1 << 30;
 
-const MAX_PAIRS: u64 = 1 << 24;
+/// The greatest limit of the pairs of key and value.
+pub const MAX_PAIRS: u64 = 1 << 24;
 
 /// Limits on what one stream, schema or batch may hold, for what a reader accepts and what a writer
 /// makes. Each value is at most its maximum, which is part of the type.

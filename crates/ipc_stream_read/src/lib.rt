@@ -20,4 +20,5 @@ pub use decoder::Decoder;
 pub use end::End;
 pub use event::Event;
 pub use reader::StreamReader;
+pub use scope::Scope;
 pub use table::read_table;

@@ -18,8 +18,9 @@ use std::alloc::Global;
 use std::collections::BTreeMap;
 
 impl Scope {
-    // What a schema puts in force under these limits: no dictionary yet. Refused with `OutOfMemory`
-    // where the columns of its dictionaries find no room.
+    /// Returns what a schema puts in force under these limits: no dictionary yet.
+    ///
+    /// Errors: `OutOfMemory` only.
     pub fn new(alloc: Global, limits: Limits, schema: Schema) -> Result<Scope, Fault>
         requires { WellFormed limits schema }
         ensures begins { IfOk result (λ scope. in_scope scope ≡ initial_state schema) }
@@ -34,8 +35,9 @@ impl Scope {
         })
     }
 
-    // The batch that a head and a body give under the dictionaries in force. Refused as
-    // `Batch::check` says.
+    /// Returns the batch that a head and a body give under the dictionaries in force.
+    ///
+    /// Errors: those of `Batch::check`.
     pub fn read_batch(&self, alloc: Global, head: BatchHead, body: Vec<u8>) -> Result<Batch, Fault>
         ensures rows { IfOk result (λ batch. Rows self.now.limits
             (values_in (in_scope self.now).dictionaries)
@@ -76,9 +78,11 @@ impl Scope {
         Batch::check(alloc, &self.limits, columns.as_slice(), head, body, &none)
     }
 
-    // Sets the dictionary with the id to the values that a head and a body give, in the place of
-    // those before. Refused as `read_values` says, or with `OutOfMemory` where the values find no
-    // place; then all is as before.
+    /// Sets the dictionary with the id to the values that a head and a body give, in the place of
+    /// those before.
+    ///
+    /// Errors: `UnknownDictionary` if no field names the dictionary; those of `Batch::check`;
+    /// `OutOfMemory`. Then all is as before.
     pub fn set(
         &mut self,
         alloc: Global,
@@ -94,14 +98,14 @@ impl Scope {
         self.dictionaries.apply(alloc, id, values)
     }
 
-    // How many bytes the bodies have together that set the dictionaries.
+    /// Returns the number of bytes of the bodies together that set the dictionaries.
     pub fn held(&self) -> usize
         ensures { result ≡ dictionary_bytes (state_of (Some self.now)) }
     {
         self.dictionaries.held()
     }
 
-    // The schema alone.
+    /// Returns the schema alone.
     pub fn into_schema(self) -> Schema
         ensures { result ≡ self.schema }
     {

@@ -1,5 +1,4 @@
 //! What a piece of a stream completed.
-ghost use Rattle.std.specs.Prelude.{◌≡◌};
 
 /// What a piece of a stream completed (Arrow Columnar Format, "IPC Streaming Format").
 #[derive(Clone, Copy, Debug, PartialEq, Eq)]

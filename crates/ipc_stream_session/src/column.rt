@@ -1,6 +1,5 @@
 //! Finds a column of a batch, or one below it, by the numbers of a path.
-ghost use Rattle.std.specs.Prelude.{◌≡◌, ◌<◌, length, IfSome, IfNone};
-ghost use Rattle.ipc_column.specs.Nested.{slot_values};
+ghost use Rattle.std.specs.Prelude.{IfSome, IfNone};
 ghost use Rattle.ipc_stream_session.specs.Paths.{Describes, LeadsBelow, StepsTo, HasNoStep};
 ghost use Rattle.ipc_stream_session.specs.Paths.{StopsBelow};
 

@@ -1,9 +1,8 @@
 //! A stream that is read, as a value between the calls of a program in another language.
-ghost use Rattle.std.specs.Prelude.{◌≡◌, IfErr, IfOk, None, OnErr, OnOk};
+ghost use Rattle.std.specs.Prelude.{◌≡◌, None};
 ghost use Rattle.ipc_stream_read.specs.Decoding.{Wants};
 ghost use Rattle.ipc_stream_session.specs.Sessions.{Closes, Feeds, GivesLine, GivesSchemaText};
-ghost use Rattle.ipc_stream_session.specs.Sessions.{IsNew};
-ghost use Rattle.ipc_stream_session.specs.Sessions.{arrival_of, batch_in, with_refusal};
+ghost use Rattle.ipc_stream_session.specs.Sessions.{IsNew, arrival_of, batch_in, with_refusal};
 
 use crate::arrival::Arrival;
 use crate::batch::ReadBatch;

@@ -1,5 +1,5 @@
 //! Why a call of a writer is refused.
-ghost use Rattle.std.specs.Prelude.{◌≡◌, ◌==◌, ◌↔◌, IsTrue, Some};
+ghost use Rattle.std.specs.Prelude.{◌≡◌, ◌↔◌, IsTrue, Some};
 ghost use Rattle.ipc_stream_session.specs.WriteErrors.{error_line, error_number};
 ghost use Rattle.ipc_stream_session.specs.declared.write_error.WriteError.TheVariants.{Refused};
 

@@ -29,11 +29,11 @@ use Rattle.job_from_csv.specs.Conversion as csv
 use Rattle.job_from_csv.specs.Stops.{CountsSourceFailure}
 use Rattle.job_from_csv.specs.declared.stop.FromCsvStop.{FromCsvStop as CsvStop}
 use Rattle.job_from_csv.specs.declared.stop.FromCsvStop.TheVariants as from_csv
-use Rattle.job_command.specs.declared.csv_dialect.CsvDialect.{CsvDialect}
+use Rattle.job_arguments.specs.declared.csv_dialect.CsvDialect.{CsvDialect}
 use Rattle.job_command.specs.declared.stop.Stop.{Stop}
 use Rattle.job_command.specs.declared.stop.Stop.TheVariants as stop
-use Rattle.job_command.specs.declared.arguments.Job.{Job}
-use Rattle.job_command.specs.declared.arguments.Job.TheVariants as job
+use Rattle.job_arguments.specs.declared.arguments.Job.{Job}
+use Rattle.job_arguments.specs.declared.arguments.Job.TheVariants as job
 
 -- the exit status of a refusal of texts
 abbrev pub text_status : TextFault → ℕ

@@ -9,11 +9,11 @@ use Rattle.ipc_model.specs.declared.fault.WriteFault.TheVariants as w
 use Rattle.ipc_text_temporal.specs.FaultLines.{text_fault_line}
 use Rattle.csv.specs.Records.{fields_of}
 use Rattle.job_explain.specs.Explained.{Explains as ExplainsMessage, ExplainsUnwritten}
+use Rattle.job_explain.specs.Records.{ExplainsRecord}
+use Rattle.job_explain.specs.Schemas.{ExplainsSchema}
 use Rattle.job_explain.specs.Writes.{ExplainsWrite}
 use Rattle.job_explain.specs.declared.message_record.MessageRecord.{MessageRecord}
 use Rattle.ipc_text_temporal.specs.declared.fault.TextFault.TheVariants as x
-use Rattle.job_command.specs.Explanations.{ExplainsRecord}
-use Rattle.job_command.specs.SchemaExplanations.{ExplainsSchema}
 use Rattle.job_command.specs.declared.stop.Stop.{Stop}
 use Rattle.job_command.specs.declared.stop.Stop.TheVariants as stop
 

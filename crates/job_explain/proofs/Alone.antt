@@ -27,7 +27,7 @@ alone_refused limits t (Err e) fault b right memory found =
     subst (λ x. IsTrue b ↔ RefusedAs fault x) (sym (right (λ same. memory (ap Some same)))) found
 
 -- the call returned whether the table alone is refused so
-pub alone_answer : (limits : Limits) (t : TableView) (r : Result Field Fault) (fault : Fault) (res : Result Bool Fault)
+pub alone_answer : {E : Type 0} (limits : Limits) (t : TableView) (r : Result Field Fault) (fault : Fault) (res : Result Bool E)
     → AnswersUnlessOutOfMemory (λ f. f) r (only_field limits t)
     → OnOk res (result_err r ≡ Some OutOfMemory → ⊥)
     → IfOk res (λ b. IsTrue b ↔ MatchOption (result_err r) ⊥ (λ f. fault_number f ≡ fault_number fault))

@@ -4,3 +4,4 @@ pub mod Explaining
 pub mod Fronts
 pub mod Joined
 pub mod Paths
+pub mod RefusedRecords

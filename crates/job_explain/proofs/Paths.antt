@@ -36,8 +36,8 @@ names_child limits fault depth deeper i t u below e first rest =
     ))
 
 -- a call that appended the words below a child has appended the path
-pub child_told : (limits : Limits) (fault : Fault) (depth i : ℕ) (t u : TableView) (old mid new : List ℕ) (res : Result Unit Fault)
-    → 0 < depth
+pub child_told : {E : Type 0} (limits : Limits) (fault : Fault) (depth i : ℕ) (t u : TableView) (old mid new : List ℕ)
+    (res : Result Unit E) → 0 < depth
     → FirstWith limits fault t 5 i u → mid ≡ old ++ (codes ", child " ++ decimal i ++ name_words (text_at u 0))
     → OnOk res ((below : List ℕ) × NamesBelow limits fault (depth - 1) u below × (new ≡ mid ++ below))
     → OnOk res ((below : List ℕ) × NamesBelow limits fault depth t below × (new ≡ old ++ below))
@@ -49,7 +49,7 @@ child_told limits fault depth i t u old mid new (Ok x) some first m (below, name
 child_told limits fault depth i t u old mid new (Err f) some first m h = tt
 
 -- a call that appended the type has appended the path that ends here
-pub end_told : (limits : Limits) (fault : Fault) (depth : ℕ) (t : TableView) (old new : List ℕ) (res : Result Unit Fault)
+pub end_told : {E : Type 0} (limits : Limits) (fault : Fault) (depth : ℕ) (t : TableView) (old new : List ℕ) (res : Result Unit E)
     → NamesBelow limits fault depth t (type_words (code_at t) ++ codes "\n")
     → OnOk res (new ≡ old ++ (type_words (code_at t) ++ codes "\n"))
     → OnOk res ((below : List ℕ) × NamesBelow limits fault depth t below × (new ≡ old ++ below))

@@ -21,8 +21,8 @@ abbrev pub type_words : DataType → List ℕ
 type_words kind = codes " of type " ++ compact_text (type_json kind)
 
 -- the name and the type of a field
-abbrev pub column_words : Field → List ℕ
-column_words f = name_words f ++ type_words (out-Field f).kind
+abbrev pub field_words : Field → List ℕ
+field_words f = name_words f ++ type_words (out-Field f).kind
 
 -- two numbers, each after its words
 abbrev pub pair_words : List ℕ → List ℕ → ℤ × ℤ → List ℕ
@@ -43,7 +43,7 @@ buffers_words = pairs_words (codes ", buffer of offset ") (codes " and length ")
 
 -- the words for the number, the name and the type of a column
 abbrev pub title_words : ℕ → Field → List ℕ
-title_words number f = codes "column " ++ decimal number ++ codes " " ++ column_words f
+title_words number f = codes "column " ++ decimal number ++ codes " " ++ field_words f
 
 -- the words for the length of a batch and that of its body
 abbrev pub lengths_words : ℤ → ℕ → List ℕ

@@ -13,14 +13,14 @@ use Rattle.ipc_frame.specs.declared.frame.Frame.{Frame as Framed}
 use Rattle.ipc_frame.specs.declared.frame.Frame.TheVariants as f
 use Rattle.ipc_column.specs.Dictionaries.{Dictionaries}
 use Rattle.ipc_column.specs.Shapes.{buffer_count, node_count, shape_of}
+use Rattle.ipc_stream_read.specs.Scopes.{in_scope}
 use Rattle.ipc_stream_read.specs.Stream.{values_in}
+use Rattle.ipc_stream_read.specs.declared.scope.Scope.{Scope}
 use Rattle.ipc_dict_read.specs.ValuesColumns.{columns_for, dictionary_columns}
-use Rattle.job_explain.specs.declared.stream_context.StreamContext.{StreamContext}
 use Rattle.job_explain.specs.declared.message_record.MessageRecord.{MessageRecord}
 use Rattle.job_explain.specs.ColumnLines.{NamesColumn, count_line}
 use Rattle.job_explain.specs.FieldPaths.{NamesField}
 use Rattle.job_explain.specs.Formats.{format_line, format_words}
-use Rattle.job_explain.specs.StreamContexts.{in_force}
 use Rattle.job_explain.specs.Writes.{ExplainsWrite}
 
 -- the line for the first message of a stream, of which these bytes are kept, by the number of the
@@ -53,25 +53,25 @@ dictionary_words id = codes "dictionary " ++ signed_decimal id ++ codes ": "
 
 -- the line for a later message than the first, by what is in force and what is kept: a record batch
 -- has the columns of the schema, and a dictionary batch the one column of its values
-abbrev pub ExplainsLater : Option StreamContext → Option Framed → Fault → List ℕ → Type 0
-ExplainsLater (Some context) (Some (f.Message meta (h.Batch head pairs) body)) fault out =
-    ExplainsBatch context.limits fault (values_in (in_force context).dictionaries)
-    context.schema.fields head body.items [] out
-ExplainsLater (Some context) (Some (f.Message meta (h.Dictionary id head) body)) fault out =
-    MatchOption (columns_for (dictionary_columns context.schema.fields) id) (out ≡ [])
-    (λ fields. ExplainsBatch context.limits fault [] fields head body.items (dictionary_words id)
+abbrev pub ExplainsLater : Option Scope → Option Framed → Fault → List ℕ → Type 0
+ExplainsLater (Some scope) (Some (f.Message meta (h.Batch head pairs) body)) fault out =
+    ExplainsBatch scope.limits fault (values_in (in_scope scope).dictionaries)
+    scope.schema.fields head body.items [] out
+ExplainsLater (Some scope) (Some (f.Message meta (h.Dictionary id head) body)) fault out =
+    MatchOption (columns_for (dictionary_columns scope.schema.fields) id) (out ≡ [])
+    (λ fields. ExplainsBatch scope.limits fault [] fields head body.items (dictionary_words id)
     out)
-ExplainsLater context last fault out = out ≡ []
+ExplainsLater scope last fault out = out ≡ []
 
 -- the lines for a refusal at the message with this number; none if nothing is kept
 abbrev pub Explains : Option MessageRecord → Fault → ℕ → List ℕ → Type 0
 Explains (Some kept) fault zero out = ExplainsFirst kept.limits kept.front.items fault out
-Explains (Some kept) fault (suc message) out = ExplainsLater kept.context kept.last fault out
+Explains (Some kept) fault (suc message) out = ExplainsLater kept.scope kept.last fault out
 Explains None fault message out = out ≡ []
 
 -- the lines that explain a fault of the writer of the stream's rows, by the schema that is known;
 -- none if none is
 abbrev pub ExplainsUnwritten : Option MessageRecord → WriteFault → List ℕ → Type 0
 ExplainsUnwritten (Some kept) fault out =
-    MatchOption kept.context (out ≡ []) (λ context. ExplainsWrite context.schema.fields fault out)
+    MatchOption kept.scope (out ≡ []) (λ scope. ExplainsWrite scope.schema.fields fault out)
 ExplainsUnwritten None fault out = out ≡ []

@@ -4,14 +4,14 @@ use Rattle.ipc_model.specs.declared.limits.Limits.{Limits}
 use Rattle.ipc_frame.specs.Pieces.{taking}
 use Rattle.job_explain.specs.declared.message_record.MessageRecord.{MessageRecord}
 use Rattle.job_explain.specs.Kept.{Keeps}
-use Rattle.job_explain.specs.StreamContexts.{UpdatesContext}
+use Rattle.job_explain.specs.ScopeUpdates.{UpdatesScope}
 
 -- a recorder that is on keeps messages from the beginning of a stream on; one that is off keeps
 -- nothing
 abbrev pub StartsRecorder : Limits → Bool → Option MessageRecord → Type 0
 StartsRecorder limits true (Some message_record) = (message_record.limits ≡ limits)
     × (message_record.frames.progress ≡ taking []) × (message_record.last ≡ None)
-    × (message_record.context ≡ None)
+    × (message_record.scope ≡ None)
 StartsRecorder limits true None = ⊥
 StartsRecorder limits false message_record = message_record ≡ None
 
@@ -21,6 +21,6 @@ abbrev pub Follows : Option MessageRecord → List ℕ → Option MessageRecord 
 Follows (Some old) piece (Some new) = (new.limits ≡ old.limits)
     × Keeps old.limits old.frames.progress old.front.items piece new.frames.progress
     new.front.items new.last
-    × UpdatesContext old.limits old.context old.last new.context
+    × UpdatesScope old.limits old.scope old.last new.scope
 Follows (Some old) piece None = Unit {0}
 Follows None piece new = new ≡ None

@@ -5,5 +5,7 @@ pub mod FieldPaths
 pub mod Followed
 pub mod Formats
 pub mod Kept
-pub mod StreamContexts
+pub mod Records
+pub mod Schemas
+pub mod ScopeUpdates
 pub mod Writes

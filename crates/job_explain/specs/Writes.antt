@@ -12,7 +12,7 @@ use Rattle.ipc_model.specs.declared.schema.DataType.{DataType}
 use Rattle.ipc_model.specs.declared.schema.DataType.TheVariants as t
 use Rattle.ipc_model.specs.declared.schema.Dictionary.{Dictionary}
 use Rattle.ipc_model.specs.declared.schema.Field.{Field, out-Field}
-use Rattle.job_explain.specs.ColumnLines.{column_words, name_words, title_words, type_words}
+use Rattle.job_explain.specs.ColumnLines.{field_words, name_words, title_words, type_words}
 
 -- the words for what is wrong with a value
 abbrev pub cause_words : RowCause → List ℕ
@@ -26,7 +26,7 @@ cause_words cause.NullNotAllowed = codes "null in "
 abbrev pub steps_words : List ℕ → List Field → List ℕ → List ℕ
 steps_words word fields [] = []
 steps_words word fields (n ∷ []) =
-    unwrap_or (option_map (λ f. word ++ decimal n ++ codes " " ++ column_words f)
+    unwrap_or (option_map (λ f. word ++ decimal n ++ codes " " ++ field_words f)
     (slice_get fields n)) []
 steps_words word fields (n ∷ m ∷ path) =
     unwrap_or (option_map (λ f. word ++ decimal n ++ codes " " ++ name_words f

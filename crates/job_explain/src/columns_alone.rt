@@ -1,6 +1,6 @@
 //! The column of a refused record batch that alone has the fault.
-ghost use Rattle.std.specs.Prelude.{◌≡◌, ◌≤◌, None, Some, length, true, false, slice_get, IfErr};
-ghost use Rattle.std.specs.Prelude.{IfOk, IfSome, MatchOption};
+ghost use Rattle.std.specs.Prelude.{◌≡◌, ◌≤◌, Some, length, true, false, slice_get, IfOk, IfSome};
+ghost use Rattle.std.specs.Prelude.{MatchOption};
 ghost use Rattle.ipc_model.specs.Entries.{entries};
 ghost use Rattle.ipc_column.specs.DictionaryBatches.{AreDictionaries, dictionaries_in};
 ghost use Rattle.job_explain.specs.ColumnsAlone.{FirstAlone, IsRefusedAs, NoneAlone, PassesAlone};
@@ -9,7 +9,7 @@ ghost use Rattle.job_explain.specs.ColumnsAlone.{column_head, sublist};
 use ipc_column::{Batch, Cursor, count};
 use ipc_meta::BatchHead;
 use ipc_model::{Fault, Field, Items, Limits};
-use std::alloc::Global;
+use std::alloc::{AllocError, Global};
 use std::collections::BTreeMap;
 use std::sync::Arc;
 
@@ -37,10 +37,9 @@ fn part_of(list: &[(i64, i64)], start: usize, end: usize) -> &[(i64, i64)]
 }
 
 // A copy of a body. A copy that was made before is used again.
-fn copy_body(alloc: Global, body: &[u8], spare: Option<Vec<u8>>) -> Result<Vec<u8>, Fault>
+fn copy_body(alloc: Global, body: &[u8], spare: Option<Vec<u8>>) -> Result<Vec<u8>, AllocError>
     requires { IfSome spare (λ copy. copy.items ≡ body.now) }
     ensures copy { IfOk result (λ copy. copy.items ≡ body.now) }
-    ensures refused { IfErr result (λ f. f ≡ Fault.OutOfMemory) }
 {
     match spare {
         Some(copy) => Ok(copy),
@@ -54,13 +53,12 @@ fn one_head(
     length: i64,
     nodes: &[(i64, i64)],
     buffers: &[(i64, i64)],
-) -> Result<BatchHead, Fault>
+) -> Result<BatchHead, AllocError>
     ensures head { IfOk result (λ head. head ≡ record {
       length = length;
       nodes = nodes.now;
       buffers = buffers.now;
     }) }
-    ensures refused { IfErr result (λ f. f ≡ Fault.OutOfMemory) }
 {
     Ok(BatchHead {
         length,
@@ -78,7 +76,7 @@ fn is_refused(
     head: BatchHead,
     body: Vec<u8>,
     dictionaries: &BTreeMap<i64, Arc<Batch>>,
-) -> Result<(bool, Option<Vec<u8>>), Fault>
+) -> Result<(bool, Option<Vec<u8>>), AllocError>
     requires dictionaries { AreDictionaries dictionaries.now }
     requires few { length (entries fields.now) ≤ limits.now.fields }
     ensures same { IfOk result (λ r. r.0 ≡ true → IsRefusedAs limits.now fault.now
@@ -86,11 +84,10 @@ fn is_refused(
     ensures other { IfOk result (λ r. r.0 ≡ false → PassesAlone limits.now fault.now
         (dictionaries_in dictionaries.now) fields.now head body.items) }
     ensures body { IfOk result (λ r. IfSome r.1 (λ b. b.items ≡ body.items)) }
-    ensures refused { IfErr result (λ f. f ≡ Fault.OutOfMemory) }
 {
     match Batch::check(alloc, limits, fields, head, body, dictionaries) {
         Ok(batch) => Ok((false, batch.into_body())),
-        Err(Fault::OutOfMemory) => Err(Fault::OutOfMemory),
+        Err(Fault::OutOfMemory) => Err(AllocError),
         Err(other) if other.number() == fault.number() => Ok((true, None)),
         Err(_) => Ok((false, None)),
     }
@@ -100,7 +97,7 @@ fn is_refused(
 /// same length, with its own nodes and buffers and the whole body. `None` if there is no such
 /// column, or if the batch has other numbers of nodes or buffers than its fields.
 ///
-/// Errors: `OutOfMemory` only. The body is copied.
+/// The body is copied.
 pub(crate) fn first_alone<'a>(
     alloc: Global,
     limits: &Limits,
@@ -109,7 +106,7 @@ pub(crate) fn first_alone<'a>(
     head: &'a BatchHead,
     body: &[u8],
     dictionaries: &BTreeMap<i64, Arc<Batch>>,
-) -> Result<Option<ColumnPart<'a>>, Fault>
+) -> Result<Option<ColumnPart<'a>>, AllocError>
     requires dictionaries { AreDictionaries dictionaries.now }
     requires few { length (entries fields.now) ≤ limits.now.fields }
     ensures finds { IfOk result (λ o. MatchOption o
@@ -123,7 +120,6 @@ pub(crate) fn first_alone<'a>(
           nodes = part.nodes.now;
           buffers = part.buffers.now;
         }))) }
-    ensures refused { IfErr result (λ f. f ≡ Fault.OutOfMemory) }
 {
     let all = count(fields, Cursor { node: 0, buffer: 0 });
     if head.nodes.len() != all.node || head.buffers.len() != all.buffer {

@@ -1,27 +1,26 @@
 //! The lines that explain the refusal of a message.
-ghost use Rattle.std.specs.Prelude.{◌≡◌, ◌≤◌, ◌++◌, [], List, drop, length, IfErr, IfOk, OnOk};
+ghost use Rattle.std.specs.Prelude.{◌≡◌, ◌≤◌, [], IfOk, IfSome, MatchOption, None, Some, drop};
+ghost use Rattle.std.specs.Prelude.{length};
 ghost use Rattle.ipc_model.specs.Entries.{entries};
 ghost use Rattle.ipc_column.specs.DictionaryBatches.{AreDictionaries, dictionaries_in};
-ghost use Rattle.job_explain.specs.ColumnLines.{NamesColumn};
 ghost use Rattle.job_explain.specs.Explained.{ExplainsBatch, ExplainsFirst, ExplainsLater};
+ghost use Rattle.ipc_stream_read.specs.Scopes.{in_scope};
 ghost use Rattle.ipc_stream_read.specs.Stream.{values_in};
 ghost use Rattle.ipc_dict_read.specs.ValuesColumns.{columns_for, dictionary_columns};
 ghost use Rattle.job_explain.specs.Explained as spec;
-ghost use Rattle.job_explain.specs.StreamContexts.{in_force};
-ghost use Rattle.std.specs.Prelude.{MatchOption};
 
 use crate::column_lines::{push_column, push_counts};
 use crate::columns_alone::first_alone;
 use crate::field_paths::field_line;
 use crate::formats::format_line;
 use crate::message_record::MessageRecord;
-use crate::numbers::push_signed;
-use crate::stream_context::StreamContext;
 use ipc_column::{Batch, Cursor, count};
 use ipc_frame::Frame;
 use ipc_meta::{BatchHead, Head};
 use ipc_model::{Fault, Field, Limits};
-use std::alloc::Global;
+use ipc_stream_read::Scope;
+use ipc_text_temporal::push_signed;
+use std::alloc::{AllocError, Global};
 use std::collections::BTreeMap;
 use std::sync::Arc;
 
@@ -35,12 +34,10 @@ fn metadata_of(front: &[u8]) -> &[u8]
 }
 
 impl MessageRecord {
-    /// Returns the line for the first message, which was refused for this fault. Errors:
-    /// `OutOfMemory` only.
-    pub(crate) fn explain(&self, alloc: Global, fault: &Fault) -> Result<Vec<u8>, Fault>
+    /// Returns the line for the first message, which was refused for this fault.
+    pub(crate) fn explain(&self, alloc: Global, fault: &Fault) -> Result<Vec<u8>, AllocError>
         ensures line { IfOk result (λ line. ExplainsFirst self.now.limits self.now.front.items
             fault.now line.items) }
-        ensures refused { IfErr result (λ f. f ≡ Fault.OutOfMemory) }
     {
         match fault.number() {
             1 => format_line(alloc, &self.front),
@@ -50,17 +47,15 @@ impl MessageRecord {
     }
 
     /// Returns the line for a later message than the first, which was refused for this fault.
-    /// Errors: `OutOfMemory` only.
-    pub(crate) fn explain_later(&self, alloc: Global, fault: &Fault) -> Result<Vec<u8>, Fault>
+    pub(crate) fn explain_later(&self, alloc: Global, fault: &Fault) -> Result<Vec<u8>, AllocError>
         ensures line { IfOk result
-            (λ line. ExplainsLater self.now.context self.now.last fault.now line.items) }
-        ensures refused { IfErr result (λ f. f ≡ Fault.OutOfMemory) }
+            (λ line. ExplainsLater self.now.scope self.now.last fault.now line.items) }
     {
-        match (&self.context, &self.last) {
-            (Some(context), Some(Frame::Message { head, body, .. })) => match head {
-                Head::Batch(head, _) => explain_rows(alloc, context, fault, head, body),
+        match (&self.scope, &self.last) {
+            (Some(scope), Some(Frame::Message { head, body, .. })) => match head {
+                Head::Batch(head, _) => explain_rows(alloc, scope, fault, head, body),
                 Head::Dictionary(id, head) => {
-                    explain_values(alloc, context, fault, *id, head, body)
+                    explain_values(alloc, scope, fault, *id, head, body)
                 }
                 Head::Schema(_) => Ok(Vec::new(alloc)),
             },
@@ -72,33 +67,31 @@ impl MessageRecord {
 // The line for a record batch.
 fn explain_rows(
     alloc: Global,
-    context: &StreamContext,
+    scope: &Scope,
     fault: &Fault,
     head: &BatchHead,
     body: &[u8],
-) -> Result<Vec<u8>, Fault>
-    ensures line { IfOk result (λ line. ExplainsBatch context.now.limits fault.now
-        (values_in (in_force context.now).dictionaries) context.now.schema.fields head.now body.now
+) -> Result<Vec<u8>, AllocError>
+    ensures line { IfOk result (λ line. ExplainsBatch scope.now.limits fault.now
+        (values_in (in_scope scope.now).dictionaries) scope.now.schema.fields head.now body.now
         []
         line.items) }
-    ensures refused { IfErr result (λ f. f ≡ Fault.OutOfMemory) }
 {
     explain_batch(
         alloc,
-        &context.limits,
+        &scope.limits,
         fault,
-        context.schema.fields.as_slice(),
+        scope.schema.fields.as_slice(),
         head,
         body,
-        context.dictionaries.current(),
+        scope.dictionaries.current(),
         Vec::new(alloc),
     )
 }
 
 // The words before the line for the values of a dictionary.
-fn dictionary_words(alloc: Global, id: i64) -> Result<Vec<u8>, Fault>
+fn dictionary_words(alloc: Global, id: i64) -> Result<Vec<u8>, AllocError>
     ensures words { IfOk result (λ front. front.items ≡ spec.dictionary_words id) }
-    ensures refused { IfErr result (λ f. f ≡ Fault.OutOfMemory) }
 {
     let mut front = Vec::new(alloc);
     front.extend_from_slice(b"dictionary ")?;
@@ -107,30 +100,42 @@ fn dictionary_words(alloc: Global, id: i64) -> Result<Vec<u8>, Fault>
     Ok(front)
 }
 
+// The one column by which the values of a dictionary are read, if a field of the schema names the
+// dictionary.
+fn values_column(scope: &Scope, id: i64) -> Option<&[Field]>
+    ensures some { IfSome result (λ columns.
+        columns_for (dictionary_columns scope.now.schema.fields) id ≡ Some columns.now) }
+    ensures none { result ≡ None
+        → columns_for (dictionary_columns scope.now.schema.fields) id ≡ None }
+    ensures few { IfSome result
+        (λ columns. length (entries columns.now) ≤ scope.now.limits.fields) }
+{
+    Some(scope.dictionaries.fields_of(id)?.as_slice())
+}
+
 // The line for the values of a dictionary.
 fn explain_values(
     alloc: Global,
-    context: &StreamContext,
+    scope: &Scope,
     fault: &Fault,
     id: i64,
     head: &BatchHead,
     body: &[u8],
-) -> Result<Vec<u8>, Fault>
+) -> Result<Vec<u8>, AllocError>
     ensures line { IfOk result
-        (λ line. MatchOption (columns_for (dictionary_columns context.now.schema.fields) id)
+        (λ line. MatchOption (columns_for (dictionary_columns scope.now.schema.fields) id)
         (line.items ≡ [])
-        (λ fields. ExplainsBatch context.now.limits fault.now [] fields head.now body.now
+        (λ fields. ExplainsBatch scope.now.limits fault.now [] fields head.now body.now
         (spec.dictionary_words id) line.items)) }
-    ensures refused { IfErr result (λ f. f ≡ Fault.OutOfMemory) }
 {
-    let Some(fields) = context.values_column(id) else {
+    let Some(fields) = values_column(scope, id) else {
         return Ok(Vec::new(alloc));
     };
     let front = dictionary_words(alloc, id)?;
     let none = BTreeMap::new(alloc);
     explain_batch(
         alloc,
-        &context.limits,
+        &scope.limits,
         fault,
         fields,
         head,
@@ -151,12 +156,11 @@ fn explain_batch(
     body: &[u8],
     dictionaries: &BTreeMap<i64, Arc<Batch>>,
     front: Vec<u8>,
-) -> Result<Vec<u8>, Fault>
+) -> Result<Vec<u8>, AllocError>
     requires dictionaries { AreDictionaries dictionaries.now }
     requires few { length (entries fields.now) ≤ limits.now.fields }
     ensures line { IfOk result (λ line. ExplainsBatch limits.now fault.now
         (dictionaries_in dictionaries.now) fields.now head.now body.now front.items line.items) }
-    ensures refused { IfErr result (λ f. f ≡ Fault.OutOfMemory) }
 {
     let mut line = front;
     match fault.number() {

@@ -1,6 +1,6 @@
 //! The field of a refused schema that has the fault.
-ghost use Rattle.std.specs.Prelude.{◌≡◌, ◌+◌, ◌*◌, ◌<◌, ◌++◌, ◌↔◌, ℕ, List, None, Some, Ok};
-ghost use Rattle.std.specs.Prelude.{IsTrue, IfErr, IfOk, IfSome, MatchOption, OnOk, codes};
+ghost use Rattle.std.specs.Prelude.{◌≡◌, ◌+◌, ◌*◌, ◌<◌, ◌++◌, ◌↔◌, ℕ, List, None, Some, Ok, IsTrue};
+ghost use Rattle.std.specs.Prelude.{IfOk, IfSome, MatchOption, OnOk, codes};
 ghost use Rattle.std.specs.Fmt.{decimal};
 ghost use Rattle.ipc_flat.specs.Views.{TableView, table_from};
 ghost use Rattle.ipc_model.specs.Numbering.{fault_number};
@@ -10,23 +10,22 @@ ghost use Rattle.job_explain.specs.FieldPaths.{field_alone, FirstWith, IsSchemaT
 ghost use Rattle.job_explain.specs.FieldPaths.{NoneWith, RefusedAs};
 ghost use Rattle.job_explain.specs.FieldPaths.{NamesField, name_words, type_words};
 
-use crate::numbers::push_number;
+use crate::column_lines::push_string;
 use ipc_flat::{Flat, TableRef, TableVec};
 use ipc_meta::read_only_field;
 use ipc_model::{Fault, Limits};
-use ipc_text_json::string_json;
-use std::alloc::Global;
+use ipc_text_temporal::push_number;
+use std::alloc::{AllocError, Global};
 
-// Whether a fault has the number of another one. Errors: `OutOfMemory` only.
-fn is_same(answer: Option<Fault>, fault: &Fault) -> Result<bool, Fault>
+// Whether a fault has the number of another one.
+fn is_same(answer: Option<Fault>, fault: &Fault) -> Result<bool, AllocError>
     ensures same { IfOk result (λ b. IsTrue b
         ↔ MatchOption answer ⊥ (λ f. fault_number f ≡ fault_number fault.now)) }
     ensures memory { OnOk result (answer ≡ Some Fault.OutOfMemory → ⊥) }
-    ensures refused { IfErr result (λ f. f ≡ Fault.OutOfMemory) }
 {
     match answer {
         None => Ok(false),
-        Some(Fault::OutOfMemory) => Err(Fault::OutOfMemory),
+        Some(Fault::OutOfMemory) => Err(AllocError),
         Some(answer) => Ok(answer.number() == fault.number()),
     }
 }
@@ -37,10 +36,9 @@ fn has_alone(
     limits: &Limits,
     fault: &Fault,
     table: &TableRef<'_>,
-) -> Result<bool, Fault>
+) -> Result<bool, AllocError>
     ensures answer { IfOk result (λ b. IsTrue b ↔ RefusedAs fault.now
         (field_alone limits.now table.now)) }
-    ensures refused { IfErr result (λ f. f ≡ Fault.OutOfMemory) }
 {
     is_same(read_only_field(alloc, limits, table).err(), fault)
 }
@@ -52,7 +50,7 @@ fn alone_at<'a>(
     fault: &Fault,
     tables: &TableVec<'a>,
     i: usize,
-) -> Result<Option<TableRef<'a>>, Fault>
+) -> Result<Option<TableRef<'a>>, AllocError>
     requires { i < tables.now.len }
     ensures some { IfOk result (λ o. IfSome o (λ u.
         (table_from tables.now.bytes (tables.now.at + i * 4) ≡ Ok u)
@@ -60,7 +58,6 @@ fn alone_at<'a>(
     ensures none { IfOk result (λ o. o ≡ None → (v : TableView)
         → table_from tables.now.bytes (tables.now.at + i * 4) ≡ Ok v
         → RefusedAs fault.now (field_alone limits.now v) → ⊥) }
-    ensures refused { IfErr result (λ f. f ≡ Fault.OutOfMemory) }
 {
     let Ok(table) = tables.at(i) else {
         return Ok(None);
@@ -79,10 +76,9 @@ fn first_with<'a>(
     fault: &Fault,
     table: &TableRef<'a>,
     slot: u16,
-) -> Result<Option<(usize, TableRef<'a>)>, Fault>
+) -> Result<Option<(usize, TableRef<'a>)>, AllocError>
     ensures answer { IfOk result (λ o. MatchOption o (NoneWith limits.now fault.now table.now slot)
         (λ f. FirstWith limits.now fault.now table.now slot f.0 f.1)) }
-    ensures refused { IfErr result (λ f. f ≡ Fault.OutOfMemory) }
 {
     let tables = match table.tables(slot) {
         Ok(Some(tables)) => tables,
@@ -134,26 +130,20 @@ fn type_name(code: u8) -> &'static [u8]
 
 // Appends the words for the name of a field.
 #[tactic(auto, unfolding(ipc_meta::specs::Tables::text_at))]
-fn push_name(alloc: Global, out: &mut Vec<u8>, table: &TableRef<'_>) -> Result<(), Fault>
+fn push_name(alloc: Global, out: &mut Vec<u8>, table: &TableRef<'_>) -> Result<(), AllocError>
     ensures ok { OnOk result (out.new.items ≡ out.old.items ++ name_words (text_at table.now 0)) }
-    ensures refused { IfErr result (λ f. f ≡ Fault.OutOfMemory) }
 {
     let Ok(name) = table.text(0) else {
         return Ok(());
     };
-    let Ok(name) = string_json(alloc, name.unwrap_or("")) else {
-        return Err(Fault::OutOfMemory);
-    };
     out.extend_from_slice(b" ")?;
-    out.extend_from_slice(name.as_bytes())?;
-    Ok(())
+    push_string(alloc, out, name.unwrap_or(""))
 }
 
 // Appends the words for the type of a field.
 #[tactic(auto, unfolding(ipc_meta::specs::Tables::code_at))]
-fn push_type(out: &mut Vec<u8>, table: &TableRef<'_>) -> Result<(), Fault>
+fn push_type(out: &mut Vec<u8>, table: &TableRef<'_>) -> Result<(), AllocError>
     ensures ok { OnOk result (out.new.items ≡ out.old.items ++ type_words (code_at table.now)) }
-    ensures refused { IfErr result (λ f. f ≡ Fault.OutOfMemory) }
 {
     let Ok(code) = table.scalar_u8(2, 0) else {
         return Ok(());
@@ -167,10 +157,9 @@ fn push_type(out: &mut Vec<u8>, table: &TableRef<'_>) -> Result<(), Fault>
 }
 
 // Appends the type of a field, and ends the line.
-fn push_end(out: &mut Vec<u8>, table: &TableRef<'_>) -> Result<(), Fault>
+fn push_end(out: &mut Vec<u8>, table: &TableRef<'_>) -> Result<(), AllocError>
     ensures ok { OnOk result
         (out.new.items ≡ out.old.items ++ (type_words (code_at table.now) ++ codes "\n")) }
-    ensures refused { IfErr result (λ f. f ≡ Fault.OutOfMemory) }
 {
     push_type(out, table)?;
     out.extend_from_slice(b"\n")?;
@@ -184,10 +173,9 @@ fn push_field(
     word: &[u8],
     i: usize,
     table: &TableRef<'_>,
-) -> Result<(), Fault>
+) -> Result<(), AllocError>
     ensures ok { OnOk result (out.new.items
         ≡ out.old.items ++ (word.now ++ decimal i ++ name_words (text_at table.now 0))) }
-    ensures refused { IfErr result (λ f. f ≡ Fault.OutOfMemory) }
 {
     out.extend_from_slice(word)?;
     push_number(out, i as u64)?;
@@ -203,11 +191,10 @@ fn push_below(
     depth: u64,
     table: &TableRef<'_>,
     out: &mut Vec<u8>,
-) -> Result<(), Fault>
+) -> Result<(), AllocError>
     ensures ok { OnOk result ((below : List ℕ)
         × NamesBelow limits.now fault.now depth table.now below
         × (out.new.items ≡ out.old.items ++ below)) }
-    ensures refused { IfErr result (λ f. f ≡ Fault.OutOfMemory) }
 {
     if depth > 0 {
         if let Some((i, child)) = first_with(alloc, limits, fault, table, 5)? {
@@ -232,16 +219,15 @@ fn schema_table(metadata: &[u8]) -> Option<TableRef<'_>>
 }
 
 /// Returns the line for the field of a schema's metadata that has the fault. It is empty if no
-/// column alone has it. Errors: `OutOfMemory` only.
+/// column alone has it.
 pub(crate) fn field_line(
     alloc: Global,
     limits: &Limits,
     fault: &Fault,
     metadata: &[u8],
-) -> Result<Vec<u8>, Fault>
+) -> Result<Vec<u8>, AllocError>
     ensures line { IfOk result
         (λ line. NamesField limits.now metadata.now fault.now line.items) }
-    ensures refused { IfErr result (λ f. f ≡ Fault.OutOfMemory) }
 {
     let mut line = Vec::new(alloc);
     let Some(table) = schema_table(metadata) else {

@@ -1,9 +1,8 @@
 //! Formats of input that is no stream, by its first bytes.
-ghost use Rattle.std.specs.Prelude.{◌≡◌, IfErr, IfOk};
+ghost use Rattle.std.specs.Prelude.{◌≡◌, IfOk};
 ghost use Rattle.job_explain.specs.Formats as spec;
 
-use ipc_model::Fault;
-use std::alloc::Global;
+use std::alloc::{AllocError, Global};
 
 // Whether a byte is a printable character of ASCII, a tab, or a part of the end of a line.
 fn is_text_byte(byte: u8) -> bool
@@ -50,11 +49,9 @@ fn format_words(front: &[u8]) -> &'static [u8]
 }
 
 /// Returns the line for input with these first bytes, which is empty if its format is not known.
-/// Errors: `OutOfMemory` only.
-pub(crate) fn format_line(alloc: Global, front: &[u8]) -> Result<Vec<u8>, Fault>
+pub(crate) fn format_line(alloc: Global, front: &[u8]) -> Result<Vec<u8>, AllocError>
     ensures line { IfOk result
         (λ line. line.items ≡ spec.format_line (spec.format_words front.now)) }
-    ensures refused { IfErr result (λ fault. fault ≡ Fault.OutOfMemory) }
 {
     let words = format_words(front);
     let mut line = Vec::new(alloc);

@@ -4,15 +4,17 @@
 
 mod column_lines;
 mod columns_alone;
-mod context_updates;
 mod explained;
 mod field_paths;
 mod formats;
 mod message_record;
-mod numbers;
 mod recorder;
-mod stream_context;
+mod records;
+mod schemas;
+mod scope_updates;
 mod writes;
 
 pub use recorder::Recorder;
+pub use records::explain_record;
+pub use schemas::explain_schema;
 pub use writes::explain_write;

@@ -2,12 +2,12 @@
 ghost use Rattle.std.specs.Prelude.{◌≡◌, ◌≤◌, ◌++◌, [], length, None, IfOk, IfSome};
 ghost use Rattle.ipc_frame.specs.Pieces.{taking};
 ghost use Rattle.job_explain.specs.Kept.{Keeps, KeepsFed, front_of, kept_of};
-ghost use Rattle.job_explain.specs.StreamContexts.{UpdatesContext};
+ghost use Rattle.job_explain.specs.ScopeUpdates.{UpdatesScope};
 
-use crate::context_updates::context_after;
-use crate::stream_context::StreamContext;
+use crate::scope_updates::scope_after;
 use ipc_frame::{Frame, Frames};
 use ipc_model::{Fault, Limits};
+use ipc_stream_read::Scope;
 use std::alloc::Global;
 
 /// What is kept of a stream: the first bytes of the message that is being read, or the message that
@@ -19,7 +19,7 @@ pub(crate) struct MessageRecord {
     pub(crate) frames: Frames,
     pub(crate) front: Vec<u8>,
     pub(crate) last: Option<Frame>,
-    pub(crate) context: Option<StreamContext>,
+    pub(crate) scope: Option<Scope>,
     pub(crate) ghost same_limits: { frames.limits ≡ limits },
     pub(crate) ghost front_kept: { front.items ≡ kept_of limits frames.progress front.items },
 }
@@ -67,14 +67,14 @@ impl MessageRecord {
         ensures limits { result.limits ≡ limits }
         ensures progress { result.frames.progress ≡ taking [] }
         ensures last { result.last ≡ None }
-        ensures context { result.context ≡ None }
+        ensures scope { result.scope ≡ None }
     {
         MessageRecord {
             limits,
             frames: Frames::new(alloc, limits),
             front: Vec::new(alloc),
             last: None,
-            context: None,
+            scope: None,
         }
     }
 
@@ -85,16 +85,16 @@ impl MessageRecord {
         ensures keeps { IfSome result (λ next. Keeps self.limits self.frames.progress
             self.front.items piece.now next.frames.progress next.front.items next.last) }
         ensures learns { IfSome result
-            (λ next. UpdatesContext self.limits self.context self.last next.context) }
+            (λ next. UpdatesScope self.limits self.scope self.last next.scope) }
     {
         let MessageRecord {
             limits,
             mut frames,
             front,
             last,
-            context,
+            scope,
         } = self;
-        let context = context_after(*front.allocator(), limits, context, last).ok()?;
+        let scope = scope_after(*front.allocator(), limits, scope, last).ok()?;
         let outcome = frames.feed(piece);
         let (front, last) = kept_after(&limits, front, piece, outcome)?;
         Some(MessageRecord {
@@ -102,7 +102,7 @@ impl MessageRecord {
             frames,
             front,
             last,
-            context,
+            scope,
         })
     }
 }

@@ -1,5 +1,5 @@
 //! A source that keeps the message that is being read.
-ghost use Rattle.std.specs.Prelude.{◌≡◌, ◌≤◌, ◌<◌, ◌+◌, length, take, IfErr, IfOk};
+ghost use Rattle.std.specs.Prelude.{◌≡◌, ◌≤◌, ◌<◌, ◌+◌, length, take, IfOk};
 ghost use Rattle.std.specs.Io.KnownBytes.{ReadConsumes};
 ghost use Rattle.ipc_device.specs.Failures.{CountsFailures};
 ghost use Rattle.job_explain.specs.Explained.{Explains, ExplainsUnwritten};
@@ -9,7 +9,7 @@ use crate::message_record::MessageRecord;
 use crate::writes::explain_write;
 use ipc_device::{Failed, Source};
 use ipc_model::{Fault, Limits, WriteFault};
-use std::alloc::Global;
+use std::alloc::{AllocError, Global};
 use std::mem::replace;
 
 /// A source that returns the bytes of another one, and keeps those of the message that is being
@@ -53,12 +53,9 @@ impl<R: Source> Recorder<R> {
     ///
     /// Pass the fault of the message that was read last. No contract compares the two, because a
     /// reader that is generic in its source does not state which message it read last.
-    ///
-    /// Errors: `OutOfMemory` only.
-    pub fn explain(&self, alloc: Global, fault: &Fault, message: u64) -> Result<Vec<u8>, Fault>
+    pub fn explain(&self, alloc: Global, fault: &Fault, message: u64) -> Result<Vec<u8>, AllocError>
         ensures lines { IfOk result
             (λ lines. Explains self.now.message_record fault.now message lines.items) }
-        ensures refused { IfErr result (λ f. f ≡ Fault.OutOfMemory) }
     {
         match (&self.message_record, message) {
             (Some(message_record), 0) => message_record.explain(alloc, fault),
@@ -70,23 +67,20 @@ impl<R: Source> Recorder<R> {
     /// Returns lines that explain why rows of the stream are not written, as `explain_write` does
     /// for the stream's schema. They are empty if nothing is kept, or if no byte was read after the
     /// schema's message.
-    ///
-    /// Errors: `OutOfMemory` only.
-    pub fn explain_write(&self, alloc: Global, fault: &WriteFault) -> Result<Vec<u8>, Fault>
+    pub fn explain_write(&self, alloc: Global, fault: &WriteFault) -> Result<Vec<u8>, AllocError>
         ensures lines { IfOk result
             (λ lines. ExplainsUnwritten self.now.message_record fault.now lines.items) }
-        ensures refused { IfErr result (λ f. f ≡ Fault.OutOfMemory) }
     {
         let Some(
             MessageRecord {
-                context: Some(context),
+                scope: Some(scope),
                 ..
             },
         ) = &self.message_record
         else {
             return Ok(Vec::new(alloc));
         };
-        explain_write(alloc, &context.schema, fault)
+        explain_write(alloc, &scope.schema, fault)
     }
 
     /// Returns the source.

@@ -1,14 +1,13 @@
 //! Explains why rows are not written.
-ghost use Rattle.std.specs.Prelude.{◌≡◌, ◌++◌, ◌+◌, [], None, Some, codes, drop, length, slice_get};
-ghost use Rattle.std.specs.Prelude.{IfErr, IfOk, IfSome, OnOk};
+ghost use Rattle.std.specs.Prelude.{◌≡◌, ◌++◌, IfOk, IfSome, None, OnOk, Some, slice_get};
 ghost use Rattle.job_explain.specs.Writes as spec;
 ghost use Rattle.job_explain.specs.Writes.{ExplainsWrite, dictionary_line, dictionary_lines};
-ghost use Rattle.job_explain.specs.Writes.{growth_line, growth_lines, place_words, steps_words};
+ghost use Rattle.job_explain.specs.Writes.{growth_line, growth_lines, steps_words};
 
-use crate::column_lines::{push_name, push_title, push_type};
-use crate::numbers::{push_number, push_signed};
-use ipc_model::{DataType, Dictionary, Fault, Field, RowCause, RowFault, Schema, WriteFault};
-use std::alloc::Global;
+use crate::column_lines::{push_string, push_title, push_type};
+use ipc_model::{DataType, Dictionary, Field, RowCause, RowFault, Schema, WriteFault};
+use ipc_text_temporal::{push_number, push_signed};
+use std::alloc::{AllocError, Global};
 
 // The words for what is wrong with a value.
 fn cause_words(cause: RowCause) -> &'static [u8]
@@ -22,8 +21,8 @@ fn cause_words(cause: RowCause) -> &'static [u8]
     }
 }
 
-// The field with this number, if there is one.
-fn field_at(fields: &[Field], number: usize) -> Option<&Field>
+/// Returns the field with this number, if there is one.
+pub(crate) fn field_at(fields: &[Field], number: usize) -> Option<&Field>
     ensures some { IfSome result (λ field. slice_get fields.now number ≡ Some field.now) }
     ensures none { result ≡ None → slice_get fields.now number ≡ None }
 {
@@ -41,10 +40,9 @@ fn push_steps(
     word: &[u8],
     fields: &[Field],
     path: &[u32],
-) -> Result<(), Fault>
+) -> Result<(), AllocError>
     ensures ok { OnOk result
         (out.new.items ≡ out.old.items ++ steps_words word.now fields.now path.now) }
-    ensures refused { IfErr result (λ f. f ≡ Fault.OutOfMemory) }
 {
     let Some((number, rest)) = path.split_first() else {
         return Ok(());
@@ -55,7 +53,7 @@ fn push_steps(
     out.extend_from_slice(word)?;
     push_number(out, u64::from(*number))?;
     out.extend_from_slice(b" ")?;
-    push_name(alloc, out, field)?;
+    push_string(alloc, out, field.name.as_str())?;
     if rest.is_empty() {
         return push_type(alloc, out, &field.kind);
     }
@@ -63,9 +61,13 @@ fn push_steps(
 }
 
 // The line for a row that does not fit its schema.
-fn row_line(alloc: Global, schema: &Schema, row: u64, fault: &RowFault) -> Result<Vec<u8>, Fault>
+fn row_line(
+    alloc: Global,
+    schema: &Schema,
+    row: u64,
+    fault: &RowFault,
+) -> Result<Vec<u8>, AllocError>
     ensures line { IfOk result (λ out. out.items ≡ spec.row_line schema.now.fields row fault.now) }
-    ensures refused { IfErr result (λ f. f ≡ Fault.OutOfMemory) }
 {
     let mut out = Vec::new(alloc);
     out.extend_from_slice(b"row ")?;
@@ -89,10 +91,9 @@ fn push_dictionary(
     number: usize,
     field: &Field,
     dictionary: Dictionary,
-) -> Result<(), Fault>
+) -> Result<(), AllocError>
     ensures ok { OnOk result (out.new.items
         ≡ out.old.items ++ dictionary_line number field.now (Some dictionary)) }
-    ensures refused { IfErr result (λ f. f ≡ Fault.OutOfMemory) }
 {
     push_title(alloc, out, number, field)?;
     out.extend_from_slice(b": dictionary ")?;
@@ -108,10 +109,9 @@ fn push_dictionary(
 }
 
 // Appends the lines for the columns that have a dictionary.
-fn list_dictionaries(alloc: Global, out: &mut Vec<u8>, fields: &[Field]) -> Result<(), Fault>
+fn list_dictionaries(alloc: Global, out: &mut Vec<u8>, fields: &[Field]) -> Result<(), AllocError>
     ensures ok { OnOk result
         (out.new.items ≡ out.old.items ++ dictionary_lines 0 fields.now) }
-    ensures refused { IfErr result (λ f. f ≡ Fault.OutOfMemory) }
 {
     for number in 0..fields.len() {
         if let Some(dictionary) = fields[number].dictionary {
@@ -144,10 +144,9 @@ fn push_growth(
     number: usize,
     field: &Field,
     words: &[u8],
-) -> Result<(), Fault>
+) -> Result<(), AllocError>
     ensures ok { OnOk result (out.new.items
         ≡ out.old.items ++ growth_line number field.now (Some words.now)) }
-    ensures refused { IfErr result (λ f. f ≡ Fault.OutOfMemory) }
 {
     push_title(alloc, out, number, field)?;
     out.extend_from_slice(b": ")?;
@@ -162,10 +161,9 @@ fn list_growing(
     out: &mut Vec<u8>,
     bytes: bool,
     fields: &[Field],
-) -> Result<(), Fault>
+) -> Result<(), AllocError>
     ensures ok { OnOk result
         (out.new.items ≡ out.old.items ++ growth_lines bytes 0 fields.now) }
-    ensures refused { IfErr result (λ f. f ≡ Fault.OutOfMemory) }
 {
     for number in 0..fields.len() {
         if let Some(words) = growth_words(bytes, &fields[number].kind) {
@@ -187,12 +185,13 @@ fn list_growing(
 ///   and then those that have a dictionary.
 ///
 /// Which column of W6, W7 and W8 was too large is not known: the rows are gone.
-///
-/// Errors: `OutOfMemory` only.
-pub fn explain_write(alloc: Global, schema: &Schema, fault: &WriteFault) -> Result<Vec<u8>, Fault>
+pub fn explain_write(
+    alloc: Global,
+    schema: &Schema,
+    fault: &WriteFault,
+) -> Result<Vec<u8>, AllocError>
     ensures lines { IfOk result
         (λ out. ExplainsWrite schema.now.fields fault.now out.items) }
-    ensures refused { IfErr result (λ f. f ≡ Fault.OutOfMemory) }
 {
     let mut out = Vec::new(alloc);
     let fields = schema.fields.as_slice();

@@ -25,7 +25,7 @@ fn explained(alloc: Global, stream: &[u8], on: bool) -> Result<Vec<u8>, Fault> {
     for _ in 0..100 {
         let (_, fed) = frames.feed_from(&mut recorder);
         if let Err(fault) = fed {
-            return recorder.explain(alloc, &fault, 0);
+            return Ok(recorder.explain(alloc, &fault, 0)?);
         }
     }
     Ok(Vec::new(alloc))

@@ -1,10 +1,11 @@
 //! Jobs of the command between devices that fail at each of their calls in turn.
 ghost use Rattle.std.specs.Prelude.{IfOk};
-ghost use Rattle.job_command.specs.Arguments.{HasGoodSize};
+ghost use Rattle.job_arguments.specs.Arguments.{HasGoodSize};
 
 use ipc_model::Limits;
 use ipc_stream::{Limited, Memory, Seed};
-use job_command::{CsvDialect, Invocation, Job, run};
+use job_arguments::{CsvDialect, Invocation, Job};
+use job_command::run;
 use std::alloc::{AllocError, Global};
 use std::test::Fail;
 

@@ -1,10 +1,15 @@
 use Rattle.std.proofs.Common.{◌≡◌, [], inl, inr, List, ℕ, subst, sym}
-use Rattle.std.specs.Prelude.{◌⊎◌, IfSome}
+use Rattle.std.specs.Prelude.{◌⊎◌, Err, IfOk, IfSome, Ok, Result}
+use Rattle.std.specs.Result.{result_ok}
 use Rattle.std.proofs.lemmas.Result.{IfOk-weaker}
 use Rattle.job_command.specs.Lines.{ExplainsStop}
-use Rattle.job_command.specs.SchemaExplanations.{ExplainsSchema}
-use Rattle.job_command.proofs.Explained.{told_if_ok}
+use Rattle.job_explain.specs.Schemas.{ExplainsSchema}
 use Rattle.job_command.proofs.running.lines_of.Goals as goal
+
+-- what holds of the value of a result holds of the value that `ok` returns
+told_if_ok : {V F : Type 0} (r : Result V F) (P : V → Type 0) → IfOk r P → IfSome (result_ok r) P
+told_if_ok (Ok v) P h = h
+told_if_ok (Err e) P h = tt
 
 pub returns-in-SchemaText : goal.returns-in-SchemaText
 returns-in-SchemaText g c =

@@ -14,6 +14,9 @@ loop-pair-preserved c =
     joined_more (pair_words first second) (pairs_words first second) (λ x xs. refl) pairs i (pos 0, pos 0) c.loop-pair-test.true
     c.loop-pair.out.items c.push_pair.new.out.items _ more c.loop-pair.invariant
 
-pub returns-clause-ok : goal.returns-clause-ok
-returns-clause-ok c = joined_done (pair_words c.args.first.now c.args.second.now) (pairs_words c.args.first.now c.args.second.now) refl
-    c.args.pairs.now c.loop-pair.pair-index (omega arith) c.loop-pair.out.items _ c.loop-pair.invariant
+pub returns : goal.returns
+returns c = record {
+  ok =
+      joined_done (pair_words c.args.first.now c.args.second.now) (pairs_words c.args.first.now c.args.second.now) refl
+      c.args.pairs.now c.loop-pair.pair-index (omega arith) c.loop-pair.out.items _ c.loop-pair.invariant;
+}

@@ -59,40 +59,42 @@ part_of-buffers-requires-clause-inside c =
 pub is_refused-requires-clause-few : goal.is_refused-requires-clause-few
 is_refused-requires-clause-few c = column_few c.args.fields.now c.loop-number.number c.args.limits.now.fields c.requires.few
 
-pub returns-then-refused-clause-finds : goal.returns-then-refused-clause-finds
-returns-then-refused-clause-finds c =
-    let alone : column_head c.args.fields.now c.args.head.now c.loop-number.number ≡ record {
-      length = c.args.head.now.length;
-      nodes = c.part_of-nodes.result.now;
-      buffers = c.part_of-buffers.result.now;
-    } =
-    head_of_column c.args.fields.now c.args.head.now c.loop-number.number c.loop-number.place.node c.loop-number.place.buffer
-    c.count-after.result.node c.count-after.result.buffer c.part_of-nodes.result.now c.part_of-buffers.result.now
-    c.loop-number.invariant.node c.loop-number.invariant.buffer c.count-after.ensures.nodes c.count-after.ensures.buffers
-    (c.part_of-nodes.ensures ∙ ap (λ (xs : List (ℤ × ℤ)). sublist xs c.loop-number.place.node c.count-after.result.node)
-    c.as_slice.ensures)
-    (c.part_of-buffers.ensures
-    ∙ ap (λ (xs : List (ℤ × ℤ)). sublist xs c.loop-number.place.buffer c.count-after.result.buffer) c.as_slice-in-loop-number.ensures) in
-    let whole : c.in_ok-part.part ≡ record {
-      length = c.args.head.now.length;
-      nodes = c.part_of-nodes.result.now;
-      buffers = c.part_of-buffers.result.now;
-    } =
-    search rules in
-    let m = dictionaries_in c.args.dictionaries.now in
-    let one = column c.args.fields.now c.loop-number.number in (
-      record {
-        counts = record { nodes = omega arith; buffers = omega arith };
-        refused = subst (λ head. IsRefusedAs c.args.limits.now c.args.fault.now m one head c.args.body.now)
-            (whole ∙ sym alone)
-            (subst (λ body. IsRefusedAs c.args.limits.now c.args.fault.now m one c.in_ok-part.part body) c.in_ok-copy.ensures.copy
-            (c.in_ok-refused.ensures.same c.if-refused.true));
-        first = c.loop-number.invariant.passed;
-      },
-      slice_get_read c.args.fields.now (length c.args.fields.now) c.loop-number.number c.index-fields-number.result refl (omega arith)
-          c.index-fields-number.is,
-      alone,
-    )
+pub returns-then-refused : goal.returns-then-refused
+returns-then-refused c = record {
+  finds =
+      let alone : column_head c.args.fields.now c.args.head.now c.loop-number.number ≡ record {
+        length = c.args.head.now.length;
+        nodes = c.part_of-nodes.result.now;
+        buffers = c.part_of-buffers.result.now;
+      } =
+      head_of_column c.args.fields.now c.args.head.now c.loop-number.number c.loop-number.place.node c.loop-number.place.buffer
+      c.count-after.result.node c.count-after.result.buffer c.part_of-nodes.result.now c.part_of-buffers.result.now
+      c.loop-number.invariant.node c.loop-number.invariant.buffer c.count-after.ensures.nodes c.count-after.ensures.buffers
+      (c.part_of-nodes.ensures ∙ ap (λ (xs : List (ℤ × ℤ)). sublist xs c.loop-number.place.node c.count-after.result.node)
+      c.as_slice.ensures)
+      (c.part_of-buffers.ensures
+      ∙ ap (λ (xs : List (ℤ × ℤ)). sublist xs c.loop-number.place.buffer c.count-after.result.buffer) c.as_slice-in-loop-number.ensures) in
+      let whole : c.in_ok-part.part ≡ record {
+        length = c.args.head.now.length;
+        nodes = c.part_of-nodes.result.now;
+        buffers = c.part_of-buffers.result.now;
+      } =
+      search rules in
+      let m = dictionaries_in c.args.dictionaries.now in
+      let one = column c.args.fields.now c.loop-number.number in (
+        record {
+          counts = record { nodes = omega arith; buffers = omega arith };
+          refused = subst (λ head. IsRefusedAs c.args.limits.now c.args.fault.now m one head c.args.body.now)
+              (whole ∙ sym alone)
+              (subst (λ body. IsRefusedAs c.args.limits.now c.args.fault.now m one c.in_ok-part.part body) c.in_ok-copy.ensures.copy
+              (c.in_ok-refused.ensures.same c.if-refused.true));
+          first = c.loop-number.invariant.passed;
+        },
+        slice_get_read c.args.fields.now (length c.args.fields.now) c.loop-number.number c.index-fields-number.result refl (omega arith)
+            c.index-fields-number.is,
+        alone,
+      );
+}
 
 pub loop-number-preserved : goal.loop-number-preserved
 loop-number-preserved c =
@@ -131,5 +133,8 @@ loop-number-preserved c =
           (c.in_ok-refused.ensures.other c.if-refused.false)));
     }
 
-pub returns-clause-finds : goal.returns-clause-finds
-returns-clause-finds c = λ counts j less. c.loop-number.invariant.passed j (omega (arith, less))
+pub returns : goal.returns
+returns c = record {
+  finds =
+      λ counts j less. c.loop-number.invariant.passed j (omega (arith, less));
+}

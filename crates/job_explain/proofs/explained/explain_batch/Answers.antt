@@ -16,8 +16,10 @@ count-all-requires-in-27-clause-nodes c = omega (arith, nodes_few c.args.limits.
 pub count-all-requires-in-27-clause-buffers : goal.count-all-requires-in-27-clause-buffers
 count-all-requires-in-27-clause-buffers c = omega (arith, buffers_few c.args.limits.now c.args.fields.now c.requires.few)
 
-pub returns-in_ok-push_counts-in-26-clause-line : goal.returns-in_ok-push_counts-in-26-clause-line
-returns-in_ok-push_counts-in-26-clause-line c =
-    nodes_counted c.args.limits.now c.args.fault.now (dictionaries_in c.args.dictionaries.now) c.args.fields.now c.args.head.now
-    c.args.body.now c.args.front.items c.push_counts.new.out.items c.len.result c.count-all.result.node (omega arith) (omega arith)
-    (omega arith) c.in_ok-push_counts-in-26.ensures.ok
+pub returns-in_ok-push_counts-in-26 : goal.returns-in_ok-push_counts-in-26
+returns-in_ok-push_counts-in-26 c = record {
+  line =
+      nodes_counted c.args.limits.now c.args.fault.now (dictionaries_in c.args.dictionaries.now) c.args.fields.now c.args.head.now
+      c.args.body.now c.args.front.items c.push_counts.new.out.items c.len.result c.count-all.result.node (omega arith) (omega arith)
+      (omega arith) c.in_ok-push_counts-in-26.ensures.ok;
+}

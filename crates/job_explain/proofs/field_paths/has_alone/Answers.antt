@@ -1,7 +1,9 @@
 use Rattle.job_explain.proofs.Alone.{alone_answer}
 use Rattle.job_explain.proofs.field_paths.has_alone.Goals as goal
 
-pub returns-clause-answer : goal.returns-clause-answer
-returns-clause-answer c =
-    alone_answer c.args.limits.now c.args.table.now c.read_only_field.result c.args.fault.now c.is_same.result c.read_only_field.ensures
-    (rw c.err.ensures.value at c.is_same.ensures.memory) (rw c.err.ensures.value at c.is_same.ensures.same)
+pub returns : goal.returns
+returns c = record {
+  answer =
+      alone_answer c.args.limits.now c.args.table.now c.read_only_field.result c.args.fault.now c.is_same.result c.read_only_field.ensures
+      (rw c.err.ensures.value at c.is_same.ensures.memory) (rw c.err.ensures.value at c.is_same.ensures.same);
+}

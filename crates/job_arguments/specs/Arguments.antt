@@ -1,0 +1,228 @@
+-- What a command line asks for.
+use Rattle.std.specs.Prelude.{◌≡◌, ◌≢◌, ◌⊎◌, ◌↔◌, ◌≤◌, ℕ, ◌^◌, ◌-◌, Bool, IsTrue, List, [], ◌∷◌}
+use Rattle.std.specs.Prelude.{Option, None, Some, ⊤, codes, false, true, string_bytes, ◌++◌, ◌==◌}
+use Rattle.std.specs.List.{starts_with}
+use Rattle.std.specs.Str.Parse.{IsNumeral, digits_value, without_leading_plus}
+use Rattle.clap.specs.Words.{App, IsAmong, Row, Text, app_of, fault_of, first_of, one_of}
+use Rattle.clap.specs.Words.{subcommand_of}
+use Rattle.clap.specs.declared.builder.command.Command.{Command}
+use Rattle.clap.specs.declared.builder.command.Command.TheViews.{out-Command}
+use Rattle.clap.specs.declared.error.kind.ErrorKind.{ErrorKind}
+use Rattle.clap.specs.declared.error.kind.ErrorKind.TheVariants as kind
+use Rattle.ipc_text_csv.specs.Dialects.{IsDialect}
+use Rattle.ipc_model.specs.MaxLimits.{max_body, max_metadata, max_slots}
+use Rattle.ipc_model.specs.declared.limits.Limits.{Limits}
+use Rattle.job_arguments.specs.CommandLine.{arrowstream}
+use Rattle.job_arguments.specs.declared.csv_dialect.CsvDialect.{CsvDialect}
+use Rattle.job_arguments.specs.declared.arguments.Invocation.{Invocation}
+use Rattle.job_arguments.specs.declared.arguments.Job.{Job}
+use Rattle.job_arguments.specs.declared.arguments.Job.TheVariants as job
+use Rattle.job_arguments.specs.declared.arguments.Usage.{Usage}
+use Rattle.job_arguments.specs.declared.arguments.Usage.TheVariants as usage
+
+-- the option has this number, which is in its range: the decimal number of its value in the words,
+-- or of its default
+pub record HasNumber (name : Text) (least greatest : ℕ) (rows : List Row) (n : ℕ) : Type 0 where
+  pub text : Text
+  pub text_is : one_of name rows ≡ Some text
+  pub numeral : IsNumeral 10 (without_leading_plus text)
+  pub value : n ≡ digits_value 10 (without_leading_plus text)
+  pub least_is : least ≤ n
+  pub greatest_is : n ≤ greatest
+
+-- the option has no such number
+abbrev pub LacksNumber : Text → ℕ → ℕ → List Row → Type 0
+LacksNumber name least greatest rows = (n : ℕ) → HasNumber name least greatest rows n → ⊥
+
+-- the option has this number, if the words have the option
+abbrev pub HasCount : Text → ℕ → ℕ → List Row → Option ℕ → Type 0
+HasCount name least greatest rows None = first_of name rows ≡ None
+HasCount name least greatest rows (Some n) = HasNumber name least greatest rows n
+
+-- the words have the option, but with no number in its range
+abbrev pub LacksCount : Text → ℕ → ℕ → List Row → Type 0
+LacksCount name least greatest rows =
+    (first_of name rows ≢ None) × LacksNumber name least greatest rows
+
+-- the flag is `true` exactly where the words have it
+abbrev pub HasFlag : Text → List Row → Bool → Type 0
+HasFlag name rows flag = IsTrue flag ↔ (one_of name rows ≡ Some (codes "true"))
+
+-- the options of a subcommand ask for these limits; the others are the standard ones
+pub record AskForLimits (rows : List Row) (limits : Limits) : Type 0 where
+  pub metadata : HasNumber (codes "max-metadata") 0 max_metadata rows limits.metadata
+  pub body : HasNumber (codes "max-body") 0 max_body rows limits.body
+  pub slots : HasNumber (codes "max-rows") 0 max_slots rows limits.slots
+  pub fields : limits.fields ≡ 65536
+  pub depth : limits.depth ≡ 64
+  pub text : limits.text ≡ 2 ^ 26
+  pub pairs : limits.pairs ≡ 2 ^ 20
+
+-- one of the limits is no number from 0 to its greatest value
+abbrev pub HasWrongLimit : List Row → Type 0
+HasWrongLimit rows = LacksNumber (codes "max-metadata") 0 max_metadata rows
+    ⊎ (LacksNumber (codes "max-body") 0 max_body rows
+    ⊎ LacksNumber (codes "max-rows") 0 max_slots rows)
+
+-- the options ask for this dialect of CSV: the delimiter is one byte
+pub record AskForDialect (rows : List Row) (dialect : CsvDialect) : Type 0 where
+  pub delimiter : first_of (codes "delimiter") rows ≡ Some (dialect.delimiter ∷ [])
+  pub null : first_of (codes "null") rows ≡ Some (string_bytes dialect.null)
+
+-- the options ask for no dialect that is allowed
+abbrev pub HasWrongDialect : List Row → Type 0
+HasWrongDialect rows = (delimiter : ℕ) (null : Text)
+    → first_of (codes "delimiter") rows ≡ Some (delimiter ∷ [])
+    → first_of (codes "null") rows ≡ Some null → IsDialect delimiter null → ⊥
+
+-- a number of rows that a batch may be asked to have
+abbrev pub IsBatchSize : ℕ → Type 0
+IsBatchSize size = (1 ≤ size) × (size ≤ max_slots)
+
+-- the job's batch size, if it has one, is allowed
+abbrev pub HasGoodSize : Job → Type 0
+HasGoodSize (job.Schema limits) = ⊤
+HasGoodSize (job.Check limits mark) = ⊤
+HasGoodSize (job.Show limits objects pairs count mark) = ⊤
+HasGoodSize (job.ToCsv limits dialect count mark) = ⊤
+HasGoodSize (job.Rewrite limits mark) = ⊤
+HasGoodSize (job.FromCsv path size dialect) = IsBatchSize size
+
+-- the subcommand of this name, with what was found for its options, asks for this job
+abbrev pub IsJobOf : Text → List Row → Job → Type 0
+IsJobOf name rows (job.Schema limits) =
+    (name ≡ codes "check") × AskForLimits rows limits × HasFlag (codes "schema") rows true
+IsJobOf name rows (job.Check limits mark) =
+    (name ≡ codes "check") × AskForLimits rows limits × HasFlag (codes "schema") rows false
+    × HasFlag (codes "require-mark") rows mark
+IsJobOf name rows (job.Show limits objects pairs count mark) =
+    (name ≡ codes "show") × AskForLimits rows limits × HasFlag (codes "objects") rows objects
+    × HasFlag (codes "pairs") rows pairs × HasCount (codes "limit") 0 (2 ^ 64 - 1) rows count
+    × HasFlag (codes "require-mark") rows mark
+IsJobOf name rows (job.ToCsv limits dialect count mark) =
+    (name ≡ codes "to-csv") × AskForLimits rows limits × AskForDialect rows dialect
+    × HasCount (codes "limit") 0 (2 ^ 64 - 1) rows count × HasFlag (codes "require-mark") rows mark
+IsJobOf name rows (job.Rewrite limits mark) =
+    (name ≡ codes "rewrite") × AskForLimits rows limits × HasFlag (codes "require-mark") rows mark
+IsJobOf name rows (job.FromCsv path size dialect) = (name ≡ codes "from-csv")
+    × (first_of (codes "schema") rows ≡ Some (string_bytes path))
+    × HasNumber (codes "batch") 1 max_slots rows size × AskForDialect rows dialect
+
+-- the subcommand of this name has options for limits
+abbrev pub HasLimits : Text → Type 0
+HasLimits name = (name ≡ codes "check")
+    ⊎ ((name ≡ codes "show") ⊎ ((name ≡ codes "to-csv") ⊎ (name ≡ codes "rewrite")))
+
+-- the subcommand of this name has an option for the number of rows that are printed
+abbrev pub HasLimit : Text → Type 0
+HasLimit name = (name ≡ codes "show") ⊎ (name ≡ codes "to-csv")
+
+-- the subcommand of this name has options for the dialect of CSV
+abbrev pub HasDialect : Text → Type 0
+HasDialect name = (name ≡ codes "to-csv") ⊎ (name ≡ codes "from-csv")
+
+-- no subcommand has this name
+abbrev pub IsNoSubcommand : Text → Type 0
+IsNoSubcommand name = (HasLimits name → ⊥) × (name ≢ codes "from-csv")
+
+-- an option of the subcommand of this name has none of its values
+pub data HasWrongValue (name : Text) (rows : List Row) : Type 0 where
+  -- a limit is out of its range
+  limit : HasLimits name → HasWrongLimit rows → HasWrongValue name rows
+  -- the number of rows to print is no number of 64 bits
+  count : HasLimit name → LacksCount (codes "limit") 0 (2 ^ 64 - 1) rows → HasWrongValue name rows
+  -- the dialect of CSV is not allowed
+  dialect : HasDialect name → HasWrongDialect rows → HasWrongValue name rows
+  -- `from-csv` has no path
+  path : name ≡ codes "from-csv" → first_of (codes "schema") rows ≡ None → HasWrongValue name rows
+  -- its batch size is no number from 1 to 2^31 - 1
+  size : name ≡ codes "from-csv" → LacksNumber (codes "batch") 1 max_slots rows
+      → HasWrongValue name rows
+  -- there is no such subcommand
+  other : IsNoSubcommand name → HasWrongValue name rows
+
+-- the subcommand of this name, with what was found for its options, asks for this job, and for the
+-- reports of its flags
+abbrev pub IsInvocationOf : Text → List Row → Invocation → Type 0
+IsInvocationOf name rows asked =
+    IsJobOf name rows asked.job × HasFlag (codes "explain") rows asked.explain
+    × HasFlag (codes "progress") rows asked.progress
+
+-- the words ask for this: `clap` finds no fault in them, and they name a subcommand that asks for
+-- it
+pub record Asks (words : List Text) (asked : Invocation) : Type 0 where
+  pub taken : fault_of arrowstream words ≡ []
+  pub name : Text
+  pub rows : List Row
+  pub entered : subcommand_of arrowstream words ≡ Some (name, rows)
+  pub is : IsInvocationOf name rows asked
+
+-- `clap` finds no fault in the words, and the subcommand that they name has a value that is none of
+-- its option's
+pub record HaveWrongValue (words : List Text) : Type 0 where
+  pub taken : fault_of arrowstream words ≡ []
+  pub name : Text
+  pub rows : List Row
+  pub entered : subcommand_of arrowstream words ≡ Some (name, rows)
+  pub wrong : HasWrongValue name rows
+
+-- the message for a word that is no argument says that the word looks like an option, or ends with
+-- how a file is read
+abbrev pub Hints : List ℕ → Type 0
+Hints text = IsTrue (starts_with ◌==◌ text (codes "error: unexpected argument '-"))
+    ⊎ ((front : List ℕ) × (text ≡ front
+    ++ codes "\nInput is read from standard input: arrowstream check < FILE\n"))
+
+-- why words are no job. They ask for help or the version; or they have another fault, or a value
+-- that is none of its option's; or memory ran out
+abbrev pub AsksNoJob : List Text → Usage → Type 0
+AsksNoJob words (usage.Help text) = IsAmong kind.DisplayHelp (fault_of arrowstream words)
+    ⊎ IsAmong kind.DisplayVersion (fault_of arrowstream words)
+AsksNoJob words (usage.Wrong text) =
+    ((fault : ErrorKind) × IsAmong fault (fault_of arrowstream words)
+    × (fault ≢ kind.DisplayHelp) × (fault ≢ kind.DisplayVersion)
+    × (fault ≡ kind.UnknownArgument → Hints (string_bytes text)))
+    ⊎ HaveWrongValue words
+AsksNoJob words usage.OutOfMemory = ⊤
+
+-- ---- the steps in between
+
+-- a command that `clap` sees as this one
+abbrev pub IsCommand : App → Command → Type 0
+IsCommand app c = (app_of c ≡ app) × ((out-Command c).has_globals ≡ false)
+
+-- the usage that is answered to an error of this kind
+abbrev pub IsUsageOf : ErrorKind → Usage → Type 0
+IsUsageOf fault (usage.Help text) = (fault ≡ kind.DisplayHelp) ⊎ (fault ≡ kind.DisplayVersion)
+IsUsageOf fault (usage.Wrong text) = (fault ≢ kind.DisplayHelp) × (fault ≢ kind.DisplayVersion)
+    × (fault ≢ kind.OutOfMemory) × (fault ≡ kind.UnknownArgument → Hints (string_bytes text))
+IsUsageOf fault usage.OutOfMemory = ⊤
+
+-- the usage for a word that is no argument
+abbrev pub IsHint : Usage → Type 0
+IsHint (usage.Help text) = ⊥
+IsHint (usage.Wrong text) = Hints (string_bytes text)
+IsHint usage.OutOfMemory = ⊤
+
+-- the usage of words that are wrong, memory aside
+abbrev pub IsWrong : Usage → Type 0
+IsWrong (usage.Help text) = ⊥
+IsWrong (usage.Wrong text) = ⊤
+IsWrong usage.OutOfMemory = ⊤
+
+-- the same, and the words are wrong for this cause
+abbrev pub IsWrongFor : Type 0 → Usage → Type 0
+IsWrongFor cause (usage.Help text) = ⊥
+IsWrongFor cause (usage.Wrong text) = cause
+IsWrongFor cause usage.OutOfMemory = ⊤
+
+-- a subcommand was found with a value that is none of its option's, or none was found
+abbrev pub IsWrongFound : Option (Text × List Row) → Type 0
+IsWrongFound found = (found ≡ None)
+    ⊎ ((name : Text) × (rows : List Row) × (found ≡ Some (name, rows)) × HasWrongValue name rows)
+
+-- a subcommand was found that asks for this
+abbrev pub IsFound : Option (Text × List Row) → Invocation → Type 0
+IsFound found asked =
+    (name : Text) × (rows : List Row) × (found ≡ Some (name, rows))
+    × IsInvocationOf name rows asked

@@ -1,0 +1,407 @@
+//! Reads the arguments of a command line.
+ghost use Rattle.std.specs.Prelude.{◌≡◌, ◌≢◌, ◌^◌, ◌-◌, ◌∷◌, [], ℕ, IfErr, IfOk, IfSome, None};
+ghost use Rattle.std.specs.Prelude.{codes, map, string_bytes};
+ghost use Rattle.clap.specs.Words.{found_of, kind_of, rows_of, subcommand_rows_of};
+ghost use Rattle.job_arguments.specs.Arguments.{AskForDialect, AskForLimits, Asks, AsksNoJob};
+ghost use Rattle.job_arguments.specs.Arguments.{IsFound, IsHint, IsInvocationOf, IsJobOf};
+ghost use Rattle.job_arguments.specs.Arguments.{HasCount, HasFlag, HasGoodSize, HasNumber};
+ghost use Rattle.job_arguments.specs.Arguments.{HasWrongDialect, HasWrongLimit, HasWrongValue};
+ghost use Rattle.job_arguments.specs.Arguments.{IsUsageOf, IsWrong, IsWrongFor, IsWrongFound};
+ghost use Rattle.job_arguments.specs.Arguments.{LacksCount, LacksNumber};
+
+use crate::command_line::command;
+use crate::csv_dialect::CsvDialect;
+use clap::error::ErrorKind;
+use clap::{ArgMatches, Command, Error};
+use ipc_model::{Limits, MAX_BODY, MAX_METADATA, MAX_SLOTS};
+use std::alloc::{AllocError, Global};
+
+/// What to do, and the limits of a stream that is read.
+#[derive(Debug, Drop)]
+pub enum Job {
+    /// Print the schema of a stream as a line of JSON, and read no more.
+    Schema(Limits),
+    /// Read a stream, and print its schema and its numbers of bytes, batches and rows.
+    Check {
+        /// The limits of the stream.
+        limits: Limits,
+        /// Whether the end-of-stream mark is required.
+        require_mark: bool,
+    },
+    /// Print each row of a stream as JSON on a line of its own.
+    Show {
+        /// The limits of the stream.
+        limits: Limits,
+        /// Whether each row is an object with the columns' names as keys, and no array.
+        objects: bool,
+        /// Whether to print a line with its pairs before the rows of each batch.
+        pairs: bool,
+        /// The number of rows to print at most, or `None` for all of them.
+        limit: Option<u64>,
+        /// Whether the end-of-stream mark is required.
+        require_mark: bool,
+    },
+    /// Print a stream as CSV.
+    ToCsv {
+        /// The limits of the stream.
+        limits: Limits,
+        /// The dialect of CSV.
+        dialect: CsvDialect,
+        /// The number of rows to print at most, or `None` for all of them.
+        limit: Option<u64>,
+        /// Whether the end-of-stream mark is required.
+        require_mark: bool,
+    },
+    /// Rewrite a stream in canonical layout, with its schema, batches and rows.
+    Rewrite {
+        /// The limits of the stream.
+        limits: Limits,
+        /// Whether the end-of-stream mark is required.
+        require_mark: bool,
+    },
+    /// Write CSV records as a stream.
+    FromCsv {
+        /// The path of a file with the schema as JSON.
+        schema: String,
+        /// The number of rows of a batch; the last batch may have fewer.
+        batch: u64,
+        /// The dialect of CSV.
+        dialect: CsvDialect,
+    },
+}
+
+/// What a command line asks for.
+#[derive(Debug, Drop)]
+pub struct Invocation {
+    /// What to do.
+    pub job: Job,
+    /// Whether to explain a refusal, on lines after its own.
+    pub explain: bool,
+    /// Whether to report after each batch how far a stream is read.
+    pub progress: bool,
+}
+
+/// Why a command line contains no job.
+#[derive(Debug, Drop)]
+pub enum Usage {
+    /// The arguments ask for help or the version: this text, for standard output.
+    Help(String),
+    /// The arguments are invalid: why, and the usage, for standard error.
+    Wrong(String),
+    /// Memory ran out.
+    OutOfMemory,
+}
+
+impl From<AllocError> for Usage {
+    ghost use Rattle.std.specs.Prelude.{◌≡◌};
+    ghost use Rattle.job_arguments.specs.declared.arguments.Usage.TheVariants.{OutOfMemory};
+
+    ghost from_gives = { λ _ why. why ≡ OutOfMemory };
+
+    fn from(_: AllocError) -> Usage {
+        Usage::OutOfMemory
+    }
+}
+
+// The beginning of the message for an unexpected option.
+const OPTION: &[u8] = b"error: unexpected argument '-";
+
+// The end of the message for any other unexpected word.
+const HINT: &str = "\nInput is read from standard input: arrowstream check < FILE\n";
+
+// The message for a dialect of CSV in which a value could not be told from null, or a field from
+// two.
+const DIALECT: &str = "\
+error: with this --delimiter and --null, a value could be taken for null or for two fields
+The delimiter is no letter, digit, '-', '.', ':', '\"' or end of a line. The text of null has no
+delimiter, '\"' or end of a line in it. It does not begin with a digit, or with '-' and a digit. It
+is not true, false or pairs of hexadecimal digits.
+";
+
+// The message for an unexpected word. If the word is no option, it ends with how a file is read.
+fn unknown_argument(text: String) -> Usage
+    ensures { IsHint result }
+{
+    if text.as_bytes().starts_with(OPTION) {
+        return Usage::Wrong(text);
+    }
+    let mut text = text;
+    match text.push_str(HINT) {
+        Ok(()) => Usage::Wrong(text),
+        Err(_) => Usage::OutOfMemory,
+    }
+}
+
+// The message for a refused command line.
+fn usage_of(alloc: Global, error: &Error) -> Usage
+    ensures { IsUsageOf (kind_of error.now) result }
+{
+    let Ok(text) = format!(in alloc; "{error}") else {
+        return Usage::OutOfMemory;
+    };
+    match error.kind() {
+        ErrorKind::DisplayHelp | ErrorKind::DisplayVersion => Usage::Help(text),
+        ErrorKind::OutOfMemory => Usage::OutOfMemory,
+        ErrorKind::UnknownArgument => unknown_argument(text),
+        _ => Usage::Wrong(text),
+    }
+}
+
+// A command line that is none of the program's, and why.
+fn wrong(alloc: Global, why: &str) -> Usage
+    ensures { IsWrong result }
+{
+    match String::from_str(alloc, why) {
+        Ok(text) => Usage::Wrong(text),
+        Err(_) => Usage::OutOfMemory,
+    }
+}
+
+// The number of an option, if it is one from a least to a greatest one.
+fn number_option(options: &ArgMatches<'_>, name: &str, least: u64, greatest: u64) -> Option<u64>
+    ensures some { IfSome result
+        (HasNumber name.now least greatest (rows_of (found_of options.now))) }
+    ensures none { result ≡ None
+        → LacksNumber name.now least greatest (rows_of (found_of options.now)) }
+{
+    let number = options.get_one::<u64>(name)?;
+    if least <= number && number <= greatest {
+        Some(number)
+    } else {
+        None
+    }
+}
+
+// Whether a flag is given.
+fn has_flag(options: &ArgMatches<'_>, name: &str) -> bool
+    ensures { HasFlag name.now (rows_of (found_of options.now)) result }
+{
+    options.get_one::<bool>(name).unwrap_or(false)
+}
+
+// The limits that a subcommand's options ask for; the others are the standard ones. None where a
+// limit is out of its range.
+fn limits_of(options: &ArgMatches<'_>) -> Option<Limits>
+    ensures some { IfSome result (AskForLimits (rows_of (found_of options.now))) }
+    ensures none { result ≡ None → HasWrongLimit (rows_of (found_of options.now)) }
+{
+    let metadata = number_option(options, "max-metadata", 0, MAX_METADATA)?;
+    let body = number_option(options, "max-body", 0, MAX_BODY)?;
+    let rows = number_option(options, "max-rows", 0, MAX_SLOTS)?;
+    let usual = Limits::standard();
+    Limits::new(
+        metadata,
+        body,
+        rows,
+        usual.fields,
+        usual.depth,
+        usual.text,
+        usual.pairs,
+    )
+}
+
+// The limits that a subcommand's options ask for.
+fn read_limits(alloc: Global, options: &ArgMatches<'_>) -> Result<Limits, Usage>
+    ensures asked { IfOk result (AskForLimits (rows_of (found_of options.now))) }
+    ensures refused { IfErr result (IsWrongFor (HasWrongLimit (rows_of (found_of options.now)))) }
+{
+    match limits_of(options) {
+        Some(limits) => Ok(limits),
+        None => Err(wrong(alloc, "error: a limit is above its greatest value\n")),
+    }
+}
+
+// The number of rows that are printed at most, if the words say one.
+fn read_limit(alloc: Global, options: &ArgMatches<'_>) -> Result<Option<u64>, Usage>
+    ensures asked { IfOk result
+        (HasCount (codes "limit") 0 (2 ^ 64 - 1) (rows_of (found_of options.now))) }
+    ensures refused { IfErr result (IsWrongFor
+        (LacksCount (codes "limit") 0 (2 ^ 64 - 1) (rows_of (found_of options.now)))) }
+{
+    let Some(_text) = options.get_str("limit") else {
+        return Ok(None);
+    };
+    match number_option(options, "limit", 0, u64::MAX) {
+        Some(count) => Ok(Some(count)),
+        None => Err(wrong(alloc, "error: --limit is no number below 2^64\n")),
+    }
+}
+
+// The only byte of a text that has one.
+fn only_byte(text: &str) -> Option<u8>
+    ensures some { IfSome result (λ byte. text.now ≡ byte ∷ []) }
+    ensures none { result ≡ None → (byte : ℕ) → text.now ≢ byte ∷ [] }
+{
+    match text.as_bytes() {
+        [byte] => Some(*byte),
+        _ => None,
+    }
+}
+
+// The dialect of CSV that the words ask for.
+fn read_dialect(alloc: Global, options: &ArgMatches<'_>) -> Result<CsvDialect, Usage>
+    ensures asked { IfOk result (AskForDialect (rows_of (found_of options.now))) }
+    ensures refused { IfErr result
+        (IsWrongFor (HasWrongDialect (rows_of (found_of options.now)))) }
+{
+    let Some(delimiter) = options.get_str("delimiter") else {
+        return Err(wrong(alloc, "error: no delimiter\n"));
+    };
+    let Some(null) = options.get_str("null") else {
+        return Err(wrong(alloc, "error: --null has no value\n"));
+    };
+    let Some(byte) = only_byte(delimiter) else {
+        return Err(wrong(alloc, "error: --delimiter takes one ASCII character\n"));
+    };
+    let null = String::from_str(alloc, null)?;
+    match CsvDialect::new(byte, null) {
+        Some(dialect) => Ok(dialect),
+        None => Err(wrong(alloc, DIALECT)),
+    }
+}
+
+// The job of `show` that is given these options.
+fn read_show(alloc: Global, options: &ArgMatches<'_>) -> Result<Job, Usage>
+    ensures asked { IfOk result (IsJobOf (codes "show") (rows_of (found_of options.now))) }
+    ensures refused { IfErr result
+        (IsWrongFor (HasWrongValue (codes "show") (rows_of (found_of options.now)))) }
+    ensures size { IfOk result HasGoodSize }
+{
+    Ok(Job::Show {
+        limits: read_limits(alloc, options)?,
+        objects: has_flag(options, "objects"),
+        pairs: has_flag(options, "pairs"),
+        limit: read_limit(alloc, options)?,
+        require_mark: has_flag(options, "require-mark"),
+    })
+}
+
+// The job of `to-csv` that is given these options.
+fn read_to_csv(alloc: Global, options: &ArgMatches<'_>) -> Result<Job, Usage>
+    ensures asked { IfOk result (IsJobOf (codes "to-csv") (rows_of (found_of options.now))) }
+    ensures refused { IfErr result
+        (IsWrongFor (HasWrongValue (codes "to-csv") (rows_of (found_of options.now)))) }
+    ensures size { IfOk result HasGoodSize }
+{
+    Ok(Job::ToCsv {
+        limits: read_limits(alloc, options)?,
+        dialect: read_dialect(alloc, options)?,
+        limit: read_limit(alloc, options)?,
+        require_mark: has_flag(options, "require-mark"),
+    })
+}
+
+// The schema's path and the batch size that `from-csv` is given.
+fn read_from_csv(alloc: Global, options: &ArgMatches<'_>) -> Result<Job, Usage>
+    ensures asked { IfOk result (IsJobOf (codes "from-csv") (rows_of (found_of options.now))) }
+    ensures refused { IfErr result
+        (IsWrongFor (HasWrongValue (codes "from-csv") (rows_of (found_of options.now)))) }
+    ensures size { IfOk result HasGoodSize }
+{
+    let Some(path) = options.get_str("schema") else {
+        return Err(wrong(alloc, "error: no schema\n"));
+    };
+    let Some(batch) = number_option(options, "batch", 1, MAX_SLOTS) else {
+        return Err(wrong(alloc, "error: --batch is from 1 to 2147483647\n"));
+    };
+    Ok(Job::FromCsv {
+        schema: String::from_str(alloc, path)?,
+        batch,
+        dialect: read_dialect(alloc, options)?,
+    })
+}
+
+// The job of `check` that is given these options.
+fn read_check(alloc: Global, options: &ArgMatches<'_>) -> Result<Job, Usage>
+    ensures asked { IfOk result (IsJobOf (codes "check") (rows_of (found_of options.now))) }
+    ensures refused { IfErr result
+        (IsWrongFor (HasWrongValue (codes "check") (rows_of (found_of options.now)))) }
+    ensures size { IfOk result HasGoodSize }
+{
+    let limits = read_limits(alloc, options)?;
+    if has_flag(options, "schema") {
+        return Ok(Job::Schema(limits));
+    }
+    Ok(Job::Check {
+        limits,
+        require_mark: has_flag(options, "require-mark"),
+    })
+}
+
+// The job of a subcommand that is given these options.
+fn read_job(alloc: Global, name: &str, options: &ArgMatches<'_>) -> Result<Job, Usage>
+    ensures asked { IfOk result (IsJobOf name.now (rows_of (found_of options.now))) }
+    ensures refused { IfErr result
+        (IsWrongFor (HasWrongValue name.now (rows_of (found_of options.now)))) }
+    ensures size { IfOk result HasGoodSize }
+{
+    match name {
+        "check" => read_check(alloc, options),
+        "show" => read_show(alloc, options),
+        "to-csv" => read_to_csv(alloc, options),
+        "from-csv" => read_from_csv(alloc, options),
+        "rewrite" => Ok(Job::Rewrite {
+            limits: read_limits(alloc, options)?,
+            require_mark: has_flag(options, "require-mark"),
+        }),
+        _ => Err(wrong(alloc, "error: no subcommand\n")),
+    }
+}
+
+// What a subcommand that is given these options asks for.
+fn read_invocation(alloc: Global, name: &str, options: &ArgMatches<'_>) -> Result<Invocation, Usage>
+    ensures asked { IfOk result (IsInvocationOf name.now (rows_of (found_of options.now))) }
+    ensures refused { IfErr result
+        (IsWrongFor (HasWrongValue name.now (rows_of (found_of options.now)))) }
+    ensures size { IfOk result (λ asked. HasGoodSize asked.job) }
+{
+    let job = read_job(alloc, name, options)?;
+    Ok(Invocation {
+        job,
+        explain: has_flag(options, "explain"),
+        progress: has_flag(options, "progress"),
+    })
+}
+
+// What the subcommand that was found asks for.
+fn invocation_of(alloc: Global, words: &ArgMatches<'_>) -> Result<Invocation, Usage>
+    ensures asked { IfOk result (IsFound (subcommand_rows_of words.now)) }
+    ensures refused { IfErr result (IsWrongFor (IsWrongFound (subcommand_rows_of words.now))) }
+    ensures size { IfOk result (λ asked. HasGoodSize asked.job) }
+{
+    match words.subcommand() {
+        Some((name, options)) => read_invocation(alloc, name, options),
+        None => Err(wrong(alloc, "error: no subcommand\n")),
+    }
+}
+
+// Parses the words of a command line, which outlive the command of `clap`.
+fn read<'a>(alloc: Global, words: &'a [String]) -> Result<Invocation, Usage>
+    ensures asked { IfOk result (Asks (map string_bytes words.entry.now)) }
+    ensures refused { IfErr result (AsksNoJob (map string_bytes words.entry.now)) }
+    ensures size { IfOk result (λ asked. HasGoodSize asked.job) }
+{
+    let command: Command<'a> = command(alloc)?;
+    match command.try_get_matches_from(words) {
+        Ok(matches) => invocation_of(alloc, &matches),
+        Err(error) => Err(usage_of(alloc, &error)),
+    }
+}
+
+/// Reads the arguments of a command line, of which the first is the program's name.
+///
+/// Errors: `Help` if the arguments ask for help or the version; `Wrong` if they are invalid, for
+/// example a number out of its range; `OutOfMemory` if memory ran out.
+pub fn read_words(alloc: Global, words: Vec<String>) -> Result<Invocation, Usage>
+    // The job is the one of the subcommand that the words name, with the values of its options in
+    // the words, or else their defaults. A flag is set exactly where the words have it.
+    ensures asked { IfOk result (Asks (map string_bytes words.items)) }
+    // Help is answered only if help or the version is asked for. `Wrong` is answered only if `clap`
+    // refuses the words for another fault, or takes them and a value is none that its option takes.
+    // For a word that is no argument and no option, its text ends with how a file is read.
+    ensures refused { IfErr result (AsksNoJob (map string_bytes words.items)) }
+    // A batch has from 1 to 2^31 - 1 rows.
+    ensures size { IfOk result (λ asked. HasGoodSize asked.job) }
+{
+    read(alloc, words.as_slice())
+}

@@ -1,0 +1,315 @@
+//! The command line of the program, in the words of the crate `clap`: its subcommands, their
+//! options and their help.
+ghost use Rattle.std.specs.Prelude.{◌≡◌, IfOk, codes, false};
+ghost use Rattle.clap.specs.Words.{app_of, new_app, rule_of};
+ghost use Rattle.job_arguments.specs.CommandLine as line;
+ghost use Rattle.job_arguments.specs.Arguments.{IsCommand};
+
+use clap::builder::ValueParser;
+use clap::{Arg, ArgAction, Command};
+use ipc_model::{MAX_BODY, MAX_METADATA, MAX_SLOTS};
+use std::alloc::{AllocError, Global};
+
+const EXAMPLES: &str = "\
+Each subcommand reads standard input and writes to standard output.
+
+Examples:
+  arrowstream check < trades.arrows
+  arrowstream show < trades.arrows
+  arrowstream show --objects --limit 10 < trades.arrows
+  arrowstream to-csv < trades.arrows > trades.csv
+  arrowstream from-csv --schema trades.json < trades.csv > trades.arrows
+  arrowstream rewrite < other.arrows > trades.arrows
+  arrowstream show --max-body 1000000 < upload.arrows
+
+Exit status:
+  0  success
+  1  the input was refused; standard error has the reason
+  2  the command line is wrong
+  3  standard input, standard output or the schema's file failed
+  4  out of memory";
+
+const CHECK_EXAMPLES: &str = "\
+Prints the schema as JSON, and then how the stream ended and its numbers of bytes, batches and rows.
+With --schema, it prints the schema alone, and reads nothing after the schema's message.
+
+Examples:
+  arrowstream check < trades.arrows
+  arrowstream check --schema < trades.arrows > trades.json
+  arrowstream check --max-rows 1000000 < upload.arrows";
+
+const SHOW_EXAMPLES: &str = "\
+With --pairs, a line {\"metadata\":P} precedes the rows of each batch. P is an array of [key,value]
+arrays.
+
+Examples:
+  arrowstream show < trades.arrows
+  arrowstream show --objects < trades.arrows
+  arrowstream show --pairs < trades.arrows
+  arrowstream show --limit 3 < trades.arrows";
+
+const TO_CSV_EXAMPLES: &str = "\
+Null is the text of --null, and bytes are hexadecimal digits. Columns of lists and structs have no
+form in CSV.
+
+Examples:
+  arrowstream to-csv < trades.arrows > trades.csv
+  arrowstream to-csv --limit 10 < trades.arrows
+  arrowstream to-csv --delimiter ';' --null '' < trades.arrows > trades.csv
+  arrowstream to-csv --max-rows 1000000 < upload.arrows";
+
+const REWRITE_EXAMPLES: &str = "\
+The schema, the batches, their pairs and their rows stay the same. Each batch is laid out as this
+program does it, and the stream ends with the end-of-stream mark. A limit below its default is
+raised to the default for writing.
+
+Examples:
+  arrowstream rewrite < other.arrows > trades.arrows
+  arrowstream rewrite --max-rows 1000000 < upload.arrows > trades.arrows";
+
+const FROM_CSV_EXAMPLES: &str = "\
+The first record is the header: the names of the schema's columns, in order. A field with the text
+of --null is null. The schema is JSON in the form of the first line that check prints; SCHEMA.md in
+the documents describes it. Each batch is sent as soon as it is full.
+
+Examples:
+  arrowstream check --schema < trades.arrows > trades.json
+  arrowstream from-csv --schema trades.json < trades.csv > trades.arrows
+  arrowstream from-csv --schema trades.json --batch 1000 < trades.csv > trades.arrows
+  arrowstream from-csv --schema trades.json --delimiter ';' --null '' < trades.csv > trades.arrows";
+
+// An option of this name with a value, for which its help shows this word.
+fn option<'a>(alloc: Global, name: &'a str, value: &'a str) -> Arg<'a>
+    ensures rule { rule_of result ≡ line.option name.entry.now }
+    ensures own { result.global ≡ false }
+{
+    let option = Arg::new(alloc, name).long(name);
+    option.value_name(value).action(ArgAction::Set)
+}
+
+// An option with a number from a least one up to a greatest one, and the one that it has where it
+// isn't given.
+fn number<'a>(
+    alloc: Global,
+    name: &'a str,
+    least: u64,
+    greatest: u64,
+    usual: &'a str,
+    help: &'a str,
+) -> Arg<'a>
+    ensures rule { rule_of result ≡ line.number name.entry.now least greatest usual.entry.now }
+    ensures own { result.global ≡ false }
+{
+    let number = option(alloc, name, "N").default_value(usual);
+    let parser = ValueParser::unsigned(least, greatest);
+    number.value_parser(parser).help(help)
+}
+
+// An option with a text, and the one that it has where it isn't given.
+fn text<'a>(alloc: Global, name: &'a str, value: &'a str, usual: &'a str, help: &'a str) -> Arg<'a>
+    ensures rule { rule_of result ≡ line.text name.entry.now usual.entry.now }
+    ensures own { result.global ≡ false }
+{
+    option(alloc, name, value).default_value(usual).help(help)
+}
+
+// An option without a value.
+fn flag<'a>(alloc: Global, name: &'a str, help: &'a str) -> Arg<'a>
+    ensures rule { rule_of result ≡ line.flag name.entry.now }
+    ensures own { result.global ≡ false }
+{
+    let flag = Arg::new(alloc, name).long(name);
+    flag.action(ArgAction::SetTrue).help(help)
+}
+
+// The option to explain a refusal.
+fn explain<'a>(alloc: Global) -> Arg<'a>
+    ensures rule { rule_of result ≡ line.explain }
+    ensures own { result.global ≡ false }
+{
+    let help = "After the line of a refusal, print what is known about its cause";
+    flag(alloc, "explain", help)
+}
+
+// The options of a subcommand that reads a stream: its limits, its end, and what is reported of it.
+fn with_stream<'a>(alloc: Global, command: Command<'a>) -> Result<Command<'a>, AllocError>
+    requires { IsCommand (app_of command) command }
+    ensures { IfOk result (IsCommand (line.with_stream (app_of command.entry))) }
+{
+    command
+        .arg(number(
+            alloc,
+            "max-metadata",
+            0,
+            MAX_METADATA,
+            "16777216",
+            "Maximum bytes of a message's metadata",
+        ))?
+        .arg(number(
+            alloc,
+            "max-body",
+            0,
+            MAX_BODY,
+            "1099511627776",
+            "Maximum bytes of a message's body",
+        ))?
+        .arg(number(
+            alloc,
+            "max-rows",
+            0,
+            MAX_SLOTS,
+            "2147483647",
+            "Maximum rows of a batch",
+        ))?
+        .arg(flag(
+            alloc,
+            "require-mark",
+            "Refuse a stream that ends without the end-of-stream mark",
+        ))?
+        .arg(explain(alloc))?
+        .arg(flag(
+            alloc,
+            "progress",
+            "Print the bytes, batches and rows so far to standard error",
+        ))
+}
+
+// The option for the number of rows that are printed.
+fn limit<'a>(alloc: Global) -> Arg<'a>
+    ensures rule { rule_of result ≡ line.limit }
+    ensures own { result.global ≡ false }
+{
+    let limit = option(alloc, "limit", "N");
+    let parser = ValueParser::unsigned(0, u64::MAX);
+    limit
+        .value_parser(parser)
+        .help("Print the first N rows, and read no batch after them")
+}
+
+// A subcommand with this help and no options.
+fn command_with_help<'a>(
+    alloc: Global,
+    name: &'a str,
+    about: &'a str,
+    examples: &'a str,
+) -> Command<'a>
+    ensures { IsCommand (new_app name.entry.now) result }
+{
+    let job = Command::new(alloc, name);
+    job.about(about).after_help(examples)
+}
+
+// A subcommand that reads a stream to its end.
+fn check<'a>(alloc: Global) -> Result<Command<'a>, AllocError>
+    ensures { IfOk result (IsCommand line.check) }
+{
+    let about = "Reads an Arrow IPC stream to its end, and prints its schema and counts";
+    let check = command_with_help(alloc, "check", about, CHECK_EXAMPLES);
+    let help = "Print the schema alone, and read nothing after its message";
+    with_stream(alloc, check.arg(flag(alloc, "schema", help))?)
+}
+
+// The subcommand that prints rows.
+fn show<'a>(alloc: Global) -> Result<Command<'a>, AllocError>
+    ensures { IfOk result (IsCommand line.show) }
+{
+    let about = "Prints each row of an Arrow IPC stream as a JSON array on a line of its own";
+    let show = command_with_help(alloc, "show", about, SHOW_EXAMPLES);
+    let help = "Print each row as a JSON object with the columns' names as keys";
+    let show = show.arg(flag(alloc, "objects", help))?;
+    let help = "Print the pairs of key and value of each batch on a line before its rows";
+    let show = show.arg(flag(alloc, "pairs", help))?;
+    with_stream(alloc, show.arg(limit(alloc))?)
+}
+
+// The options for the dialect of CSV.
+fn with_dialect<'a>(alloc: Global, command: Command<'a>) -> Result<Command<'a>, AllocError>
+    requires { IsCommand (app_of command) command }
+    ensures { IfOk result (IsCommand (line.with_dialect (app_of command.entry))) }
+{
+    command
+        .arg(text(
+            alloc,
+            "delimiter",
+            "C",
+            ",",
+            "The character between fields, one of ASCII that no value has",
+        ))?
+        .arg(text(
+            alloc,
+            "null",
+            "TEXT",
+            "\\N",
+            "The field that is null; no value may have this text",
+        ))
+}
+
+// The subcommand that prints a stream as CSV.
+fn to_csv<'a>(alloc: Global) -> Result<Command<'a>, AllocError>
+    ensures { IfOk result (IsCommand line.to_csv) }
+{
+    let about = "Prints an Arrow IPC stream as CSV with a header";
+    let to_csv = command_with_help(alloc, "to-csv", about, TO_CSV_EXAMPLES);
+    let to_csv = with_dialect(alloc, to_csv)?;
+    with_stream(alloc, to_csv.arg(limit(alloc))?)
+}
+
+// The option that names the file with the schema.
+fn schema<'a>(alloc: Global) -> Arg<'a>
+    ensures rule { rule_of result ≡ line.needed (codes "schema") }
+    ensures own { result.global ≡ false }
+{
+    let schema = option(alloc, "schema", "PATH").required(true);
+    schema.help("A file with the schema as JSON")
+}
+
+// The option that says how many rows a batch has.
+fn batch<'a>(alloc: Global) -> Arg<'a>
+    ensures rule { rule_of result ≡ line.batch }
+    ensures own { result.global ≡ false }
+{
+    let help = "Rows of a batch; the last batch may have fewer";
+    number(alloc, "batch", 1, MAX_SLOTS, "65536", help)
+}
+
+// The subcommand that writes a stream of CSV.
+fn from_csv<'a>(alloc: Global) -> Result<Command<'a>, AllocError>
+    ensures { IfOk result (IsCommand line.from_csv) }
+{
+    let about = "Converts CSV to an Arrow IPC stream";
+    let from_csv = command_with_help(alloc, "from-csv", about, FROM_CSV_EXAMPLES);
+    let from_csv = from_csv.arg(schema(alloc))?.arg(batch(alloc))?;
+    with_dialect(alloc, from_csv)?.arg(explain(alloc))
+}
+
+// The subcommand that writes a stream anew.
+fn rewrite<'a>(alloc: Global) -> Result<Command<'a>, AllocError>
+    ensures { IfOk result (IsCommand line.rewrite) }
+{
+    let about = "Rewrites an Arrow IPC stream in canonical layout, batch by batch";
+    with_stream(
+        alloc,
+        command_with_help(alloc, "rewrite", about, REWRITE_EXAMPLES),
+    )
+}
+
+// The program's words without its subcommands.
+fn program<'a>(alloc: Global) -> Command<'a>
+    ensures { IsCommand line.program result }
+{
+    let about = "Reads and writes Apache Arrow IPC streams";
+    let program = command_with_help(alloc, "arrowstream", about, EXAMPLES);
+    program.version("0.1.0").subcommand_required(true)
+}
+
+/// The arguments of the program. The help lists the subcommands in the order in which they are
+/// added.
+pub(crate) fn command<'a>(alloc: Global) -> Result<Command<'a>, AllocError>
+    ensures { IfOk result (IsCommand line.arrowstream) }
+{
+    let command = program(alloc).subcommand(check(alloc)?)?;
+    let command = command.subcommand(show(alloc)?)?;
+    let command = command.subcommand(to_csv(alloc)?)?;
+    let command = command.subcommand(from_csv(alloc)?)?;
+    command.subcommand(rewrite(alloc)?)
+}

@@ -1,8 +1,0 @@
-use Rattle.std.proofs.lemmas.Result.{IfOk-weaker}
-use Rattle.job_command.proofs.LineWords.{added_arg}
-use Rattle.job_command.proofs.command_line.with_dialect.Goals as goal
-
-pub returns : goal.returns
-returns c =
-    let one = added_arg _ _ _ _ _ c.requires c.text.ensures.rule c.text.ensures.own c.in_ok-arg.ensures in
-    IfOk-weaker c.arg-2.result _ _ (λ r h. added_arg _ _ _ _ _ one c.text-2.ensures.rule c.text-2.ensures.own h) c.arg-2.ensures
