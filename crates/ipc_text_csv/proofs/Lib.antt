@@ -4,8 +4,10 @@ pub mod CsvSteps
 pub mod HexApart
 pub mod HexPairs
 pub mod InstantTexts
+pub mod NextRow
 pub mod NullText
 pub mod PlainDigits
 pub mod Quoted
+pub mod Reading
 pub mod Records
 pub mod ShortDigits

@@ -1,5 +1,5 @@
 -- What the jobs read and send, and the exit statuses.
-use Rattle.std.specs.Prelude.{◌≡◌, ◌≢◌, ◌⊎◌, ℕ, List, Option, Some, Result, Ok, Err, ⊤}
+use Rattle.std.specs.Prelude.{◌≡◌, ◌⊎◌, ℕ, List, Option, Some, Result, Ok, Err, ⊤}
 use Rattle.std.specs.Prelude.{Bool, IfSome, None, option_and_then, string_bytes, true, false}
 use Rattle.serde_json.specs.Read.{read}
 use Rattle.ipc_model.specs.Limits.{IsStandard}
@@ -26,7 +26,7 @@ use Rattle.job_rewrite.specs.Rewriting.{Rewrites, CountsRewriteFailures as Rewri
 use Rattle.job_rewrite.specs.declared.stop.RewriteStop.{RewriteStop}
 use Rattle.job_rewrite.specs.declared.stop.RewriteStop.TheVariants as rewrite
 use Rattle.job_from_csv.specs.Conversion as csv
-use Rattle.job_from_csv.specs.Stops.{CountsSourceFailure}
+use Rattle.job_from_csv.specs.Stops.{CountsSinkFailure, CountsSourceFailure}
 use Rattle.job_from_csv.specs.declared.stop.FromCsvStop.{FromCsvStop as CsvStop}
 use Rattle.job_from_csv.specs.declared.stop.FromCsvStop.TheVariants as from_csv
 use Rattle.job_command.specs.declared.csv_dialect.CsvDialect.{CsvDialect}
@@ -148,12 +148,6 @@ HasNoSchema bytes failures (stop.SchemaText text) =
 HasNoSchema bytes failures (stop.Text x.OutOfMemory) = ⊤
 HasNoSchema bytes failures why = ⊥
 
--- the sink's count of failures before and after a conversion with this result: at W9 it is 1, and
--- any other answer leaves a sink that works as one
-pub record CountsSinkFault (old new : ℕ) (r : Result ⊤ CsvStop) : Type 0 where
-  pub failed : r ≡ Err (from_csv.Write w.Write) → new ≡ 1
-  pub works : r ≢ Err (from_csv.Write w.Write) → old ≡ 0 → new ≡ 0
-
 -- what a result states about records of CSV. Either there was no schema, and neither the source nor
 -- the sink was called; or the records were converted by the file's schema to a stream with batches
 -- of `size` rows, or that broke off
@@ -166,7 +160,7 @@ AnswersCsv d bytes failures size input written_old written_new source_old source
     ⊎ ((s : Schema) × IsSchemaOf bytes s × (failures ≡ 0) × (p : Result ⊤ CsvStop)
     × (r ≡ job_result (stop_of_csv s) p)
     × csv.AnswersConversion d input s size written_old written_new sink_old sink_new p
-    × CountsSourceFailure source_old source_new p × CountsSinkFault sink_old sink_new p)
+    × CountsSourceFailure source_old source_new p × CountsSinkFailure sink_old sink_new p)
 
 -- what a result states about a job: what was read of the input, what was sent, and which device
 -- failed. `bytes` and `failures` are those of the schema's file

@@ -25,13 +25,14 @@ use Rattle.ipc_text_csv.specs.RowCsv.{names}
 use Rattle.job_from_csv.specs.Batches.{batch_of, last_batch}
 use Rattle.job_from_csv.specs.Conversion.{AreAccepted, IsOfLengths, SendsFull, StopsBehind, StopsFor, StopsWriting, table_of_batches}
 use Rattle.job_from_csv.specs.Conversion.{as_row, exhausted_behind, behind}
-use Rattle.job_from_csv.specs.Records.{AreRecordsOf}
-use Rattle.job_from_csv.specs.Steps.{Came, IsOut, FindsNoRow}
-use Rattle.job_from_csv.specs.declared.rows.RowReader.{RowReader}
+use Rattle.ipc_text_csv.specs.Records.{AreRecordsOf}
+use Rattle.ipc_text_csv.specs.RowReaders.{FindsNoRow}
+use Rattle.job_from_csv.specs.Steps.{Came, IsOut}
+use Rattle.ipc_text_csv.specs.declared.row_reader.RowReader.{RowReader}
 use Rattle.job_from_csv.specs.Stops.{stop_of}
-use Rattle.job_from_csv.specs.declared.stop.RecordFault.{RecordFault}
-use Rattle.job_from_csv.specs.declared.stop.RecordFault.TheVariants as none
-use Rattle.job_from_csv.proofs.Reading.{are_first}
+use Rattle.ipc_text_csv.specs.declared.record_fault.RecordFault.{RecordFault}
+use Rattle.ipc_text_csv.specs.declared.record_fault.RecordFault.TheVariants as none
+use Rattle.ipc_text_csv.proofs.Reading.{are_first}
 use Rattle.job_from_csv.proofs.Sending.{all_accepted, as_out, came_before, came_fill, came_filled}
 use Rattle.ipc_text_csv.specs.declared.dialect.Dialect.{Dialect}
 

@@ -21,17 +21,22 @@ use Rattle.ipc_stream.specs.Writing.{AcceptsBatch, BreaksOff, CutShort, RefusesB
 use Rattle.ipc_stream.proofs.Chains.{table_tells}
 use Rattle.ipc_stream.proofs.TablesWritten as tables
 use Rattle.ipc_text_csv.specs.RowCsv.{flat_fault, names}
+use Rattle.ipc_text_csv.specs.RowReaders.{FindsHeader}
+use Rattle.ipc_text_csv.specs.declared.record_fault.RecordFault.{RecordFault}
+use Rattle.ipc_text_csv.specs.declared.record_fault.RecordFault.TheVariants as none
+use Rattle.ipc_text_temporal.specs.declared.fault.TextFault.TheVariants as x
+use Rattle.job_from_csv.specs.Stops.{stop_of}
 use Rattle.job_from_csv.specs.Batches.{batch_of, last_batch}
-use Rattle.job_from_csv.specs.Conversion.{AnswersConversion, AnswersHeader, Converts, StopsFor, StopsWriting, as_header, before, in_header}
+use Rattle.job_from_csv.specs.Conversion.{AnswersConversion, Converts, StopsFor, StopsWriting, as_header, before, exhausted, in_header}
 use Rattle.job_from_csv.specs.Conversion.{table_of_batches}
-use Rattle.job_from_csv.specs.Records.{AreRecordsOf, HasReadRecords}
+use Rattle.ipc_text_csv.specs.Records.{AreRecordsOf, HasReadRecords}
 use Rattle.job_from_csv.specs.Steps.{Came, HoldsLast, IsOut, SendsAll, SendsCsvBatch}
-use Rattle.job_from_csv.specs.declared.rows.RowReader.{RowReader}
+use Rattle.ipc_text_csv.specs.declared.row_reader.RowReader.{RowReader}
 use Rattle.job_from_csv.specs.declared.stop.FromCsvStop.{FromCsvStop}
 use Rattle.job_from_csv.specs.declared.stop.FromCsvStop.TheVariants as stop
 use Rattle.job_from_csv.proofs.Breaking.{first_out, last_is, send_stops}
 use Rattle.job_from_csv.proofs.Pushing.{holds_accepted}
-use Rattle.job_from_csv.proofs.Reading.{are_first}
+use Rattle.ipc_text_csv.proofs.Reading.{are_first}
 use Rattle.job_from_csv.proofs.Sending.{batch_out, came_fill, came_sent}
 use Rattle.ipc_text_csv.specs.declared.dialect.Dialect.{Dialect}
 
@@ -183,30 +188,33 @@ module _ (d : Dialect) (input : Option (List ℕ)) (s : Schema) (size : ℕ) (ol
   end_stops new failures_new w.TooManyRows fails = absurd fails
   end_stops new failures_new w.OutOfMemory fails = absurd fails
 
-  -- a whole stream, or why there is none, by how its end was sent
-  pub answers_end : (new held_back : Option (List ℕ)) (failures_new : ℕ) (r : Result Unit FromCsvStop)
-      → OnOk r (Finishes writer new held_back failures_new)
-      → IfErr r (λ why. (fault : WriteFault) × (why ≡ stop.Write fault) × FinishFails writer new failures_new fault)
-      → AnswersConversion d input s size old new failures failures_new r
-  answers_end new held_back failures_new (Ok x) ended refused = all_converts new held_back failures_new ended
-  answers_end new held_back failures_new (Err why) ended refused =
-      subst (λ z. StopsFor d input s size old new failures failures_new z) (sym refused.1) (end_stops new failures_new refused.0 refused.2)
-
 -- ---- the header
 
 -- a conversion stops where the header is refused, and nothing is out
-pub header_stops : (d : Dialect) {R : Type 0} (remaining : R → Option (List ℕ)) (input : Option (List ℕ)) (s : Schema) (size : ℕ) (old :
-    Option (List ℕ))
-    (failures : ℕ) (reader : Reader R) (why : FromCsvStop) → AnswersHeader d remaining input s.fields reader (Err why)
-    → StopsFor d input s size old old failures failures why
-header_stops d remaining input s size old failures reader stop.Input answers = before answers (refl, refl)
-header_stops d remaining input s size old failures reader (stop.Text fault) answers = in_header answers (refl, refl)
-header_stops d remaining input s size old failures reader (stop.Record fault refused) answers = as_header answers.0 answers.1 (refl, refl)
-header_stops d remaining input s size old failures reader (stop.Write fault) answers = absurd answers
+pub header_stops : (d : Dialect) {R : Type 0} (remaining : R → Option (List ℕ)) (input : Option (List ℕ)) (s : Schema) (size : ℕ)
+    (old : Option (List ℕ)) (failures : ℕ) (now : RowReader R) (why : RecordFault) → flat_fault s.fields ≡ None
+    → FindsHeader d remaining input s now (Err why) → StopsFor d input s size old old failures failures (stop_of why now.fields)
+header_stops d remaining input s size old failures now none.Input flat finds = before flat (refl, refl)
+header_stops d remaining input s size old failures now (none.Text x.OutOfMemory) flat finds = in_header (exhausted flat refl) (refl, refl)
+header_stops d remaining input s size old failures now (none.Text x.NotFlat) flat finds = as_header finds.0 finds.1 (refl, refl)
+header_stops d remaining input s size old failures now (none.Text x.NoColumns) flat finds = as_header finds.0 finds.1 (refl, refl)
+header_stops d remaining input s size old failures now (none.Text (x.NoTextForm column)) flat finds =
+    as_header finds.0 finds.1 (refl, refl)
+header_stops d remaining input s size old failures now (none.Text (x.BadField number column)) flat finds =
+    as_header finds.0 finds.1 (refl, refl)
+header_stops d remaining input s size old failures now (none.Text (x.WrongFieldCount number)) flat finds =
+    as_header finds.0 finds.1 (refl, refl)
+header_stops d remaining input s size old failures now (none.Text x.BadSchemaJson) flat finds = as_header finds.0 finds.1 (refl, refl)
 
--- the same, where the reader says what the bytes are of
-pub header_told : (d : Dialect) {R : Type 0} (reader : Reader R) (remaining : R
-    → Option (List ℕ)) (input : Option (List ℕ)) (s : Schema) (size : ℕ)
-    (old : Option (List ℕ)) (failures : ℕ) (why : FromCsvStop) → AnswersHeader d remaining input s.fields reader (Err why)
-    → StopsFor d input s size old old failures failures why
-header_told d reader remaining input s size old failures why answers = header_stops d remaining input s size old failures reader why answers
+-- what is answered of the whole conversion, at Ok and at a refusal
+pub answers_ok : (d : Dialect) (input : Option (List ℕ)) (s : Schema) (size : ℕ) (old new : Option (List ℕ)) (f0 f1 : ℕ)
+    (r : Result Unit FromCsvStop)
+    → AnswersConversion d input s size old new f0 f1 r → OnOk r (Converts d input s size old new f0 f1)
+answers_ok d input s size old new f0 f1 (Ok x) h = h
+answers_ok d input s size old new f0 f1 (Err why) h = tt
+
+pub answers_err : (d : Dialect) (input : Option (List ℕ)) (s : Schema) (size : ℕ) (old new : Option (List ℕ)) (f0 f1 : ℕ)
+    (r : Result Unit FromCsvStop)
+    → AnswersConversion d input s size old new f0 f1 r → IfErr r (StopsFor d input s size old new f0 f1)
+answers_err d input s size old new f0 f1 (Ok x) h = tt
+answers_err d input s size old new f0 f1 (Err why) h = h

@@ -1,6 +1,4 @@
-pub mod Reading
 pub mod Sending
-pub mod NextRow
 pub mod Breaking
 pub mod Pushing
 pub mod Ending

@@ -11,10 +11,11 @@ use Rattle.ipc_stream.specs.Writer.{Writer}
 use Rattle.ipc_stream.specs.Writing.{AcceptsBatch}
 use Rattle.job_from_csv.specs.Batches.{batch_of}
 use Rattle.job_from_csv.specs.Conversion.{StopsFor, StopsWriting}
-use Rattle.job_from_csv.specs.Steps.{Came, FindsRow, HoldsLeftover, FindsNoRow}
-use Rattle.job_from_csv.specs.declared.rows.RowReader.{RowReader}
+use Rattle.ipc_text_csv.specs.RowReaders.{FindsRow, FindsNoRow}
+use Rattle.job_from_csv.specs.Steps.{Came, HoldsLeftover}
+use Rattle.ipc_text_csv.specs.declared.row_reader.RowReader.{RowReader}
 use Rattle.job_from_csv.specs.Stops.{stop_of}
-use Rattle.job_from_csv.specs.declared.stop.RecordFault.{RecordFault}
+use Rattle.ipc_text_csv.specs.declared.record_fault.RecordFault.{RecordFault}
 use Rattle.job_from_csv.proofs.Breaking.{next_stops, row_stops}
 use Rattle.job_from_csv.proofs.Sending.{came_more}
 use Rattle.ipc_text_csv.specs.declared.dialect.Dialect.{Dialect}

@@ -16,7 +16,7 @@ use Rattle.ipc_stream.proofs.OverLimit.{none_full, none_over}
 use Rattle.ipc_text_csv.specs.CsvRows.{EachReadsAs}
 use Rattle.job_from_csv.specs.Batches.{IsFullBatch, last_batch}
 use Rattle.job_from_csv.specs.Conversion.{AnswersConversion, IsLeftToRefuse, StopsFor, StopsWriting, table_of_batches}
-use Rattle.job_from_csv.specs.Records.{EachRecordReadsAs}
+use Rattle.ipc_text_csv.specs.Records.{EachRecordReadsAs}
 use Rattle.job_from_csv.specs.declared.stop.FromCsvStop.{FromCsvStop}
 use Rattle.job_from_csv.specs.declared.stop.FromCsvStop.TheVariants as stop
 use Rattle.job_from_csv.proofs.FlatNodes.{AreFlat, are_flat, flat_rows}

@@ -16,12 +16,12 @@ use Rattle.ipc_stream.specs.Writer.{LeavesBatch, StartsWriter, Writer}
 use Rattle.ipc_stream.specs.Writing.{AcceptsBatch, AcceptsSchema, Sent}
 use Rattle.ipc_stream.proofs.Chains.{kept_then, schema_sends, table_more}
 use Rattle.ipc_model.specs.Limits.{IsStandard}
-use Rattle.ipc_text_csv.specs.CsvRows.{RecordReadsAs}
 use Rattle.job_from_csv.specs.Batches.{AreBatched, IsFullBatch, batch_of, last_batch}
 use Rattle.job_from_csv.specs.Conversion.{table_of_batches}
-use Rattle.job_from_csv.specs.Records.{EachRecordReadsAs}
-use Rattle.job_from_csv.specs.Steps.{BeginsConversion, Came, FindsRow, IsOut}
-use Rattle.job_from_csv.specs.declared.rows.RowReader.{RowReader}
+use Rattle.ipc_text_csv.specs.Records.{EachRecordReadsAs}
+use Rattle.ipc_text_csv.specs.RowReaders.{FindsRow}
+use Rattle.job_from_csv.specs.Steps.{BeginsConversion, Came, IsOut}
+use Rattle.ipc_text_csv.specs.declared.row_reader.RowReader.{RowReader}
 use Rattle.ipc_text_csv.specs.declared.dialect.Dialect.{Dialect}
 
 -- ---- lists
@@ -30,16 +30,6 @@ use Rattle.ipc_text_csv.specs.declared.dialect.Dialect.{Dialect}
 pub all_push : {X : Type 0} (P : X → Type 0) (xs : List X) (x : X) → AllByRecursion P xs → P x → AllByRecursion P (xs ++ x ∷ [])
 all_push P [] x all one = (one, tt)
 all_push P (y ∷ xs) x all one = (all.0, all_push P xs x all.1 one)
-
--- one more record reads as one more row
-pub each_push : (d : Dialect) (fields : List Field) (records : List (List (List ℕ))) (rows : List (List Value)) (texts : List (List ℕ))
-    (row : List Value)
-    → EachRecordReadsAs d fields records rows → RecordReadsAs d fields texts row
-    → EachRecordReadsAs d fields (records ++ texts ∷ []) (rows ++ row ∷ [])
-each_push d fields [] [] texts row each one = (one, tt)
-each_push d fields [] (r ∷ rows) texts row each one = absurd each
-each_push d fields (t ∷ records) [] texts row each one = absurd each
-each_push d fields (t ∷ records) (r ∷ rows) texts row each one = (each.0, each_push d fields records rows texts row each.1 one)
 
 -- the records but for the last read as the rows but for the last
 pub each_front : (d : Dialect) (fields : List Field) (records : List (List (List ℕ))) (rows : List (List Value)) (texts : List (List ℕ))

@@ -6,7 +6,7 @@ use Rattle.ipc_model.specs.declared.schema.Schema.{Schema}
 use Rattle.ipc_model.specs.declared.table.BatchRows.{BatchRows}
 use Rattle.ipc_model.specs.declared.value.Value.{Value}
 use Rattle.ipc_text_csv.specs.RowCsv.{flat_fault}
-use Rattle.job_from_csv.specs.Records.{EachRecordReadsAs}
+use Rattle.ipc_text_csv.specs.Records.{EachRecordReadsAs}
 use Rattle.ipc_text_csv.specs.declared.dialect.Dialect.{Dialect}
 
 -- a batch without pairs that has exactly `size` rows

@@ -1,8 +1,7 @@
 -- What is read from an input of CSV and sent to the sink of its stream.
 use Rattle.std.specs.Prelude.{◌≡◌, ◌≢◌, ℕ, ◌+◌, List, [], ◌∷◌, ◌++◌, length, Option, Some, None}
 use Rattle.std.specs.Prelude.{Result, Ok, Err, ⊤}
-use Rattle.csv.specs.Records.{Row, fields_of}
-use Rattle.csv.specs.declared.reader.Reader.{Reader}
+use Rattle.csv.specs.Records.{fields_of}
 use Rattle.ipc_model.specs.Limits.{IsStandard}
 use Rattle.ipc_model.specs.declared.fault.WriteFault.{WriteFault}
 use Rattle.ipc_model.specs.declared.fault.WriteFault.TheVariants as write
@@ -22,7 +21,7 @@ use Rattle.ipc_text_temporal.specs.declared.fault.TextFault.{TextFault}
 use Rattle.ipc_text_temporal.specs.declared.fault.TextFault.TheVariants.{OutOfMemory}
 use Rattle.ipc_text_temporal.specs.declared.fault.TextFault.TheVariants.{WrongFieldCount}
 use Rattle.job_from_csv.specs.Batches.{AreBatched, last_batch}
-use Rattle.job_from_csv.specs.Records.{AreFirstRecordsOf, AreRecordsOf, HasReadRecords}
+use Rattle.ipc_text_csv.specs.Records.{AreFirstRecordsOf, AreRecordsOf}
 use Rattle.job_from_csv.specs.declared.stop.FromCsvStop.{FromCsvStop}
 use Rattle.job_from_csv.specs.declared.stop.FromCsvStop.TheVariants as stop
 use Rattle.ipc_text_csv.specs.declared.dialect.Dialect.{Dialect}
@@ -188,17 +187,3 @@ AnswersConversion d input s size old new failures_old failures_new (Ok x) =
     Converts d input s size old new failures_old failures_new
 AnswersConversion d input s size old new failures_old failures_new (Err why) =
     StopsFor d input s size old new failures_old failures_new why
-
--- the header was read and names the columns, or why it was not
-abbrev pub AnswersHeader : {R : Type 0} → Dialect → (R → Option (List ℕ)) → Option (List ℕ)
-    → List Field
-    → Reader R → Result Row FromCsvStop → Type 0
-AnswersHeader d remaining input fields reader (Ok header) =
-    (flat_fault fields ≡ None) × HasReadRecords d remaining input (names fields ∷ []) reader
-AnswersHeader d remaining input fields reader (Err stop.Input) = flat_fault fields ≡ None
-AnswersHeader d remaining input fields reader (Err (stop.Text fault)) =
-    RefusesHeader d input fields fault
-AnswersHeader d remaining input fields reader (Err (stop.Record fault refused)) =
-    AreFirstRecordsOf d input (fields_of refused ∷ [])
-    × IsHeaderFault fields (fields_of refused) fault
-AnswersHeader d remaining input fields reader (Err (stop.Write fault)) = ⊥

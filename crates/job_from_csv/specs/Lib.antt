@@ -1,4 +1,3 @@
-pub mod Records
 pub mod Batches
 pub mod Conversion
 pub mod Steps

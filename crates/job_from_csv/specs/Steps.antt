@@ -6,55 +6,19 @@ use Rattle.ipc_model.specs.Limits.{IsStandard}
 use Rattle.ipc_model.specs.declared.schema.Schema.{Schema}
 use Rattle.ipc_model.specs.declared.table.BatchRows.{BatchRows}
 use Rattle.ipc_model.specs.declared.value.Value.{Value}
-use Rattle.ipc_text_temporal.specs.declared.fault.TextFault.TheVariants.{OutOfMemory}
 use Rattle.ipc_stream.specs.declared.pending_batch.PendingBatch.{PendingBatch}
 use Rattle.ipc_stream.specs.PendingBatches.{HoldsBatch}
 use Rattle.ipc_stream.specs.Dictionaries.{SendsTable, kept_after, kept_at_start}
 use Rattle.ipc_stream.specs.Writer.{Writer}
 use Rattle.ipc_stream.specs.Writing.{AcceptsBatch, AcceptsSchema, Sent}
-use Rattle.ipc_text_csv.specs.CsvRows.{IsRecordFault}
-use Rattle.ipc_text_csv.specs.RowCsv.{flat_fault, names}
+use Rattle.ipc_text_csv.specs.RowCsv.{names}
 use Rattle.job_from_csv.specs.Batches.{AreBatched, IsFullBatch, batch_of, last_batch}
 use Rattle.job_from_csv.specs.Conversion.{StopsFor, table_of_batches}
-use Rattle.job_from_csv.specs.Records.{AreFirstRecordsOf, AreRecordsOf, EachRecordReadsAs}
-use Rattle.job_from_csv.specs.Records.{HasReadRecords}
-use Rattle.job_from_csv.specs.declared.rows.RowReader.{RowReader}
 use Rattle.job_from_csv.specs.declared.stop.FromCsvStop.{FromCsvStop}
-use Rattle.job_from_csv.specs.declared.stop.RecordFault.{RecordFault}
-use Rattle.job_from_csv.specs.declared.stop.RecordFault.TheVariants as none
+use Rattle.ipc_text_csv.specs.Records.{AreFirstRecordsOf, AreRecordsOf}
+use Rattle.ipc_text_csv.specs.RowReaders.{HasRead}
 use Rattle.ipc_text_csv.specs.declared.dialect.Dialect.{Dialect}
-
--- ---- records read as rows
-
--- these records after the header were read and counted, and read as these rows
-pub record HasRead {R : Type 0} (d : Dialect) (remaining : R
-    → Option (List ℕ)) (input : Option (List ℕ))
-    (s : Schema) (records : List (List (List ℕ))) (rows : List (List Value))
-    (now : RowReader R) : Type 0 where
-  pub flat : flat_fault s.fields ≡ None
-  pub stands : HasReadRecords d remaining input (names s.fields ∷ records) now.reader
-  pub counted : now.count ≡ length records
-  pub read : EachRecordReadsAs d s.fields records rows
-
--- after these records there was one more, whose row is stored in the reader; or these are all
-abbrev pub FindsRow : {R : Type 0} → Dialect → (R → Option (List ℕ)) → Option (List ℕ) → Schema
-    → List (List (List ℕ)) → List (List Value) → RowReader R → Bool → Type 0
-FindsRow d remaining input s records rows now true = (texts : List (List ℕ))
-    × HasRead d remaining input s (records ++ texts ∷ []) (rows ++ now.row ∷ []) now
-FindsRow d remaining input s records rows now false =
-    AreRecordsOf d input (names s.fields ∷ records)
-
--- why no row is read after these records: the source failed, memory ran out, or the next record,
--- with these texts, does not read as a row
-abbrev pub FindsNoRow : Dialect → Option (List ℕ) → Schema → List (List (List ℕ))
-    → List (List ℕ) → RecordFault → Type 0
-FindsNoRow d input s records texts none.Input = ⊤
-FindsNoRow d input s records texts (none.Text OutOfMemory) = ⊤
-FindsNoRow d input s records texts (none.Text fault) =
-    AreFirstRecordsOf d input (names s.fields ∷ records ++ texts ∷ [])
-    × IsRecordFault d (length records + 1) s.fields texts fault
-
--- ---- rows sent in batches
+use Rattle.ipc_text_csv.specs.declared.row_reader.RowReader.{RowReader}
 
 -- the schema and these batches were accepted and sent to a sink, each batch after its dictionaries;
 -- the writer can go on

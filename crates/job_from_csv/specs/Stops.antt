@@ -1,9 +1,10 @@
 -- Why a conversion stops, and how that tells whether its source failed.
 use Rattle.std.specs.Prelude.{◌≡◌, ◌≢◌, ℕ, Result, Ok, Err, ⊤}
 use Rattle.csv.specs.Records.{Row}
+use Rattle.ipc_model.specs.declared.fault.WriteFault.TheVariants as w
 use Rattle.ipc_text_temporal.specs.declared.fault.TextFault.TheVariants.{OutOfMemory}
-use Rattle.job_from_csv.specs.declared.stop.RecordFault.{RecordFault}
-use Rattle.job_from_csv.specs.declared.stop.RecordFault.TheVariants as none
+use Rattle.ipc_text_csv.specs.declared.record_fault.RecordFault.{RecordFault}
+use Rattle.ipc_text_csv.specs.declared.record_fault.RecordFault.TheVariants as none
 use Rattle.job_from_csv.specs.declared.stop.FromCsvStop.{FromCsvStop}
 use Rattle.job_from_csv.specs.declared.stop.FromCsvStop.TheVariants as stop
 
@@ -12,13 +13,6 @@ abbrev pub stop_of : RecordFault → Row → FromCsvStop
 stop_of none.Input refused = stop.Input
 stop_of (none.Text OutOfMemory) refused = stop.Text OutOfMemory
 stop_of (none.Text fault) refused = stop.Record fault refused
-
--- the source's count of failures after the next record was read, or why it was not: it failed
--- exactly if the reason is `Input`
-abbrev pub CountsNextFailure : {T : Type 0} → ℕ → Result T RecordFault → Type 0
-CountsNextFailure failures (Ok x) = failures ≡ 0
-CountsNextFailure failures (Err none.Input) = failures ≡ 1
-CountsNextFailure failures (Err (none.Text fault)) = failures ≡ 0
 
 -- the source's count of failures after a step of a conversion that called it: it failed exactly if
 -- the step stopped for `Input`
@@ -34,3 +28,9 @@ CountsInputFailure failures (Err (stop.Write fault)) = failures ≡ 0
 pub record CountsSourceFailure (old new : ℕ) (r : Result ⊤ FromCsvStop) : Type 0 where
   pub failed : r ≡ Err stop.Input → new ≡ 1
   pub works : r ≢ Err stop.Input → old ≡ 0 → new ≡ 0
+
+-- the sink's count of failures before and after a conversion with this result: at W9 it is 1, and
+-- any other answer leaves a sink that works as one
+pub record CountsSinkFailure (old new : ℕ) (r : Result ⊤ FromCsvStop) : Type 0 where
+  pub failed : r ≡ Err (stop.Write w.Write) → new ≡ 1
+  pub works : r ≢ Err (stop.Write w.Write) → old ≡ 0 → new ≡ 0

@@ -1,25 +1,25 @@
 //! Sends the rows of CSV records in batches.
-ghost use Rattle.std.specs.Prelude.{◌≡◌, ◌≢◌, ◌<◌, ◌≤◌, ◌-◌, ◌^◌, ◌∷◌, ℕ, List, [], Option, Some};
-ghost use Rattle.std.specs.Prelude.{Err, IfErr, IfOk, OnOk};
+ghost use Rattle.std.specs.Prelude.{◌≡◌, ◌<◌, ◌≤◌, ◌-◌, ◌^◌, ◌∷◌, ℕ, List, [], Option, Some, Err};
+ghost use Rattle.std.specs.Prelude.{IfErr, None, OnOk};
 ghost use Rattle.ipc_model.specs.declared.fault.WriteFault.{WriteFault};
 ghost use Rattle.ipc_stream.specs.PendingBatches.{HoldsBatch, no_rows};
-ghost use Rattle.ipc_stream.specs.Writer.{Finishes, FinishFails, StartsWriter, StartFails};
 ghost use Rattle.job_from_csv.specs.declared.stop.FromCsvStop.TheVariants as stop;
-ghost use Rattle.job_from_csv.specs.Records.{IsSetUp};
+ghost use Rattle.ipc_text_csv.specs.Records.{HasReadRecords, IsSetUp};
+ghost use Rattle.ipc_text_csv.specs.RowCsv.{flat_fault};
 ghost use Rattle.job_from_csv.specs.Conversion.{AnswersConversion, Converts, IsLeftToRefuse};
 ghost use Rattle.job_from_csv.specs.Conversion.{StopsFor};
-ghost use Rattle.job_from_csv.specs.Steps.{BeginsConversion, Came, HasRead, PushesRows};
-ghost use Rattle.job_from_csv.specs.Steps.{SendsCsvBatch, SendsRecords};
-ghost use Rattle.job_from_csv.specs.Stops.{CountsInputFailure, CountsSourceFailure};
+ghost use Rattle.job_from_csv.specs.Steps.{BeginsConversion, Came, PushesRows, SendsCsvBatch};
+ghost use Rattle.job_from_csv.specs.Steps.{SendsRecords};
+ghost use Rattle.job_from_csv.specs.Stops.{CountsInputFailure, CountsSinkFailure};
+ghost use Rattle.job_from_csv.specs.Stops.{CountsSourceFailure};
 ghost use Rattle.csv.specs.Reading.{reader_source};
 
-use crate::records::{csv_reader, read_header};
-use crate::rows::RowReader;
-use crate::stop::FromCsvStop;
+use crate::stop::{FromCsvStop, stop_at};
 use ipc_device::{ReportsFailure, Sink, Source, SourceReader};
 use ipc_model::{Items, Limits, Schema, WriteFault};
 use ipc_stream::{BatchWriter, Seed, StreamWriter};
-use ipc_text_csv::{Dialect, check_flat};
+use ipc_text_csv::{Dialect, RowReader, check_flat};
+use ipc_text_temporal::TextFault;
 use std::alloc::Global;
 use std::io::Read;
 
@@ -50,16 +50,16 @@ fn push_rows<R: Read + ReportsFailure, W: Sink>(
         batch.new.writer.now
         batch.new.batch result }
 {
-    batch.push(rows.row.as_slice())?;
+    batch.push(rows.row())?;
     for _ in 1..size {
         let has_row = match rows.next(alloc, dialect, schema) {
             Ok(has_row) => has_row,
-            Err(why) => return Err(why.at_record(rows.take_record(alloc))),
+            Err(why) => return Err(stop_at(why, rows.take_record(alloc))),
         };
         if !has_row {
             return Ok(false);
         }
-        batch.push(rows.row.as_slice())?;
+        batch.push(rows.row())?;
     }
     Ok(true)
 }
@@ -113,7 +113,7 @@ fn send_records<R: Read + ReportsFailure, W: Sink>(
     loop {
         let has_row = match rows.next(alloc, dialect, schema) {
             Ok(has_row) => has_row,
-            Err(why) => return Err(why.at_record(rows.take_record(alloc))),
+            Err(why) => return Err(stop_at(why, rows.take_record(alloc))),
         };
         if !has_row {
             return Ok(());
@@ -124,39 +124,7 @@ fn send_records<R: Read + ReportsFailure, W: Sink>(
     }
 }
 
-// Ends a stream, and gives its sink back.
-fn end_stream<W: Sink>(stream: StreamWriter<W>) -> (Result<(), FromCsvStop>, W)
-    ensures ended { OnOk result.0
-        (Finishes stream (W.written result.1) (W.held_back result.1) (W.failures result.1)) }
-    ensures refused { IfErr result.0 (λ why. (fault : WriteFault) × (why ≡ stop.Write fault)
-        × FinishFails stream (W.written result.1) (W.failures result.1) fault) }
-{
-    match stream.finish() {
-        Ok(sink) => (Ok(()), sink),
-        Err((fault, sink)) => (Err(FromCsvStop::Write(fault)), sink),
-    }
-}
-
-// Begins a stream, whose values of dictionaries are hashed with this seed.
-fn begin_stream<W: Sink>(
-    alloc: Global,
-    seed: Seed,
-    limits: Limits,
-    sink: W,
-    schema: &Schema,
-) -> Result<StreamWriter<W>, (WriteFault, W)>
-    ensures started { IfOk result
-        (λ s. StartsWriter limits schema.now (W.written sink) (W.failures sink) s) }
-    ensures seeded { IfOk result (λ s. s.seed ≡ seed) }
-    ensures refused { IfErr result (λ e. StartFails limits schema.now (W.written sink)
-        (W.written e.1) (W.failures sink) (W.failures e.1) e.0) }
-{
-    let mut stream = StreamWriter::start(alloc, limits, sink, schema)?;
-    stream.set_seed(seed);
-    Ok(stream)
-}
-
-// Sends the stream of the records after the header, and returns its sink.
+// Reads the header, sends the stream of the records after it, and returns its sink.
 fn send_stream<R: Read + ReportsFailure, W: Sink>(
     alloc: Global,
     seed: Seed,
@@ -167,26 +135,37 @@ fn send_stream<R: Read + ReportsFailure, W: Sink>(
     batch: u64,
 ) -> (Result<(), FromCsvStop>, W)
     requires some { 0 < batch }
+    requires flat { flat_fault schema.now.fields ≡ None }
     requires set_up { IsSetUp dialect rows.old.reader }
-    requires works { R.failures (reader_source rows.old.reader) ≡ 0 }
+    requires first { rows.old.count ≡ 0 }
     ensures device { CountsInputFailure (R.failures (reader_source rows.new.reader)) result.0 }
     ensures converts { (input : Option (List ℕ))
-        → HasRead dialect.entry R.remaining input schema.now [] [] rows.old
+        → HasReadRecords dialect.entry R.remaining input [] rows.old.reader
         → AnswersConversion dialect.entry input schema.now batch (W.written sink)
         (W.written result.1)
         (W.failures sink)
         (W.failures result.1) result.0 }
     ensures handed_on { OnOk result.0 (W.held_back result.1 ≡ Some []) }
 {
-    match begin_stream(alloc, seed, Limits::standard(), sink, schema) {
-        Ok(stream) => {
-            let mut stream = stream;
-            match send_records(alloc, dialect, rows, &mut stream, schema, batch) {
-                Ok(()) => end_stream(stream),
-                Err(why) => (Err(why), stream.into_inner()),
-            }
-        }
-        Err((fault, sink)) => (Err(FromCsvStop::Write(fault)), sink),
+    let has_header = match rows.read_header(schema) {
+        Ok(has_header) => has_header,
+        Err(why) => return (Err(stop_at(why, rows.take_record(alloc))), sink),
+    };
+    if !has_header {
+        let missing = TextFault::WrongFieldCount { record: 0 };
+        return (Err(FromCsvStop::Text(missing)), sink);
+    }
+    let started = StreamWriter::start_with_seed(alloc, seed, Limits::standard(), sink, schema);
+    let mut stream = match started {
+        Ok(stream) => stream,
+        Err((fault, sink)) => return (Err(FromCsvStop::Write(fault)), sink),
+    };
+    match send_records(alloc, dialect, rows, &mut stream, schema, batch) {
+        Ok(()) => match stream.finish() {
+            Ok(sink) => (Ok(()), sink),
+            Err((fault, sink)) => (Err(FromCsvStop::Write(fault)), sink),
+        },
+        Err(why) => (Err(why), stream.into_inner()),
     }
 }
 
@@ -249,23 +228,15 @@ pub fn from_csv<R: Source, W: Sink>(
     // the values of a dictionary.
     ensures left { IfErr result.0 (λ why. (fault : WriteFault) → why ≡ stop.Write fault
         → IsLeftToRefuse schema.now fault) }
-    // W9 comes only where the sink failed.
-    ensures failed { result.0 ≡ Err (stop.Write WriteFault.Write) → W.failures result.2 ≡ 1 }
-    // Any other answer leaves a sink that works as one.
-    ensures works { result.0 ≢ Err (stop.Write WriteFault.Write) → W.failures sink ≡ 0
-        → W.failures result.2 ≡ 0 }
+    // W9 comes exactly where the sink failed.
+    ensures sink { CountsSinkFailure (W.failures sink) (W.failures result.2) result.0 }
     // `Input` comes exactly where the source failed.
-    ensures device { CountsSourceFailure (R.failures input) (R.failures result.1) result.0 }
+    ensures source { CountsSourceFailure (R.failures input) (R.failures result.1) result.0 }
 {
     if let Err(fault) = check_flat(schema) {
         return (Err(FromCsvStop::Text(fault)), input, sink);
     }
-    let mut reader = csv_reader(alloc, dialect, SourceReader::new(input));
-    let fields = match read_header(alloc, &mut reader, schema) {
-        Ok(fields) => fields,
-        Err(why) => return (Err(why), reader.into_inner().into_inner(), sink),
-    };
-    let mut rows = RowReader::new(alloc, reader, fields);
+    let mut rows = RowReader::new(alloc, dialect, SourceReader::new(input));
     let (result, sink) = send_stream(alloc, seed, dialect, &mut rows, sink, schema, batch);
     (result, rows.into_inner().into_inner(), sink)
 }

@@ -2,8 +2,6 @@
 #![tactic(auto)]
 
 mod convert;
-mod records;
-mod rows;
 mod stop;
 
 pub use convert::from_csv;

@@ -7,6 +7,7 @@ ghost use Rattle.job_from_csv.specs.declared.stop.FromCsvStop.TheVariants as sto
 
 use csv::ByteRecord;
 use ipc_model::WriteFault;
+use ipc_text_csv::RecordFault;
 use ipc_text_temporal::TextFault;
 use std::alloc::AllocFailed;
 
@@ -30,36 +31,14 @@ pub enum FromCsvStop {
     },
 }
 
-/// Why a record is not read as a row. It is small: a `FromCsvStop` also holds a path to a value and
-/// a record, and each call that may return one clears space for it.
-#[derive(Debug, PartialEq, Eq, Drop)]
-pub(crate) enum RecordFault {
-    /// The source of the input failed.
-    Input,
-    /// The record is no row, or memory ran out.
-    Text(TextFault),
-}
-
-impl RecordFault {
-    /// The reason why the conversion stops at this record.
-    pub(crate) fn at_record(self, fields: ByteRecord) -> FromCsvStop
-        ensures { result ≡ stop_of self fields }
-    {
-        match self {
-            RecordFault::Input => FromCsvStop::Input,
-            RecordFault::Text(TextFault::OutOfMemory) => FromCsvStop::Text(TextFault::OutOfMemory),
-            RecordFault::Text(fault) => FromCsvStop::Record { fault, fields },
-        }
-    }
-}
-
-impl From<TextFault> for RecordFault {
-    ghost use Rattle.job_from_csv.specs.declared.stop.RecordFault.TheVariants.{Text};
-
-    ghost from_gives = { λ fault no_row. no_row ≡ Text fault };
-
-    fn from(fault: TextFault) -> RecordFault {
-        RecordFault::Text(fault)
+/// The reason why the conversion stops at a record that is not read, for this reason.
+pub(crate) fn stop_at(why: RecordFault, fields: ByteRecord) -> FromCsvStop
+    ensures { result ≡ stop_of why fields }
+{
+    match why {
+        RecordFault::Input => FromCsvStop::Input,
+        RecordFault::Text(TextFault::OutOfMemory) => FromCsvStop::Text(TextFault::OutOfMemory),
+        RecordFault::Text(fault) => FromCsvStop::Record { fault, fields },
     }
 }
 

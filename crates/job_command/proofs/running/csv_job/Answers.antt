@@ -7,5 +7,4 @@ returns-clause-answers g c =
     let works = rw c.in-Ok.is at c.read_schema-schema.ensures.works in
     csv_answers _ _ _ _ _ _ _ _ _ _ _ _ c.from_csv-result.result.0 _ read works c.csv_result.ensures
     c.from_csv-result.ensures.converts c.from_csv-result.ensures.stopped
-    c.from_csv-result.ensures.device
-    (record { failed = c.from_csv-result.ensures.failed; works = c.from_csv-result.ensures.works })
+    c.from_csv-result.ensures.source c.from_csv-result.ensures.sink

@@ -7,7 +7,7 @@ use Rattle.job_from_csv.proofs.convert.push_rows.Goals as goal
 pub returns-in_err-push-clause-pushes : goal.returns-in_err-push-clause-pushes
 returns-in_err-push-clause-pushes g c = λ input old failures came held.
     let p = err_from_is_err_and c.from_residual.result c.from_residual.ensures.1 in
-    rw (p.1, p.2) (pushed_stops c.args.dialect _ _ _ _ _ _ _ _ [] c.args.rows.now.row c.as_slice.result.now c.as_slice.ensures came
+    rw (p.1, p.2) (pushed_stops c.args.dialect _ _ _ _ _ _ _ _ [] c.args.rows.now.row c.row.result.now c.row.ensures came
     c.push.new.self.writer.now (λ none. absurd (omega (arith, none))) c.requires.some c.in_err-push.field-0.0
     (c.in_err-push.ensures.judged _ held) c.in_err-push.ensures.stays)
 
@@ -20,7 +20,7 @@ loop-init g c = (
   omega (arith, c.requires.some),
   λ input old failures came held. (
     c.args.rows.now.row ∷ [],
-    holds_pushed c.args.dialect _ _ _ _ _ _ _ _ [] c.args.rows.now.row c.as_slice.result.now c.as_slice.ensures came
+    holds_pushed c.args.dialect _ _ _ _ _ _ _ _ [] c.args.rows.now.row c.row.result.now c.row.ensures came
         c.push.new.self.writer.now _
         c.in_ok-push.ensures.stays.1 (c.in_ok-push.ensures.judged _ held),
     refl,
@@ -37,7 +37,7 @@ returns-in-Err-clause-same_reference g c = c.loop.invariant.2
 pub returns-in-Err-clause-pushes : goal.returns-in-Err-clause-pushes
 returns-in-Err-clause-pushes g c = λ input old failures came held.
     let (left, holds, many) = c.loop.invariant.5 input old failures came held in
-    rw (c.at_record.ensures, c.take_record.ensures.record) (held_stops c.args.dialect _ _ _ _ _ _ _ _ _ left holds
+    rw (c.stop_at.ensures, c.take_record.ensures.record) (held_stops c.args.dialect _ _ _ _ _ _ _ _ _ left holds
     (omega (arith, many, c.loop-test.true)) _ _ (c.in-Err.ensures.refused input _ _ holds.came.read))
 
 pub returns-then-not-has_row-clause-counted : goal.returns-then-not-has_row-clause-counted
@@ -68,8 +68,8 @@ returns-in_err-push-2-clause-pushes g c = λ input old failures came held.
     let (left, holds, many) = c.loop.invariant.5 input old failures came held in
     let more = held_more c.args.dialect _ _ _ _ _ _ _ _ _ left holds c.next.new.self _ c.if-not-has_row.false
     (c.in-Ok.ensures.finds input _ _ holds.came.read) in
-    rw (p.1, p.2) (pushed_stops c.args.dialect _ _ _ _ _ _ _ _ left c.next.new.self.row c.as_slice-in-loop.result.now
-    c.as_slice-in-loop.ensures more
+    rw (p.1, p.2) (pushed_stops c.args.dialect _ _ _ _ _ _ _ _ left c.next.new.self.row c.row-in-loop.result.now
+    c.row-in-loop.ensures more
     c.push-in-loop.new.self.writer.now (λ _. holds_accepted c.args.dialect _ _ _ _ _ _ _ _ _ left holds) (omega (
       arith,
       many,
@@ -89,7 +89,7 @@ loop-preserved g c = (
       let more = held_more c.args.dialect _ _ _ _ _ _ _ _ _ left holds c.next.new.self _ c.if-not-has_row.false
       (c.in-Ok.ensures.finds input _ _ holds.came.read) in (
         left ++ c.next.new.self.row ∷ [],
-        holds_pushed c.args.dialect _ _ _ _ _ _ _ _ left c.next.new.self.row c.as_slice-in-loop.result.now c.as_slice-in-loop.ensures more
+        holds_pushed c.args.dialect _ _ _ _ _ _ _ _ left c.next.new.self.row c.row-in-loop.result.now c.row-in-loop.ensures more
             c.push-in-loop.new.self.writer.now _ c.in_ok-push-2.ensures.stays.1 (c.in_ok-push-2.ensures.judged _ holds.held_rows),
         length_push left c.next.new.self.row ∙ ap (λ n. n + 1) many,
       ),

@@ -2,7 +2,7 @@ use Rattle.std.proofs.Common.{◌≡◌, ◌<◌, ◌≤◌, ℕ, List, [], ◌�
 use Rattle.csv.specs.Reading.{reader_source}
 use Rattle.ipc_model.specs.declared.value.Value.{Value}
 use Rattle.ipc_stream.specs.PendingBatches.{HoldsBatch, no_rows}
-use Rattle.job_from_csv.specs.Records.{IsSetUp}
+use Rattle.ipc_text_csv.specs.Records.{IsSetUp}
 use Rattle.job_from_csv.specs.Steps.{Came, HoldsLeftover}
 use Rattle.job_from_csv.proofs.convert.push_rows.Given as goal
 

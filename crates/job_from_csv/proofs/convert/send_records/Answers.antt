@@ -11,7 +11,7 @@ loop-has_row-init g c = (c.requires.set_up, λ input old failures begins. came_n
 pub returns-in-Err-clause-sends : goal.returns-in-Err-clause-sends
 returns-in-Err-clause-sends g c = λ input old failures begins.
     let came = c.loop-has_row.invariant.1 input old failures begins in
-    rw (c.at_record.ensures, c.take_record.ensures.record) (next_stops c.args.dialect _ _ _ _ _ _ _ _ [] came
+    rw (c.stop_at.ensures, c.take_record.ensures.record) (next_stops c.args.dialect _ _ _ _ _ _ _ _ [] came
     (λ none. absurd (omega (arith, none))) c.requires.some _ _ (c.in-Err.ensures.refused input _ _ came.read))
 
 pub returns-in_err-send_batch : goal.returns-in_err-send_batch

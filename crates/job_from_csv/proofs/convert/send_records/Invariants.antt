@@ -1,6 +1,6 @@
 use Rattle.std.proofs.Common.{◌≡◌, ◌-◌, ◌^◌, ℕ, List, [], Option}
 use Rattle.csv.specs.Reading.{reader_source}
-use Rattle.job_from_csv.specs.Records.{IsSetUp}
+use Rattle.ipc_text_csv.specs.Records.{IsSetUp}
 use Rattle.job_from_csv.specs.Steps.{BeginsConversion, Came}
 use Rattle.job_from_csv.proofs.convert.send_records.Given as goal
 

@@ -1,5 +1,5 @@
-use Rattle.job_from_csv.proofs.Reading.{finds_next}
-use Rattle.job_from_csv.proofs.records.next_record.Goals as goal
+use Rattle.ipc_text_csv.proofs.Reading.{finds_next}
+use Rattle.ipc_text_csv.proofs.record_reader.next_record.Goals as goal
 
 pub returns-clause-finds : goal.returns-clause-finds
 returns-clause-finds g c = λ d set input records stands.

@@ -6,7 +6,7 @@ use Rattle.csv.specs.declared.parser.State.{State}
 use Rattle.csv.specs.declared.parser.State.TheVariants as state
 use Rattle.csv.specs.declared.reader.Reader.{Reader}
 use Rattle.csv.proofs.ReadFacts.{rows-more, rows-end}
-use Rattle.job_from_csv.specs.Records.{reading, AreFirstRecordsOf, AreRecordsOf, FindsRecord, LeavesReader, HasReadRecords}
+use Rattle.ipc_text_csv.specs.Records.{reading, AreFirstRecordsOf, AreRecordsOf, FindsRecord, LeavesReader, HasReadRecords}
 use Rattle.ipc_text_csv.specs.declared.dialect.Dialect.{Dialect}
 
 -- at its start an input begins with no records

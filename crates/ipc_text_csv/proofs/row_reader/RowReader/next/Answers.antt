@@ -1,8 +1,8 @@
 use Rattle.std.proofs.Common.{◌∷◌, rules}
 use Rattle.ipc_text_csv.specs.RowCsv.{names}
-use Rattle.job_from_csv.proofs.Reading.{found_one}
-use Rattle.job_from_csv.proofs.NextRow.{finds_row}
-use Rattle.job_from_csv.proofs.rows.RowReader.next.Goals as goal
+use Rattle.ipc_text_csv.proofs.Reading.{found_one}
+use Rattle.ipc_text_csv.proofs.NextRow.{finds_row}
+use Rattle.ipc_text_csv.proofs.row_reader.RowReader.next.Goals as goal
 
 pub returns-clause-finds : goal.returns-clause-finds
 returns-clause-finds g c = λ input records rows has.

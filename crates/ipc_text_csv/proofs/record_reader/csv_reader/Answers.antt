@@ -1,6 +1,6 @@
-use Rattle.job_from_csv.proofs.Reading.{leaves_all}
-use Rattle.job_from_csv.proofs.NextRow.{stands_kept}
-use Rattle.job_from_csv.proofs.records.csv_reader.Goals as goal
+use Rattle.ipc_text_csv.proofs.Reading.{leaves_all}
+use Rattle.ipc_text_csv.proofs.NextRow.{stands_kept}
+use Rattle.ipc_text_csv.proofs.record_reader.csv_reader.Goals as goal
 
 pub returns-clause-stands : goal.returns-clause-stands
 returns-clause-stands g c = λ known kept.
