@@ -31,8 +31,8 @@ pub(crate) fn csv_reader<R: Read>(alloc: Global, dialect: Dialect<'_>, input: R)
         .from_reader(alloc, input)
 }
 
-/// Reads the next record. Returns false if there is none. If the device did not fail, an error means
-/// that memory ran out.
+/// Reads the next record. Returns false if there is none. If the device did not fail, an error
+/// means that memory ran out.
 pub(crate) fn next_record<R: Read + ReportsFailure>(
     reader: &mut Reader<R>,
     fields: &mut ByteRecord,

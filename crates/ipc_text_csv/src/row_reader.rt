@@ -52,8 +52,8 @@ impl<R: Read + ReportsFailure> RowReader<R> {
         }
     }
 
-    /// Reads the first record, and checks that it is the header of a schema's columns, which CSV can
-    /// represent. Returns false if there is no record.
+    /// Reads the first record, and checks that it is the header of a schema's columns, which CSV
+    /// can represent. Returns false if there is no record.
     ///
     /// Errors: `Input` if the device failed; `Text` with X5 or X4 of record 0 if the record, which
     /// `take_record` returns, is another; `Text` with `OutOfMemory`.
