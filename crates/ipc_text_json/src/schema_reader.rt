@@ -32,16 +32,13 @@ ghost use Rattle.serde_json.specs.Read.{read as read_text};
 ghost use Rattle.std.specs.List.{AllByRecursion};
 
 use ipc_model::{
-    DataType, DateUnit, Dictionary, Field, IndexType, IntBits, Items, Limits, Schema, SchemaFault,
-    Text, TimeUnit,
+    DataType, DateUnit, Dictionary, Field, IndexType, IntBits, Items, Limits, MAX_DEPTH, Schema,
+    SchemaFault, Text, TimeUnit,
 };
 use ipc_text_temporal::TextFault;
 use serde_json::Value;
 use std::alloc::Global;
 use std::collections::btree_map::Iter;
-
-// The maximum nesting of fields, as in `Limits::standard`.
-const MAX_DEPTH: u64 = 64;
 
 fn bits_of(width: u64) -> Option<IntBits>
     ensures only { IfSome result (λ bits. spec_width bits ≡ width) }

@@ -26,8 +26,7 @@ use ipc_model::{Fault, Limits, Schema, WriteFault};
 use ipc_stream_read::{End, StreamReader};
 use ipc_text_csv::{check_flat, csv_header};
 use ipc_text_json::schema_json;
-use ipc_text_temporal::TextFault;
-use itoa::Buffer;
+use ipc_text_temporal::{TextFault, push_number};
 use std::alloc::{AllocError, Global};
 
 // Prints the rows of a stream up to the limit, and returns how that ended. The text of each batch
@@ -97,8 +96,7 @@ fn schema_line(alloc: Global, schema: &Schema) -> Result<Vec<u8>, TextFault>
 fn push_count(out: &mut Vec<u8>, number: u64, word: &[u8]) -> Result<(), AllocError>
     ensures { OnOk result (out.new.items ≡ out.old.items ++ decimal number ++ word.now) }
 {
-    let mut digits = Buffer::new();
-    out.extend_from_slice(digits.format(number).as_bytes())?;
+    push_number(out, number)?;
     out.extend_from_slice(word)
 }
 
