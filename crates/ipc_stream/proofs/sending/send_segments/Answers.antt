@@ -1,6 +1,6 @@
 use Rattle.std.proofs.lemmas.Result.{err_from_is_err_and}
 use Rattle.ipc_stream.proofs.SentBytes.{segments_cut, segments_more}
-use Rattle.ipc_stream.proofs.sending.sends.Goals as goal
+use Rattle.ipc_stream.proofs.sending.send_segments.Goals as goal
 
 pub returns-in_err-send-clause-err : goal.returns-in_err-send-clause-err
 returns-in_err-send-clause-err g c =
