@@ -40,3 +40,6 @@ returns-in-Err-send_records-clause-converts g c = λ input stands.
     let has = rw c.if-not-has_header.false at (c.in-Ok.ensures.finds c.args.dialect input c.requires.set_up stands c.requires.first) in
     let out = starts_out _ _ _ c.in-Ok-started.stream c.standard.ensures c.in-Ok-started.ensures.started in
     rw (c.into_inner.ensures.written, c.into_inner.ensures.failures) (c.in-Err-send_records.ensures.sends input _ _ (has, out))
+
+pub send_records-requires-clause-set_up : goal.send_records-requires-clause-set_up
+send_records-requires-clause-set_up g c = c.in-Ok.ensures.set_up c.args.dialect c.requires.set_up
