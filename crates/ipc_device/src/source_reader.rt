@@ -1,5 +1,6 @@
-ghost use Rattle.std.specs.Prelude.{◌≡◌, ℕ, false, true};
-ghost use Rattle.std.specs.Io.KnownBytes.{Keeps};
+ghost use Rattle.std.specs.Prelude.{◌≡◌, ℕ, false, true, OnErr};
+ghost use Rattle.std.specs.Io.{ReadsAtMost};
+ghost use Rattle.std.specs.Io.KnownBytes.{Keeps, ReadConsumes};
 
 use crate::source::Source;
 use std::io::{Error, ErrorKind, Read, Result};
@@ -57,7 +58,13 @@ impl<S: Source> ReportsFailure for SourceReader<S> {
 impl<S: Source> Read for SourceReader<S> {
     ghost remaining = { λ r. S.remaining r.source };
 
-    fn read(&mut self, into: &mut [u8]) -> Result<usize> {
+    fn read(&mut self, into: &mut [u8]) -> Result<usize>
+        ensures bound { ReadsAtMost result into.new }
+        ensures bytes { ReadConsumes (S.remaining self.old.source)
+            (S.remaining self.new.source) result into.new }
+        // An error comes only if the source failed.
+        ensures only { OnErr result (S.failures self.new.source ≡ 1) }
+    {
         if self.failed {
             return Err(Error::from(ErrorKind::Other));
         }
