@@ -28,90 +28,94 @@ static double seconds(void) {
     return (double)now.tv_sec + 1e-9 * (double)now.tv_nsec;
 }
 
-static arrow_reader *new_reader(void) {
-    arrow_limits limits;
-    arrow_reader *reader = NULL;
-    arrow_limits_standard(&limits);
-    arrow_reader_open(&limits, &reader);
+static arrowstream_reader *new_reader(void) {
+    arrowstream_limits limits;
+    arrowstream_reader *reader = NULL;
+    arrowstream_limits_standard(&limits);
+    arrowstream_reader_open(&limits, &reader);
     must(reader != NULL, "out of memory");
     return reader;
 }
 
-static arrow_writer *new_writer(void) {
-    arrow_limits limits;
-    arrow_writer *writer = NULL;
-    arrow_limits_standard(&limits);
-    arrow_writer_open(&limits, &writer);
+static arrowstream_writer *new_writer(void) {
+    arrowstream_limits limits;
+    arrowstream_writer *writer = NULL;
+    arrowstream_limits_standard(&limits);
+    arrowstream_writer_open(&limits, &writer);
     must(writer != NULL, "out of memory");
-    uint32_t status = arrow_writer_schema(writer, (const uint8_t *)schema, strlen(schema));
-    must(status == ARROW_OK, "the schema is refused");
+    uint32_t status = arrowstream_writer_schema(writer, (const uint8_t *)schema, strlen(schema));
+    must(status == ARROWSTREAM_OK, "the schema is refused");
     return writer;
 }
 
 /* The batch of a stream with one row. */
-static arrow_batch *one_batch(void) {
+static arrowstream_batch *one_batch(void) {
     static uint8_t bytes[4096];
-    arrow_writer *writer = new_writer();
-    arrow_reader *reader = new_reader();
-    arrow_batch *batch = NULL;
-    arrow_progress now = {0, 0, 0, ARROW_NOTHING};
-    must(arrow_writer_int(writer, 1) == ARROW_OK && arrow_writer_row(writer) == ARROW_OK
-             && arrow_writer_send(writer) == ARROW_OK, "the row is refused");
+    arrowstream_writer *writer = new_writer();
+    arrowstream_reader *reader = new_reader();
+    arrowstream_batch *batch = NULL;
+    arrowstream_progress now = {0, 0, 0, ARROWSTREAM_NOTHING};
+    must(arrowstream_writer_int(writer, 1) == ARROWSTREAM_OK
+             && arrowstream_writer_row(writer) == ARROWSTREAM_OK
+             && arrowstream_writer_send(writer) == ARROWSTREAM_OK,
+         "the row is refused");
     size_t length = 0;
-    while (arrow_writer_ready(writer) > 0)
-        length += arrow_writer_take(writer, bytes + length, sizeof bytes - length);
-    for (size_t from = 0; now.event != ARROW_BATCH; from += now.taken)
-        must(arrow_reader_feed(reader, bytes + from, length - from, &now) == ARROW_OK
-                 && now.taken > 0, "the stream is refused");
-    arrow_reader_take(reader, &batch);
+    while (arrowstream_writer_ready(writer) > 0)
+        length += arrowstream_writer_take(writer, bytes + length, sizeof bytes - length);
+    for (size_t from = 0; now.event != ARROWSTREAM_BATCH; from += now.taken)
+        must(arrowstream_reader_feed(reader, bytes + from, length - from, &now) == ARROWSTREAM_OK
+                 && now.taken > 0,
+             "the stream is refused");
+    arrowstream_reader_take(reader, &batch);
     must(batch != NULL, "out of memory");
-    arrow_reader_free(reader);
-    arrow_writer_free(writer);
+    arrowstream_reader_free(reader);
+    arrowstream_writer_free(writer);
     return batch;
 }
 
 static double rows_nanoseconds(void) {
-    arrow_batch *batch = one_batch();
+    arrowstream_batch *batch = one_batch();
     size_t rows = 0;
     double from = seconds();
-    for (size_t call = 0; call < CALLS; call++) rows += arrow_batch_rows(batch);
+    for (size_t call = 0; call < CALLS; call++) rows += arrowstream_batch_rows(batch);
     double taken = seconds() - from;
     must(rows == CALLS, "other rows");
-    arrow_batch_free(batch);
+    arrowstream_batch_free(batch);
     return 1e9 * taken / CALLS;
 }
 
 /* Each thousandth cell is followed by the end of the row, which is too wide and is dropped. */
 static double int_nanoseconds(void) {
-    arrow_writer *writer = new_writer();
+    arrowstream_writer *writer = new_writer();
     double from = seconds();
     for (int64_t call = 1; call <= CALLS; call++) {
-        must(arrow_writer_int(writer, call) == ARROW_OK, "the cell is refused");
-        if (call % CELLS == 0) must(arrow_writer_row(writer) == ARROW_WRITE + 2, "a row of cells");
+        must(arrowstream_writer_int(writer, call) == ARROWSTREAM_OK, "the cell is refused");
+        if (call % CELLS == 0)
+            must(arrowstream_writer_row(writer) == ARROWSTREAM_WRITE + 2, "a row of cells");
     }
     double taken = seconds() - from;
-    arrow_writer_free(writer);
+    arrowstream_writer_free(writer);
     return 1e9 * taken / CALLS;
 }
 
 static void check(void) {
     static uint8_t bytes[PIECE];
-    arrow_reader *reader = new_reader();
-    arrow_progress now = {0, 0, 0, ARROW_NOTHING};
+    arrowstream_reader *reader = new_reader();
+    arrowstream_progress now = {0, 0, 0, ARROWSTREAM_NOTHING};
     size_t rows = 0, length = 0;
-    while (now.event != ARROW_END && (length = fread(bytes, 1, sizeof bytes, stdin)) > 0)
-        for (size_t from = 0; from < length && now.event != ARROW_END; from += now.taken) {
-            uint32_t status = arrow_reader_feed(reader, bytes + from, length - from, &now);
-            must(status == ARROW_OK, "the stream is refused");
-            if (now.event != ARROW_BATCH) continue;
-            arrow_batch *batch = NULL;
-            arrow_reader_take(reader, &batch);
+    while (now.event != ARROWSTREAM_END && (length = fread(bytes, 1, sizeof bytes, stdin)) > 0)
+        for (size_t from = 0; from < length && now.event != ARROWSTREAM_END; from += now.taken) {
+            uint32_t status = arrowstream_reader_feed(reader, bytes + from, length - from, &now);
+            must(status == ARROWSTREAM_OK, "the stream is refused");
+            if (now.event != ARROWSTREAM_BATCH) continue;
+            arrowstream_batch *batch = NULL;
+            arrowstream_reader_take(reader, &batch);
             must(batch != NULL, "out of memory");
-            rows += arrow_batch_rows(batch);
-            arrow_batch_free(batch);
+            rows += arrowstream_batch_rows(batch);
+            arrowstream_batch_free(batch);
         }
-    must(arrow_reader_close(reader, &now) == ARROW_OK, "the stream is cut off");
-    arrow_reader_free(reader);
+    must(arrowstream_reader_close(reader, &now) == ARROWSTREAM_OK, "the stream is cut off");
+    arrowstream_reader_free(reader);
     printf("%zu rows\n", rows);
 }
 
@@ -121,7 +125,7 @@ int main(int count, char **words) {
         return 0;
     }
     if (count != 1) return 2;
-    printf("arrow_batch_rows %.1f ns\n", rows_nanoseconds());
-    printf("arrow_writer_int %.1f ns\n", int_nanoseconds());
+    printf("arrowstream_batch_rows %.1f ns\n", rows_nanoseconds());
+    printf("arrowstream_writer_int %.1f ns\n", int_nanoseconds());
     return 0;
 }

@@ -41,8 +41,8 @@ static void stop(const char *why) {
 
 /* Whether a call has the answer that is expected. It may also say that memory ran out. */
 static int is_done(uint32_t status, uint32_t expected) {
-    told += status == ARROW_OUT_OF_MEMORY;
-    if (status != expected && status != ARROW_OUT_OF_MEMORY) stop("another status");
+    told += status == ARROWSTREAM_OUT_OF_MEMORY;
+    if (status != expected && status != ARROWSTREAM_OUT_OF_MEMORY) stop("another status");
     return status == expected;
 }
 
@@ -74,11 +74,11 @@ static void check_room(const copied *room) {
     if (room->bytes[room->count] != FILL) stop("a byte past the end");
 }
 
-typedef uint32_t reader_text(arrow_reader *, uint8_t *, size_t, size_t *);
-typedef uint32_t batch_text(arrow_batch *, uint8_t *, size_t, size_t *);
+typedef uint32_t reader_text(arrowstream_reader *, uint8_t *, size_t, size_t *);
+typedef uint32_t batch_text(arrowstream_batch *, uint8_t *, size_t, size_t *);
 
 /* Calls first with no room, and then with as much as is wanted. */
-static copied text_of(arrow_reader *reader, reader_text *of_reader, arrow_batch *batch,
+static copied text_of(arrowstream_reader *reader, reader_text *of_reader, arrowstream_batch *batch,
                       batch_text *of_batch, uint32_t expected) {
     size_t wanted = 0, again = 0;
     copied none = room_for(0);
@@ -95,132 +95,137 @@ static copied text_of(arrow_reader *reader, reader_text *of_reader, arrow_batch 
     return text;
 }
 
-static void read_buffer(arrow_batch *batch, const uint64_t *path, size_t steps, uint32_t buffer,
-                        size_t count, answer *all) {
+static void read_buffer(arrowstream_batch *batch, const uint64_t *path, size_t steps,
+                        uint32_t buffer, size_t count, answer *all) {
     size_t wanted = 0;
     copied room = room_for(count);
     if (count > 0) {
         copied less = room_for(count - 1);
-        is_done(arrow_batch_buffer(batch, path, steps, buffer, less.bytes, count - 1, &wanted), 0);
+        is_done(
+            arrowstream_batch_buffer(batch, path, steps, buffer, less.bytes, count - 1, &wanted),
+            0);
         if (wanted != count || less.bytes[0] != FILL) stop("a buffer that is cut");
         free(less.bytes);
     }
-    is_done(arrow_batch_buffer(batch, path, steps, buffer, room.bytes, count, &wanted), ARROW_OK);
+    is_done(arrowstream_batch_buffer(batch, path, steps, buffer, room.bytes, count, &wanted),
+            ARROWSTREAM_OK);
     if (wanted != count) stop("another size of a buffer");
     check_room(&room);
     mix(all, room.bytes, count);
     free(room.bytes);
 }
 
-static void read_column(arrow_batch *batch, uint64_t *path, size_t steps, answer *all) {
-    arrow_column column, none;
+static void read_column(arrowstream_batch *batch, uint64_t *path, size_t steps, answer *all) {
+    arrowstream_column column, none;
     uint8_t byte = 0;
     size_t wanted = 1;
     memset(&column, 0, sizeof column);
-    is_done(arrow_batch_column(batch, path, steps, &column), ARROW_OK);
+    is_done(arrowstream_batch_column(batch, path, steps, &column), ARROWSTREAM_OK);
     mix(all, &column, sizeof column);
-    read_buffer(batch, path, steps, ARROW_BUFFER_VALIDITY, column.validity, all);
-    read_buffer(batch, path, steps, ARROW_BUFFER_OFFSETS, column.offsets, all);
-    read_buffer(batch, path, steps, ARROW_BUFFER_VALUES, column.values, all);
-    is_done(arrow_batch_buffer(batch, path, steps, 3, &byte, 1, &wanted), ARROW_ABSENT);
+    read_buffer(batch, path, steps, ARROWSTREAM_BUFFER_VALIDITY, column.validity, all);
+    read_buffer(batch, path, steps, ARROWSTREAM_BUFFER_OFFSETS, column.offsets, all);
+    read_buffer(batch, path, steps, ARROWSTREAM_BUFFER_VALUES, column.values, all);
+    is_done(arrowstream_batch_buffer(batch, path, steps, 3, &byte, 1, &wanted), ARROWSTREAM_ABSENT);
     if (wanted != 0) stop("a fourth buffer");
     for (size_t child = 0; child < column.children; child++) {
         path[steps] = child;
         read_column(batch, path, steps + 1, all);
     }
     path[steps] = column.children;
-    is_done(arrow_batch_column(batch, path, steps + 1, &none), ARROW_ABSENT);
-    path[steps] = ARROW_DICTIONARY;
-    if (arrow_batch_column(batch, path, steps + 1, &none) == ARROW_OK) {
-        if (column.layout.kind != ARROW_LAYOUT_INDICES) stop("a dictionary of no indices");
+    is_done(arrowstream_batch_column(batch, path, steps + 1, &none), ARROWSTREAM_ABSENT);
+    path[steps] = ARROWSTREAM_DICTIONARY;
+    if (arrowstream_batch_column(batch, path, steps + 1, &none) == ARROWSTREAM_OK) {
+        if (column.layout.kind != ARROWSTREAM_LAYOUT_INDICES) stop("a dictionary of no indices");
         read_column(batch, path, steps + 1, all);
     }
 }
 
-static void read_batch(arrow_batch *batch, answer *all) {
+static void read_batch(arrowstream_batch *batch, answer *all) {
     uint64_t path[MOST_STEPS];
-    arrow_column column;
-    copied pairs = text_of(NULL, NULL, batch, arrow_batch_pairs, ARROW_OK);
+    arrowstream_column column;
+    copied pairs = text_of(NULL, NULL, batch, arrowstream_batch_pairs, ARROWSTREAM_OK);
     mix(all, pairs.bytes, pairs.count);
     free(pairs.bytes);
-    for (path[0] = 0; path[0] < arrow_batch_columns(batch); path[0]++)
+    for (path[0] = 0; path[0] < arrowstream_batch_columns(batch); path[0]++)
         read_column(batch, path, 1, all);
-    is_done(arrow_batch_column(batch, path, 1, &column), ARROW_ABSENT);
-    is_done(arrow_batch_column(batch, path, 0, &column), ARROW_ABSENT);
-    all->rows += arrow_batch_rows(batch);
+    is_done(arrowstream_batch_column(batch, path, 1, &column), ARROWSTREAM_ABSENT);
+    is_done(arrowstream_batch_column(batch, path, 0, &column), ARROWSTREAM_ABSENT);
+    all->rows += arrowstream_batch_rows(batch);
 }
 
 /* Takes the batch that came. Each batch is read when the next one has come. */
-static arrow_batch *take(arrow_reader *reader, arrow_batch *last, answer *all) {
-    arrow_batch *batch = NULL, *none = NULL;
-    arrow_reader_take(reader, &batch);
-    arrow_reader_take(reader, &none);
+static arrowstream_batch *take(arrowstream_reader *reader, arrowstream_batch *last, answer *all) {
+    arrowstream_batch *batch = NULL, *none = NULL;
+    arrowstream_reader_take(reader, &batch);
+    arrowstream_reader_take(reader, &none);
     if (none) stop("a batch twice");
     told += !batch;
     if (last) {
         read_batch(last, all);
-        arrow_batch_free(last);
+        arrowstream_batch_free(last);
     }
     all->batches++;
     return batch;
 }
 
-static uint32_t feed(arrow_reader *reader, const uint8_t *bytes, size_t count, size_t piece,
-                     answer *all, arrow_batch **last) {
-    arrow_progress now = {0, 0, 0, ARROW_NOTHING};
-    while (count > 0 && now.event != ARROW_END) {
+static uint32_t feed(arrowstream_reader *reader, const uint8_t *bytes, size_t count, size_t piece,
+                     answer *all, arrowstream_batch **last) {
+    arrowstream_progress now = {0, 0, 0, ARROWSTREAM_NOTHING};
+    while (count > 0 && now.event != ARROWSTREAM_END) {
         size_t length = count < piece ? count : piece;
-        uint32_t status = arrow_reader_feed(reader, bytes, length, &now);
-        if (status != ARROW_OK) {
+        uint32_t status = arrowstream_reader_feed(reader, bytes, length, &now);
+        if (status != ARROWSTREAM_OK) {
             if (now.taken != 0 || now.wanted != 0) stop("a refusal that takes bytes");
-            if (arrow_reader_feed(reader, bytes, 1, &now) != ARROW_FAILED) stop("it goes on");
+            if (arrowstream_reader_feed(reader, bytes, 1, &now) != ARROWSTREAM_FAILED)
+                stop("it goes on");
             return status;
         }
-        if (now.taken > length || (now.event == ARROW_NOTHING && now.taken != length))
+        if (now.taken > length || (now.event == ARROWSTREAM_NOTHING && now.taken != length))
             stop("another count of bytes");
         bytes += now.taken;
         count -= now.taken;
         all->bytes += now.taken;
-        if (now.event == ARROW_BATCH) *last = take(reader, *last, all);
+        if (now.event == ARROWSTREAM_BATCH) *last = take(reader, *last, all);
     }
-    uint32_t status = arrow_reader_close(reader, &now);
+    uint32_t status = arrowstream_reader_close(reader, &now);
     all->event = now.event;
     return status;
 }
 
 static void print(const answer *all, uint32_t status, const copied *text) {
     printf("%u ", status);
-    if (status == ARROW_OK)
+    if (status == ARROWSTREAM_OK)
         printf("%s %zu bytes %zu batches %zu rows %016" PRIx64 " ",
-               all->event == ARROW_END ? "mark" : "closed", all->bytes, all->batches, all->rows,
-               all->digest);
+               all->event == ARROWSTREAM_END ? "mark" : "closed", all->bytes, all->batches,
+               all->rows, all->digest);
     printf("%.*s\n", (int)text->count, (const char *)text->bytes);
 }
 
 /* Reads a stream once. Returns the status of its end or of its refusal. */
 static uint32_t read_stream(const uint8_t *bytes, size_t count, size_t piece, int prints) {
     answer all = {0, UINT64_C(0xcbf29ce484222325), 0, 0, 0};
-    arrow_limits limits;
-    arrow_reader *reader = NULL;
-    arrow_batch *last = NULL;
-    arrow_limits_standard(&limits);
-    arrow_reader_open(&limits, &reader);
+    arrowstream_limits limits;
+    arrowstream_reader *reader = NULL;
+    arrowstream_batch *last = NULL;
+    arrowstream_limits_standard(&limits);
+    arrowstream_reader_open(&limits, &reader);
     if (!reader) {
         told++;
-        return ARROW_OUT_OF_MEMORY;
+        return ARROWSTREAM_OUT_OF_MEMORY;
     }
     uint32_t status = feed(reader, bytes, count, piece, &all, &last);
-    told += status == ARROW_OUT_OF_MEMORY;
-    copied line = text_of(reader, arrow_reader_line, NULL, NULL,
-                          status == ARROW_OK ? ARROW_ABSENT : ARROW_OK);
+    told += status == ARROWSTREAM_OUT_OF_MEMORY;
+    copied line = text_of(reader, arrowstream_reader_line, NULL, NULL,
+                          status == ARROWSTREAM_OK ? ARROWSTREAM_ABSENT : ARROWSTREAM_OK);
     copied schema = {NULL, 0};
-    if (status == ARROW_OK) schema = text_of(reader, arrow_reader_schema, NULL, NULL, ARROW_OK);
-    arrow_reader_free(reader);
+    if (status == ARROWSTREAM_OK)
+        schema = text_of(reader, arrowstream_reader_schema, NULL, NULL, ARROWSTREAM_OK);
+    arrowstream_reader_free(reader);
     if (last) {
         read_batch(last, &all);
-        arrow_batch_free(last);
+        arrowstream_batch_free(last);
     }
-    if (prints) print(&all, status, status == ARROW_OK ? &schema : &line);
+    if (prints) print(&all, status, status == ARROWSTREAM_OK ? &schema : &line);
     free(line.bytes);
     free(schema.bytes);
     return status;
@@ -235,7 +240,7 @@ static void refuse_growths(const uint8_t *bytes, size_t count, size_t piece) {
         asked = told = 0;
         uint32_t status = read_stream(bytes, count, piece, 0);
         if (told == 0) stop("a refused growth that no call reports");
-        if (status != expected && status != ARROW_OUT_OF_MEMORY) stop("another end");
+        if (status != expected && status != ARROWSTREAM_OUT_OF_MEMORY) stop("another end");
     }
     refused = 0;
     printf("%lu growths\n", all);
@@ -251,37 +256,39 @@ static size_t decode(char *line) {
     return count;
 }
 
-static int is_nowhere(const arrow_progress *now) {
-    return now->taken == 0 && now->wanted == 0 && now->messages == 0 && now->event == ARROW_NOTHING;
+static int is_nowhere(const arrowstream_progress *now) {
+    return now->taken == 0 && now->wanted == 0 && now->messages == 0
+           && now->event == ARROWSTREAM_NOTHING;
 }
 
 /* Makes each call at NULL. */
 static void call_at_null(void) {
     const uint64_t path[] = {0};
-    arrow_progress fed = {1, 1, 1, 1}, closed = {1, 1, 1, 1};
-    arrow_batch *batch = (arrow_batch *)&fed;
-    arrow_column column;
+    arrowstream_progress fed = {1, 1, 1, 1}, closed = {1, 1, 1, 1};
+    arrowstream_batch *batch = (arrowstream_batch *)&fed;
+    arrowstream_column column;
     uint8_t byte = FILL, as_it_was[sizeof column];
     size_t wanted[4] = {1, 1, 1, 1};
     memset(&column, FILL, sizeof column);
     memcpy(as_it_was, &column, sizeof column);
-    if (arrow_reader_feed(NULL, &byte, 1, &fed) != ARROW_MISUSE || !is_nowhere(&fed)
-        || arrow_reader_close(NULL, &closed) != ARROW_MISUSE || !is_nowhere(&closed))
+    if (arrowstream_reader_feed(NULL, &byte, 1, &fed) != ARROWSTREAM_MISUSE || !is_nowhere(&fed)
+        || arrowstream_reader_close(NULL, &closed) != ARROWSTREAM_MISUSE || !is_nowhere(&closed))
         stop("a reader at NULL");
-    arrow_reader_take(NULL, &batch);
+    arrowstream_reader_take(NULL, &batch);
     if (batch) stop("a batch of NULL");
-    if (arrow_reader_schema(NULL, &byte, 1, &wanted[0]) != ARROW_MISUSE
-        || arrow_reader_line(NULL, &byte, 1, &wanted[1]) != ARROW_MISUSE
-        || arrow_batch_pairs(NULL, &byte, 1, &wanted[2]) != ARROW_MISUSE
-        || arrow_batch_buffer(NULL, path, 1, 0, &byte, 1, &wanted[3]) != ARROW_MISUSE)
+    if (arrowstream_reader_schema(NULL, &byte, 1, &wanted[0]) != ARROWSTREAM_MISUSE
+        || arrowstream_reader_line(NULL, &byte, 1, &wanted[1]) != ARROWSTREAM_MISUSE
+        || arrowstream_batch_pairs(NULL, &byte, 1, &wanted[2]) != ARROWSTREAM_MISUSE
+        || arrowstream_batch_buffer(NULL, path, 1, 0, &byte, 1, &wanted[3]) != ARROWSTREAM_MISUSE)
         stop("a text of NULL");
     if (wanted[0] || wanted[1] || wanted[2] || wanted[3] || byte != FILL) stop("bytes of NULL");
-    if (arrow_batch_rows(NULL) != 0 || arrow_batch_columns(NULL) != 0) stop("a count of NULL");
-    if (arrow_batch_column(NULL, path, 1, &column) != ARROW_MISUSE
+    if (arrowstream_batch_rows(NULL) != 0 || arrowstream_batch_columns(NULL) != 0)
+        stop("a count of NULL");
+    if (arrowstream_batch_column(NULL, path, 1, &column) != ARROWSTREAM_MISUSE
         || memcmp(as_it_was, &column, sizeof column) != 0)
         stop("a column of NULL");
-    arrow_reader_free(NULL);
-    arrow_batch_free(NULL);
+    arrowstream_reader_free(NULL);
+    arrowstream_batch_free(NULL);
 }
 
 int main(int count, char **words) {

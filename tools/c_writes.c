@@ -14,7 +14,13 @@
 #include <string.h>
 
 /* TAKEN: after this batch, all bytes are taken. */
-enum { MOST = 1 << 20, FILL = 0xa5, PIECE = 7, TAKEN = 1, OUT_OF_MEMORY_IN_SINK = ARROW_WRITE + 9 };
+enum {
+    MOST = 1 << 20,
+    FILL = 0xa5,
+    PIECE = 7,
+    TAKEN = 1,
+    OUT_OF_MEMORY_IN_SINK = ARROWSTREAM_WRITE + 9
+};
 
 void *__real_malloc(size_t count);
 void *__real_realloc(void *block, size_t count);
@@ -68,95 +74,113 @@ typedef struct {
     {'{', 0, 0, NULL, NULL}, {'i', 0, -5, NULL, NULL}, {'e', 0, 0, NULL, NULL}
 
 static const step steps[] = {
-    {'n', ARROW_MISUSE, 0, NULL, "call out of order"},
-    {'f', ARROW_MISUSE, 0, NULL, NULL},
-    {'S', ARROW_TEXT + 6, 0, "{\"fields\":[]", "X6 BadSchemaJson"},
-    {'S', ARROW_TEXT + 6, 0, "\xff", "X6 BadSchemaJson"},
-    {'S', ARROW_OK, 0, schema, NULL},
-    {'S', ARROW_MISUSE, 0, schema, NULL},
-    {'e', ARROW_MISUSE, 0, NULL, "call out of order"},
-    ROW(1, "Bonn"), {'r', ARROW_OK, 0, NULL, NULL},
-    ROW(300, "Bonn"), {'r', ARROW_WRITE + 4, 0, NULL, "W4 OutOfRange at row 1 path 0"},
-    {'i', ARROW_OK, 1, NULL, NULL}, {'r', ARROW_WRITE + 2, 0, NULL, "W2 RowWidth at row 1 path"},
-    {'r', ARROW_WRITE + 2, 0, NULL, NULL},
-    {'t', ARROW_NOT_UTF8, 0, "\xff", "text is not UTF-8"},
-    ROW(2, "Bonn"), {'[', ARROW_OK, 0, NULL, NULL}, {'r', ARROW_MISUSE, 0, NULL, NULL},
-    {'e', ARROW_OK, 0, NULL, NULL}, {'r', ARROW_WRITE + 2, 0, NULL, NULL},
-    ROW(3, "Kiel"), {'r', ARROW_OK, 0, NULL, NULL},
-    {'p', ARROW_OK, 0, "one", NULL}, {'p', ARROW_NOT_UTF8, 0, "\xff", "text is not UTF-8"},
-    {'p', ARROW_OK, 0, "", NULL}, {'p', ARROW_OK, 0, "one", NULL},
-    {'i', ARROW_OK, 4, NULL, NULL}, {'f', ARROW_MISUSE, 0, NULL, "call out of order"},
-    {'s', ARROW_OK, TAKEN, NULL, NULL},
-    {'n', ARROW_OK, 0, NULL, NULL}, {'n', ARROW_OK, 0, NULL, NULL}, {'n', ARROW_OK, 0, NULL, NULL},
-    {'n', ARROW_OK, 0, NULL, NULL}, {'n', ARROW_OK, 0, NULL, NULL}, {'n', ARROW_OK, 0, NULL, NULL},
-    {'r', ARROW_OK, 0, NULL, NULL}, {'f', ARROW_MISUSE, 0, NULL, NULL},
-    {'s', ARROW_OK, 0, NULL, NULL},
-    {'p', ARROW_OK, 0, "two", NULL}, {'f', ARROW_MISUSE, 0, NULL, "call out of order"},
-    {'s', ARROW_OK, 0, NULL, NULL},
-    {'f', ARROW_OK, 0, NULL, NULL},
-    {'n', ARROW_WRITE_FAILED, 0, NULL, "call out of order"},
-    {'f', ARROW_WRITE_FAILED, 0, NULL, NULL},
+    {'n', ARROWSTREAM_MISUSE, 0, NULL, "call out of order"},
+    {'f', ARROWSTREAM_MISUSE, 0, NULL, NULL},
+    {'S', ARROWSTREAM_TEXT + 6, 0, "{\"fields\":[]", "X6 BadSchemaJson"},
+    {'S', ARROWSTREAM_TEXT + 6, 0, "\xff", "X6 BadSchemaJson"},
+    {'S', ARROWSTREAM_OK, 0, schema, NULL},
+    {'S', ARROWSTREAM_MISUSE, 0, schema, NULL},
+    {'e', ARROWSTREAM_MISUSE, 0, NULL, "call out of order"},
+    ROW(1, "Bonn"),
+    {'r', ARROWSTREAM_OK, 0, NULL, NULL},
+    ROW(300, "Bonn"),
+    {'r', ARROWSTREAM_WRITE + 4, 0, NULL, "W4 OutOfRange at row 1 path 0"},
+    {'i', ARROWSTREAM_OK, 1, NULL, NULL},
+    {'r', ARROWSTREAM_WRITE + 2, 0, NULL, "W2 RowWidth at row 1 path"},
+    {'r', ARROWSTREAM_WRITE + 2, 0, NULL, NULL},
+    {'t', ARROWSTREAM_NOT_UTF8, 0, "\xff", "text is not UTF-8"},
+    ROW(2, "Bonn"),
+    {'[', ARROWSTREAM_OK, 0, NULL, NULL},
+    {'r', ARROWSTREAM_MISUSE, 0, NULL, NULL},
+    {'e', ARROWSTREAM_OK, 0, NULL, NULL},
+    {'r', ARROWSTREAM_WRITE + 2, 0, NULL, NULL},
+    ROW(3, "Kiel"),
+    {'r', ARROWSTREAM_OK, 0, NULL, NULL},
+    {'p', ARROWSTREAM_OK, 0, "one", NULL},
+    {'p', ARROWSTREAM_NOT_UTF8, 0, "\xff", "text is not UTF-8"},
+    {'p', ARROWSTREAM_OK, 0, "", NULL},
+    {'p', ARROWSTREAM_OK, 0, "one", NULL},
+    {'i', ARROWSTREAM_OK, 4, NULL, NULL},
+    {'f', ARROWSTREAM_MISUSE, 0, NULL, "call out of order"},
+    {'s', ARROWSTREAM_OK, TAKEN, NULL, NULL},
+    {'n', ARROWSTREAM_OK, 0, NULL, NULL},
+    {'n', ARROWSTREAM_OK, 0, NULL, NULL},
+    {'n', ARROWSTREAM_OK, 0, NULL, NULL},
+    {'n', ARROWSTREAM_OK, 0, NULL, NULL},
+    {'n', ARROWSTREAM_OK, 0, NULL, NULL},
+    {'n', ARROWSTREAM_OK, 0, NULL, NULL},
+    {'r', ARROWSTREAM_OK, 0, NULL, NULL},
+    {'f', ARROWSTREAM_MISUSE, 0, NULL, NULL},
+    {'s', ARROWSTREAM_OK, 0, NULL, NULL},
+    {'p', ARROWSTREAM_OK, 0, "two", NULL},
+    {'f', ARROWSTREAM_MISUSE, 0, NULL, "call out of order"},
+    {'s', ARROWSTREAM_OK, 0, NULL, NULL},
+    {'f', ARROWSTREAM_OK, 0, NULL, NULL},
+    {'n', ARROWSTREAM_WRITE_FAILED, 0, NULL, "call out of order"},
+    {'f', ARROWSTREAM_WRITE_FAILED, 0, NULL, NULL},
 };
 
-static uint32_t make(arrow_writer *writer, const step *now) {
+static uint32_t make(arrowstream_writer *writer, const step *now) {
     const uint8_t *text = (const uint8_t *)(now->text ? now->text : "");
     size_t length = strlen((const char *)text);
     switch (now->call) {
-    case 'S': return arrow_writer_schema(writer, text, length);
-    case 'n': return arrow_writer_null(writer);
-    case 'b': return arrow_writer_bool(writer, (uint32_t)now->number);
-    case 'i': return arrow_writer_int(writer, now->number);
-    case 'u': return arrow_writer_uint(writer, (uint64_t)now->number);
-    case 'x': return arrow_writer_bytes(writer, text, length);
-    case 't': return arrow_writer_text(writer, text, length);
-    case '[': return arrow_writer_begin_list(writer);
-    case '{': return arrow_writer_begin_struct(writer);
-    case 'e': return arrow_writer_end(writer);
-    case 'r': return arrow_writer_row(writer);
-    case 'p': return arrow_writer_pair(writer, text, length, text, length);
-    case 's': return arrow_writer_send(writer);
-    default: return arrow_writer_finish(writer);
+    case 'S': return arrowstream_writer_schema(writer, text, length);
+    case 'n': return arrowstream_writer_null(writer);
+    case 'b': return arrowstream_writer_bool(writer, (uint32_t)now->number);
+    case 'i': return arrowstream_writer_int(writer, now->number);
+    case 'u': return arrowstream_writer_uint(writer, (uint64_t)now->number);
+    case 'x': return arrowstream_writer_bytes(writer, text, length);
+    case 't': return arrowstream_writer_text(writer, text, length);
+    case '[': return arrowstream_writer_begin_list(writer);
+    case '{': return arrowstream_writer_begin_struct(writer);
+    case 'e': return arrowstream_writer_end(writer);
+    case 'r': return arrowstream_writer_row(writer);
+    case 'p': return arrowstream_writer_pair(writer, text, length, text, length);
+    case 's': return arrowstream_writer_send(writer);
+    default: return arrowstream_writer_finish(writer);
     }
 }
 
 /* Compares the line with the one that is wanted. Returns whether memory ran out. */
-static int is_line_lost(arrow_writer *writer, const char *line, size_t at) {
+static int is_line_lost(arrowstream_writer *writer, const char *line, size_t at) {
     uint8_t text[64];
     size_t wanted = 0;
     memset(text, FILL, sizeof text);
-    uint32_t status = arrow_writer_line(writer, text, 3, &wanted);
-    if (status == ARROW_OUT_OF_MEMORY) return 1;
-    if (status != ARROW_OK || wanted != strlen(line) || text[0] != FILL) stop("a line cut", at);
-    status = arrow_writer_line(writer, text, sizeof text, &wanted);
-    if (status == ARROW_OUT_OF_MEMORY) return 1;
-    if (status != ARROW_OK || memcmp(text, line, wanted) != 0) stop("another line", at);
+    uint32_t status = arrowstream_writer_line(writer, text, 3, &wanted);
+    if (status == ARROWSTREAM_OUT_OF_MEMORY) return 1;
+    if (status != ARROWSTREAM_OK || wanted != strlen(line) || text[0] != FILL)
+        stop("a line cut", at);
+    status = arrowstream_writer_line(writer, text, sizeof text, &wanted);
+    if (status == ARROWSTREAM_OUT_OF_MEMORY) return 1;
+    if (status != ARROWSTREAM_OK || memcmp(text, line, wanted) != 0) stop("another line", at);
     return 0;
 }
 
 /* Takes all bytes, a few at a time, and writes them if asked to. */
-static void take(arrow_writer *writer, int writes) {
+static void take(arrowstream_writer *writer, int writes) {
     uint8_t bytes[PIECE + 1];
-    for (size_t ready = arrow_writer_ready(writer); ready > 0; ready = arrow_writer_ready(writer)) {
+    for (size_t ready = arrowstream_writer_ready(writer); ready > 0;
+         ready = arrowstream_writer_ready(writer)) {
         memset(bytes, FILL, sizeof bytes);
-        size_t count = arrow_writer_take(writer, bytes, PIECE);
+        size_t count = arrowstream_writer_take(writer, bytes, PIECE);
         if (count != (ready < PIECE ? ready : PIECE)) stop("another count", ready);
         if (bytes[count] != FILL) stop("a byte past the end", ready);
         if (writes && fwrite(bytes, 1, count, stdout) != count) stop("no output", ready);
     }
-    if (arrow_writer_take(writer, bytes, PIECE) != 0) stop("bytes after the last", 0);
+    if (arrowstream_writer_take(writer, bytes, PIECE) != 0) stop("bytes after the last", 0);
 }
 
 /* Makes all calls, and takes what the first batch made. Returns whether memory ran out. */
-static int run(arrow_writer *writer, int writes) {
+static int run(arrowstream_writer *writer, int writes) {
     int lost = 0;
     uint8_t none = 0;
     size_t wanted = 1;
-    if (arrow_writer_line(writer, &none, 0, &wanted) != ARROW_ABSENT || wanted != 0)
+    if (arrowstream_writer_line(writer, &none, 0, &wanted) != ARROWSTREAM_ABSENT || wanted != 0)
         stop("a line without an error", 0);
     for (size_t at = 0; at < sizeof steps / sizeof *steps; at++) {
         uint32_t status = make(writer, &steps[at]);
-        if (status == ARROW_WRITE_OUT_OF_MEMORY || status == OUT_OF_MEMORY_IN_SINK) {
-            if (make(writer, &steps[at]) != ARROW_WRITE_FAILED) stop("it goes on", at);
+        if (status == ARROWSTREAM_WRITE_OUT_OF_MEMORY || status == OUT_OF_MEMORY_IN_SINK) {
+            if (make(writer, &steps[at]) != ARROWSTREAM_WRITE_FAILED) stop("it goes on", at);
             return 1;
         }
         if (status != steps[at].status) stop("another status", at);
@@ -168,14 +192,14 @@ static int run(arrow_writer *writer, int writes) {
 
 /* Runs the script. Returns whether memory ran out. */
 static int write_stream(int writes) {
-    arrow_limits limits;
-    arrow_writer *writer = NULL;
-    arrow_limits_standard(&limits);
-    arrow_writer_open(&limits, &writer);
+    arrowstream_limits limits;
+    arrowstream_writer *writer = NULL;
+    arrowstream_limits_standard(&limits);
+    arrowstream_writer_open(&limits, &writer);
     if (!writer) return 1;
     int lost = run(writer, writes);
     take(writer, writes);
-    arrow_writer_free(writer);
+    arrowstream_writer_free(writer);
     return lost;
 }
 
@@ -184,33 +208,39 @@ static void call_at_null(void) {
     uint8_t bytes[2] = {FILL, FILL};
     size_t wanted = 1, count = sizeof steps / sizeof *steps;
     for (size_t at = 0; at < count; at++)
-        if (make(NULL, &steps[at]) != ARROW_MISUSE) stop("another status at NULL", at);
-    if (arrow_writer_columns(NULL, NULL) != ARROW_MISUSE) stop("columns at NULL", 0);
-    if (arrow_writer_ready(NULL) != 0 || arrow_writer_take(NULL, bytes, sizeof bytes) != 0)
+        if (make(NULL, &steps[at]) != ARROWSTREAM_MISUSE) stop("another status at NULL", at);
+    if (arrowstream_writer_columns(NULL, NULL) != ARROWSTREAM_MISUSE) stop("columns at NULL", 0);
+    if (arrowstream_writer_ready(NULL) != 0
+        || arrowstream_writer_take(NULL, bytes, sizeof bytes) != 0)
         stop("bytes of NULL", 0);
-    if (arrow_writer_line(NULL, bytes, sizeof bytes, &wanted) != ARROW_MISUSE || wanted != 0)
+    if (arrowstream_writer_line(NULL, bytes, sizeof bytes, &wanted) != ARROWSTREAM_MISUSE
+        || wanted != 0)
         stop("a line of NULL", 0);
     if (bytes[0] != FILL || bytes[1] != FILL) stop("a byte written at NULL", 0);
-    arrow_writer_free(NULL);
+    arrowstream_writer_free(NULL);
 }
 
-static void copy_schema(arrow_reader *reader, arrow_writer *writer) {
+static void copy_schema(arrowstream_reader *reader, arrowstream_writer *writer) {
     static uint8_t text[MOST];
     size_t wanted = 0;
-    if (arrow_reader_schema(reader, text, sizeof text, &wanted) != ARROW_OK) stop("no schema", 0);
-    if (arrow_writer_schema(writer, text, wanted) != ARROW_OK) stop("another schema", 0);
+    if (arrowstream_reader_schema(reader, text, sizeof text, &wanted) != ARROWSTREAM_OK)
+        stop("no schema", 0);
+    if (arrowstream_writer_schema(writer, text, wanted) != ARROWSTREAM_OK)
+        stop("another schema", 0);
 }
 
-static void copy_batch(arrow_reader *reader, arrow_writer *writer) {
-    arrow_batch *batch = NULL;
-    arrow_reader_take(reader, &batch);
+static void copy_batch(arrowstream_reader *reader, arrowstream_writer *writer) {
+    arrowstream_batch *batch = NULL;
+    arrowstream_reader_take(reader, &batch);
     if (!batch) stop("no batch", 0);
-    size_t rows = arrow_batch_rows(batch);
-    if (arrow_writer_columns(writer, NULL) != ARROW_MISUSE) stop("columns of NULL", rows);
-    if (arrow_writer_columns(NULL, batch) != ARROW_MISUSE) stop("columns at NULL", rows);
-    if (arrow_writer_columns(writer, batch) != ARROW_OK) stop("refused columns", rows);
-    if (arrow_batch_rows(batch) != rows) stop("another batch", rows);
-    arrow_batch_free(batch);
+    size_t rows = arrowstream_batch_rows(batch);
+    if (arrowstream_writer_columns(writer, NULL) != ARROWSTREAM_MISUSE)
+        stop("columns of NULL", rows);
+    if (arrowstream_writer_columns(NULL, batch) != ARROWSTREAM_MISUSE)
+        stop("columns at NULL", rows);
+    if (arrowstream_writer_columns(writer, batch) != ARROWSTREAM_OK) stop("refused columns", rows);
+    if (arrowstream_batch_rows(batch) != rows) stop("another batch", rows);
+    arrowstream_batch_free(batch);
     take(writer, 1);
 }
 
@@ -218,25 +248,25 @@ static void copy_batch(arrow_reader *reader, arrow_writer *writer) {
 static void copy_stream(void) {
     static uint8_t bytes[MOST];
     size_t length = fread(bytes, 1, sizeof bytes, stdin), from = 0;
-    arrow_limits limits;
-    arrow_reader *reader = NULL;
-    arrow_writer *writer = NULL;
-    arrow_progress now = {0, 0, 0, ARROW_NOTHING};
-    arrow_limits_standard(&limits);
-    arrow_reader_open(&limits, &reader);
-    arrow_writer_open(&limits, &writer);
+    arrowstream_limits limits;
+    arrowstream_reader *reader = NULL;
+    arrowstream_writer *writer = NULL;
+    arrowstream_progress now = {0, 0, 0, ARROWSTREAM_NOTHING};
+    arrowstream_limits_standard(&limits);
+    arrowstream_reader_open(&limits, &reader);
+    arrowstream_writer_open(&limits, &writer);
     if (!reader || !writer) stop("no memory", 0);
-    while (from < length && now.event != ARROW_END) {
-        if (arrow_reader_feed(reader, bytes + from, length - from, &now) != ARROW_OK)
+    while (from < length && now.event != ARROWSTREAM_END) {
+        if (arrowstream_reader_feed(reader, bytes + from, length - from, &now) != ARROWSTREAM_OK)
             stop("a refused stream", from);
         from += now.taken;
-        if (now.event == ARROW_SCHEMA) copy_schema(reader, writer);
-        if (now.event == ARROW_BATCH) copy_batch(reader, writer);
+        if (now.event == ARROWSTREAM_SCHEMA) copy_schema(reader, writer);
+        if (now.event == ARROWSTREAM_BATCH) copy_batch(reader, writer);
     }
-    if (arrow_writer_finish(writer) != ARROW_OK) stop("no end", from);
+    if (arrowstream_writer_finish(writer) != ARROWSTREAM_OK) stop("no end", from);
     take(writer, 1);
-    arrow_reader_free(reader);
-    arrow_writer_free(writer);
+    arrowstream_reader_free(reader);
+    arrowstream_writer_free(writer);
 }
 
 int main(int count, char **words) {

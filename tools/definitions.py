@@ -61,7 +61,7 @@ PAGES = [
      ["ipc_text_*/src/*.rt"]),
     ("JOBS", "The jobs of the command", "`print`, `rewrite`, `from_csv`, `read_words`, `run`",
      ["job_*/src/*.rt"]),
-    ("C", "The library for C", "`arrow_reader_feed` and the other exports",
+    ("C", "The library for C", "`arrowstream_reader_feed` and the other exports",
      ["ipc_stream_session/src/*.rt", "arrowstream_c/src/*.rt"]),
     ("LAYERS", "The layers below", "the calls by which the crates use one another",
      ["*/src/*.rt"]),

@@ -14,17 +14,20 @@
 enum { DONE = 0, REFUSED = 1, USAGE = 2, INPUT_FAILED = 3, NO_MEMORY = 4, MOST_STEPS = 80 };
 
 typedef struct {
-    arrow_column facts;
+    arrowstream_column facts;
     uint8_t *validity, *offsets, *values;
 } column_copy;
 
 /* Copies a buffer into memory of its own, which the caller frees. NULL: memory ran out. */
-static uint8_t *copy_buffer(arrow_batch *batch, const uint64_t *path, size_t steps, uint32_t buffer,
-                            size_t count) {
+static uint8_t *copy_buffer(arrowstream_batch *batch, const uint64_t *path, size_t steps,
+                            uint32_t buffer, size_t count) {
     size_t wanted = 0;
     uint8_t *bytes = malloc(count + 1);
-    if (bytes && (arrow_batch_buffer(batch, path, steps, buffer, bytes, count, &wanted) != ARROW_OK
-                  || wanted != count)) abort();
+    if (bytes
+        && (arrowstream_batch_buffer(batch, path, steps, buffer, bytes, count, &wanted)
+                != ARROWSTREAM_OK
+            || wanted != count))
+        abort();
     return bytes;
 }
 
@@ -34,18 +37,20 @@ static void free_copy(column_copy *column) {
     free(column->values);
 }
 
-static int copy_column(arrow_batch *batch, const uint64_t *path, size_t steps, column_copy *out) {
-    if (arrow_batch_column(batch, path, steps, &out->facts) != ARROW_OK) abort();
-    out->validity = copy_buffer(batch, path, steps, ARROW_BUFFER_VALIDITY, out->facts.validity);
-    out->offsets = copy_buffer(batch, path, steps, ARROW_BUFFER_OFFSETS, out->facts.offsets);
-    out->values = copy_buffer(batch, path, steps, ARROW_BUFFER_VALUES, out->facts.values);
+static int copy_column(arrowstream_batch *batch, const uint64_t *path, size_t steps,
+                       column_copy *out) {
+    if (arrowstream_batch_column(batch, path, steps, &out->facts) != ARROWSTREAM_OK) abort();
+    out->validity =
+        copy_buffer(batch, path, steps, ARROWSTREAM_BUFFER_VALIDITY, out->facts.validity);
+    out->offsets = copy_buffer(batch, path, steps, ARROWSTREAM_BUFFER_OFFSETS, out->facts.offsets);
+    out->values = copy_buffer(batch, path, steps, ARROWSTREAM_BUFFER_VALUES, out->facts.values);
     if (out->validity && out->offsets && out->values) return DONE;
     free_copy(out);
     return NO_MEMORY;
 }
 
 static int is_null(const column_copy *column, size_t slot) {
-    if (column->facts.layout.kind == ARROW_LAYOUT_NULL) return 1;
+    if (column->facts.layout.kind == ARROWSTREAM_LAYOUT_NULL) return 1;
     return column->facts.validity != 0 && !(column->validity[slot / 8] >> (slot % 8) & 1);
 }
 
@@ -55,7 +60,7 @@ static uint64_t little_endian(const uint8_t *bytes, size_t count) {
     return number;
 }
 
-static void print_number(const arrow_layout *layout, const uint8_t *values, size_t slot) {
+static void print_number(const arrowstream_layout *layout, const uint8_t *values, size_t slot) {
     size_t count = layout->bits / 8;
     uint64_t number = little_endian(values + count * slot, count);
     uint64_t sign = UINT64_C(1) << (layout->bits - 1);
@@ -68,7 +73,7 @@ static void print_bytes(const uint8_t *bytes, size_t count) {
 }
 
 static void print_slot(const column_copy *column, size_t slot) {
-    const arrow_layout *layout = &column->facts.layout;
+    const arrowstream_layout *layout = &column->facts.layout;
     size_t from = 0, to = 0;
     if (column->facts.offsets != 0) {
         from = (size_t)little_endian(column->offsets + 4 * slot, 4);
@@ -79,21 +84,21 @@ static void print_slot(const column_copy *column, size_t slot) {
         return;
     }
     switch (layout->kind) {
-    case ARROW_LAYOUT_BITS:
+    case ARROWSTREAM_LAYOUT_BITS:
         printf(column->values[slot / 8] >> (slot % 8) & 1 ? "true" : "false");
         return;
-    case ARROW_LAYOUT_NUMBERS:
-    case ARROW_LAYOUT_INDICES:
+    case ARROWSTREAM_LAYOUT_NUMBERS:
+    case ARROWSTREAM_LAYOUT_INDICES:
         print_number(layout, column->values, slot);
         return;
-    case ARROW_LAYOUT_FIXED_BYTES:
+    case ARROWSTREAM_LAYOUT_FIXED_BYTES:
         print_bytes(column->values + (size_t)layout->size * slot, layout->size);
         return;
-    case ARROW_LAYOUT_BYTES:
-    case ARROW_LAYOUT_TEXTS:
+    case ARROWSTREAM_LAYOUT_BYTES:
+    case ARROWSTREAM_LAYOUT_TEXTS:
         print_bytes(column->values + from, to - from);
         return;
-    case ARROW_LAYOUT_LISTS:
+    case ARROWSTREAM_LAYOUT_LISTS:
         printf("%zu..%zu", from, to);
         return;
     default:
@@ -102,13 +107,14 @@ static void print_slot(const column_copy *column, size_t slot) {
 }
 
 /* Prints the column to which a path leads, and those below it. */
-static int print_column(arrow_batch *batch, uint64_t *path, size_t steps) {
+static int print_column(arrowstream_batch *batch, uint64_t *path, size_t steps) {
     column_copy column;
     if (copy_column(batch, path, steps, &column) != DONE) return NO_MEMORY;
-    const arrow_column *facts = &column.facts;
+    const arrowstream_column *facts = &column.facts;
     printf("column");
     for (size_t i = 0; i < steps; i++) {
-        if (path[i] == ARROW_DICTIONARY) printf(" dictionary");
+        if (path[i] == ARROWSTREAM_DICTIONARY)
+            printf(" dictionary");
         else printf(" %" PRIu64, path[i]);
     }
     printf(", layout %u, %zu slots, %" PRIu64 " nulls:", facts->layout.kind, facts->slots,
@@ -124,48 +130,48 @@ static int print_column(arrow_batch *batch, uint64_t *path, size_t steps) {
         path[steps] = child;
         status = print_column(batch, path, steps + 1);
     }
-    path[steps] = ARROW_DICTIONARY;
-    arrow_column values;
-    if (status == DONE && facts->layout.kind == ARROW_LAYOUT_INDICES
-        && arrow_batch_column(batch, path, steps + 1, &values) == ARROW_OK)
+    path[steps] = ARROWSTREAM_DICTIONARY;
+    arrowstream_column values;
+    if (status == DONE && facts->layout.kind == ARROWSTREAM_LAYOUT_INDICES
+        && arrowstream_batch_column(batch, path, steps + 1, &values) == ARROWSTREAM_OK)
         status = print_column(batch, path, steps + 1);
     return status;
 }
 
 /* Prints a text of which a call copies as much as is wanted. */
-#define PRINT_TEXT(stream, call, object)                                                    \
-    do {                                                                                    \
-        size_t wanted = 0, room = 1;                                                        \
-        uint8_t *text = malloc(room);                                                       \
-        while (text && call((object), text, room, &wanted) == ARROW_OK && wanted > room) {  \
-            free(text);                                                                     \
-            text = malloc(room = wanted);                                                   \
-        }                                                                                   \
-        if (text) fprintf((stream), "%.*s\n", (int)wanted, (const char *)text);             \
-        free(text);                                                                         \
+#define PRINT_TEXT(stream, call, object)                                                           \
+    do {                                                                                           \
+        size_t wanted = 0, room = 1;                                                               \
+        uint8_t *text = malloc(room);                                                              \
+        while (text && call((object), text, room, &wanted) == ARROWSTREAM_OK && wanted > room) {   \
+            free(text);                                                                            \
+            text = malloc(room = wanted);                                                          \
+        }                                                                                          \
+        if (text) fprintf((stream), "%.*s\n", (int)wanted, (const char *)text);                    \
+        free(text);                                                                                \
     } while (0)
 
-static int print_batch(arrow_reader *reader, size_t *rows) {
-    arrow_batch *batch = NULL;
+static int print_batch(arrowstream_reader *reader, size_t *rows) {
+    arrowstream_batch *batch = NULL;
     uint64_t path[MOST_STEPS];
     int status = DONE;
-    arrow_reader_take(reader, &batch);
+    arrowstream_reader_take(reader, &batch);
     if (!batch) return NO_MEMORY;
-    *rows += arrow_batch_rows(batch);
-    printf("batch, %zu rows, %zu columns, pairs ", arrow_batch_rows(batch),
-           arrow_batch_columns(batch));
-    PRINT_TEXT(stdout, arrow_batch_pairs, batch);
-    for (size_t column = 0; column < arrow_batch_columns(batch) && status == DONE; column++) {
+    *rows += arrowstream_batch_rows(batch);
+    printf("batch, %zu rows, %zu columns, pairs ", arrowstream_batch_rows(batch),
+           arrowstream_batch_columns(batch));
+    PRINT_TEXT(stdout, arrowstream_batch_pairs, batch);
+    for (size_t column = 0; column < arrowstream_batch_columns(batch) && status == DONE; column++) {
         path[0] = column;
         status = print_column(batch, path, 1);
     }
-    arrow_batch_free(batch);
+    arrowstream_batch_free(batch);
     return status;
 }
 
-static int refuse(arrow_reader *reader, uint32_t number) {
-    PRINT_TEXT(stderr, arrow_reader_line, reader);
-    return number == ARROW_OUT_OF_MEMORY ? NO_MEMORY : REFUSED;
+static int refuse(arrowstream_reader *reader, uint32_t number) {
+    PRINT_TEXT(stderr, arrowstream_reader_line, reader);
+    return number == ARROWSTREAM_OUT_OF_MEMORY ? NO_MEMORY : REFUSED;
 }
 
 typedef struct {
@@ -174,50 +180,50 @@ typedef struct {
 } counts;
 
 /* Feeds all bytes of a piece, and prints what they complete. */
-static int feed_piece(arrow_reader *reader, const uint8_t *bytes, size_t count, counts *all) {
+static int feed_piece(arrowstream_reader *reader, const uint8_t *bytes, size_t count, counts *all) {
     while (count > 0 && !all->is_over) {
-        arrow_progress now;
+        arrowstream_progress now;
         int status = DONE;
-        uint32_t number = arrow_reader_feed(reader, bytes, count, &now);
-        if (number != ARROW_OK) return refuse(reader, number);
+        uint32_t number = arrowstream_reader_feed(reader, bytes, count, &now);
+        if (number != ARROWSTREAM_OK) return refuse(reader, number);
         bytes += now.taken;
         count -= now.taken;
         all->bytes += now.taken;
-        if (now.event == ARROW_SCHEMA) PRINT_TEXT(stdout, arrow_reader_schema, reader);
-        if (now.event == ARROW_BATCH) status = print_batch(reader, &all->rows);
-        all->batches += now.event == ARROW_BATCH;
-        all->is_over = now.event == ARROW_END;
+        if (now.event == ARROWSTREAM_SCHEMA) PRINT_TEXT(stdout, arrowstream_reader_schema, reader);
+        if (now.event == ARROWSTREAM_BATCH) status = print_batch(reader, &all->rows);
+        all->batches += now.event == ARROWSTREAM_BATCH;
+        all->is_over = now.event == ARROWSTREAM_END;
         if (status != DONE) return status;
     }
     return DONE;
 }
 
-static int read_stream(arrow_reader *reader, uint8_t *bytes, size_t piece) {
+static int read_stream(arrowstream_reader *reader, uint8_t *bytes, size_t piece) {
     counts all = {0, 0, 0, 0};
-    arrow_progress now;
+    arrowstream_progress now;
     size_t count;
     while (!all.is_over && (count = fread(bytes, 1, piece, stdin)) > 0) {
         int status = feed_piece(reader, bytes, count, &all);
         if (status != DONE) return status;
     }
     if (ferror(stdin)) return INPUT_FAILED;
-    uint32_t number = arrow_reader_close(reader, &now);
-    if (number != ARROW_OK) return refuse(reader, number);
-    printf("%s %zu bytes %zu batches %zu rows\n", now.event == ARROW_END ? "mark" : "closed",
+    uint32_t number = arrowstream_reader_close(reader, &now);
+    if (number != ARROWSTREAM_OK) return refuse(reader, number);
+    printf("%s %zu bytes %zu batches %zu rows\n", now.event == ARROWSTREAM_END ? "mark" : "closed",
            all.bytes, all.batches, all.rows);
     return DONE;
 }
 
 int main(int count, char **words) {
     size_t piece = count > 1 ? strtoull(words[1], NULL, 10) : 65536;
-    if (piece == 0 || arrow_version() != ARROW_VERSION) return USAGE;
-    arrow_limits limits;
-    arrow_reader *reader = NULL;
-    arrow_limits_standard(&limits);
-    arrow_reader_open(&limits, &reader);
+    if (piece == 0 || arrowstream_version() != ARROWSTREAM_VERSION) return USAGE;
+    arrowstream_limits limits;
+    arrowstream_reader *reader = NULL;
+    arrowstream_limits_standard(&limits);
+    arrowstream_reader_open(&limits, &reader);
     uint8_t *bytes = malloc(piece);
     int status = reader && bytes ? read_stream(reader, bytes, piece) : NO_MEMORY;
     free(bytes);
-    if (reader) arrow_reader_free(reader);
+    if (reader) arrowstream_reader_free(reader);
     return status;
 }

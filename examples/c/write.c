@@ -37,85 +37,88 @@ static const char schema[] =
     "\"dictionary\":null,\"metadata\":[]}"
     "],\"metadata\":[]}";
 
-static uint32_t add_text(arrow_writer *writer, const char *text) {
-    return arrow_writer_text(writer, (const uint8_t *)text, strlen(text));
+static uint32_t add_text(arrowstream_writer *writer, const char *text) {
+    return arrowstream_writer_text(writer, (const uint8_t *)text, strlen(text));
 }
 
 /* Adds a list of `count` texts. */
-static uint32_t add_tags(arrow_writer *writer, int64_t count) {
-    uint32_t status = arrow_writer_begin_list(writer);
-    for (int64_t i = 0; i < count && status == ARROW_OK; i++) status = add_text(writer, "tag");
-    return status == ARROW_OK ? arrow_writer_end(writer) : status;
+static uint32_t add_tags(arrowstream_writer *writer, int64_t count) {
+    uint32_t status = arrowstream_writer_begin_list(writer);
+    for (int64_t i = 0; i < count && status == ARROWSTREAM_OK; i++)
+        status = add_text(writer, "tag");
+    return status == ARROWSTREAM_OK ? arrowstream_writer_end(writer) : status;
 }
 
 /* Adds a struct of two integers, or null. */
-static uint32_t add_place(arrow_writer *writer, int64_t id) {
-    if (id % 3 == 2) return arrow_writer_null(writer);
-    uint32_t status = arrow_writer_begin_struct(writer);
-    if (status == ARROW_OK) status = arrow_writer_int(writer, id);
-    if (status == ARROW_OK) status = arrow_writer_int(writer, -id);
-    return status == ARROW_OK ? arrow_writer_end(writer) : status;
+static uint32_t add_place(arrowstream_writer *writer, int64_t id) {
+    if (id % 3 == 2) return arrowstream_writer_null(writer);
+    uint32_t status = arrowstream_writer_begin_struct(writer);
+    if (status == ARROWSTREAM_OK) status = arrowstream_writer_int(writer, id);
+    if (status == ARROWSTREAM_OK) status = arrowstream_writer_int(writer, -id);
+    return status == ARROWSTREAM_OK ? arrowstream_writer_end(writer) : status;
 }
 
-static uint32_t add_row(arrow_writer *writer, int64_t id) {
+static uint32_t add_row(arrowstream_writer *writer, int64_t id) {
     static const char *const towns[] = {"Bonn", "Køln"};
     const uint8_t key[] = {(uint8_t)id, 0};
-    uint32_t status = arrow_writer_int(writer, id);
-    if (status == ARROW_OK)
-        status = id % 2 ? arrow_writer_null(writer) : arrow_writer_uint(writer, 65535);
-    if (status == ARROW_OK) status = arrow_writer_bool(writer, id % 2 == 0);
-    if (status == ARROW_OK) status = add_text(writer, towns[id % 2]);
-    if (status == ARROW_OK) status = arrow_writer_bytes(writer, key, sizeof key);
-    if (status == ARROW_OK) status = add_tags(writer, id % 3);
-    if (status == ARROW_OK) status = add_place(writer, id);
-    return status == ARROW_OK ? arrow_writer_row(writer) : status;
+    uint32_t status = arrowstream_writer_int(writer, id);
+    if (status == ARROWSTREAM_OK)
+        status = id % 2 ? arrowstream_writer_null(writer) : arrowstream_writer_uint(writer, 65535);
+    if (status == ARROWSTREAM_OK) status = arrowstream_writer_bool(writer, id % 2 == 0);
+    if (status == ARROWSTREAM_OK) status = add_text(writer, towns[id % 2]);
+    if (status == ARROWSTREAM_OK) status = arrowstream_writer_bytes(writer, key, sizeof key);
+    if (status == ARROWSTREAM_OK) status = add_tags(writer, id % 3);
+    if (status == ARROWSTREAM_OK) status = add_place(writer, id);
+    return status == ARROWSTREAM_OK ? arrowstream_writer_row(writer) : status;
 }
 
-static uint32_t add_batch(arrow_writer *writer, int64_t first) {
-    uint32_t status = ARROW_OK;
-    for (int64_t row = first; row < first + ROWS && status == ARROW_OK; row++)
+static uint32_t add_batch(arrowstream_writer *writer, int64_t first) {
+    uint32_t status = ARROWSTREAM_OK;
+    for (int64_t row = first; row < first + ROWS && status == ARROWSTREAM_OK; row++)
         status = add_row(writer, row);
-    return status == ARROW_OK ? arrow_writer_send(writer) : status;
+    return status == ARROWSTREAM_OK ? arrowstream_writer_send(writer) : status;
 }
 
 /* Prints the line of the last refusal. */
-static int refuse(arrow_writer *writer, uint32_t status) {
+static int refuse(arrowstream_writer *writer, uint32_t status) {
     uint8_t line[256];
     size_t wanted = 0;
-    if (status == ARROW_WRITE + 9 || status == ARROW_WRITE_OUT_OF_MEMORY) return NO_MEMORY;
-    if (arrow_writer_line(writer, line, sizeof line, &wanted) != ARROW_OK) return NO_MEMORY;
+    if (status == ARROWSTREAM_WRITE + 9 || status == ARROWSTREAM_WRITE_OUT_OF_MEMORY)
+        return NO_MEMORY;
+    if (arrowstream_writer_line(writer, line, sizeof line, &wanted) != ARROWSTREAM_OK)
+        return NO_MEMORY;
     fprintf(stderr, "%.*s\n", (int)(wanted < sizeof line ? wanted : 0), (const char *)line);
     return REFUSED;
 }
 
 /* Writes the bytes that are ready to standard output, after a call with this status. */
-static int put_bytes(arrow_writer *writer, uint32_t status) {
+static int put_bytes(arrowstream_writer *writer, uint32_t status) {
     uint8_t bytes[4096];
-    if (status != ARROW_OK) return refuse(writer, status);
-    while (arrow_writer_ready(writer) > 0) {
-        size_t count = arrow_writer_take(writer, bytes, sizeof bytes);
+    if (status != ARROWSTREAM_OK) return refuse(writer, status);
+    while (arrowstream_writer_ready(writer) > 0) {
+        size_t count = arrowstream_writer_take(writer, bytes, sizeof bytes);
         if (fwrite(bytes, 1, count, stdout) != count) return OUTPUT_FAILED;
     }
     return fflush(stdout) == 0 ? DONE : OUTPUT_FAILED;
 }
 
-static int write_table(arrow_writer *writer, int64_t batches) {
+static int write_table(arrowstream_writer *writer, int64_t batches) {
     const uint8_t *text = (const uint8_t *)schema;
-    int result = put_bytes(writer, arrow_writer_schema(writer, text, strlen(schema)));
+    int result = put_bytes(writer, arrowstream_writer_schema(writer, text, strlen(schema)));
     for (int64_t batch = 0; batch < batches && result == DONE; batch++)
         result = put_bytes(writer, add_batch(writer, batch * ROWS));
-    return result == DONE ? put_bytes(writer, arrow_writer_finish(writer)) : result;
+    return result == DONE ? put_bytes(writer, arrowstream_writer_finish(writer)) : result;
 }
 
 int main(int count, char **words) {
     int64_t batches = count > 1 ? strtoll(words[1], NULL, 10) : 2;
-    if (batches < 0 || arrow_version() != ARROW_VERSION) return USAGE;
-    arrow_limits limits;
-    arrow_writer *writer = NULL;
-    arrow_limits_standard(&limits);
-    arrow_writer_open(&limits, &writer);
+    if (batches < 0 || arrowstream_version() != ARROWSTREAM_VERSION) return USAGE;
+    arrowstream_limits limits;
+    arrowstream_writer *writer = NULL;
+    arrowstream_limits_standard(&limits);
+    arrowstream_writer_open(&limits, &writer);
     if (!writer) return NO_MEMORY;
     int result = write_table(writer, batches);
-    arrow_writer_free(writer);
+    arrowstream_writer_free(writer);
     return result;
 }

@@ -21,7 +21,7 @@ _ROOM = 1 << 12
 
 
 class Limits(ctypes.Structure):
-    """`arrow_limits`."""
+    """`arrowstream_limits`."""
 
     _fields_ = [
         (name, ctypes.c_uint64)
@@ -30,7 +30,7 @@ class Limits(ctypes.Structure):
 
 
 class Progress(ctypes.Structure):
-    """`arrow_progress`."""
+    """`arrowstream_progress`."""
 
     _fields_ = [
         ("taken", ctypes.c_size_t),
@@ -41,7 +41,7 @@ class Progress(ctypes.Structure):
 
 
 class Layout(ctypes.Structure):
-    """`arrow_layout`."""
+    """`arrowstream_layout`."""
 
     _fields_ = [
         ("kind", ctypes.c_uint32),
@@ -53,7 +53,7 @@ class Layout(ctypes.Structure):
 
 
 class ColumnFacts(ctypes.Structure):
-    """`arrow_column`."""
+    """`arrowstream_column`."""
 
     _fields_ = [
         ("layout", Layout),
@@ -73,44 +73,44 @@ _TEXT = [_HANDLE, ctypes.c_void_p, _SIZE, ctypes.POINTER(_SIZE)]
 _PATH = [_HANDLE, ctypes.POINTER(ctypes.c_uint64), _SIZE]
 _BYTES = [_HANDLE, ctypes.c_char_p, _SIZE]
 _CALLS = {
-    "arrow_version": (_STATUS, []),
-    "arrow_limits_standard": (None, [ctypes.POINTER(Limits)]),
-    "arrow_reader_open": (None, [ctypes.POINTER(Limits), ctypes.POINTER(_HANDLE)]),
-    "arrow_reader_feed": (_STATUS, [_HANDLE, _HANDLE, _SIZE, ctypes.POINTER(Progress)]),
-    "arrow_reader_close": (_STATUS, [_HANDLE, ctypes.POINTER(Progress)]),
-    "arrow_reader_schema": (_STATUS, _TEXT),
-    "arrow_reader_line": (_STATUS, _TEXT),
-    "arrow_reader_take": (None, [_HANDLE, ctypes.POINTER(_HANDLE)]),
-    "arrow_reader_free": (None, [_HANDLE]),
-    "arrow_batch_rows": (_SIZE, [_HANDLE]),
-    "arrow_batch_columns": (_SIZE, [_HANDLE]),
-    "arrow_batch_pairs": (_STATUS, _TEXT),
-    "arrow_batch_column": (_STATUS, [*_PATH, ctypes.POINTER(ColumnFacts)]),
-    "arrow_batch_buffer": (
+    "arrowstream_version": (_STATUS, []),
+    "arrowstream_limits_standard": (None, [ctypes.POINTER(Limits)]),
+    "arrowstream_reader_open": (None, [ctypes.POINTER(Limits), ctypes.POINTER(_HANDLE)]),
+    "arrowstream_reader_feed": (_STATUS, [_HANDLE, _HANDLE, _SIZE, ctypes.POINTER(Progress)]),
+    "arrowstream_reader_close": (_STATUS, [_HANDLE, ctypes.POINTER(Progress)]),
+    "arrowstream_reader_schema": (_STATUS, _TEXT),
+    "arrowstream_reader_line": (_STATUS, _TEXT),
+    "arrowstream_reader_take": (None, [_HANDLE, ctypes.POINTER(_HANDLE)]),
+    "arrowstream_reader_free": (None, [_HANDLE]),
+    "arrowstream_batch_rows": (_SIZE, [_HANDLE]),
+    "arrowstream_batch_columns": (_SIZE, [_HANDLE]),
+    "arrowstream_batch_pairs": (_STATUS, _TEXT),
+    "arrowstream_batch_column": (_STATUS, [*_PATH, ctypes.POINTER(ColumnFacts)]),
+    "arrowstream_batch_buffer": (
         _STATUS,
         [*_PATH, ctypes.c_uint32, ctypes.c_void_p, _SIZE, ctypes.POINTER(_SIZE)],
     ),
-    "arrow_batch_free": (None, [_HANDLE]),
-    "arrow_writer_open": (None, [ctypes.POINTER(Limits), ctypes.POINTER(_HANDLE)]),
-    "arrow_writer_schema": (_STATUS, _BYTES),
-    "arrow_writer_null": (_STATUS, [_HANDLE]),
-    "arrow_writer_bool": (_STATUS, [_HANDLE, ctypes.c_uint32]),
-    "arrow_writer_int": (_STATUS, [_HANDLE, ctypes.c_int64]),
-    "arrow_writer_uint": (_STATUS, [_HANDLE, ctypes.c_uint64]),
-    "arrow_writer_bytes": (_STATUS, _BYTES),
-    "arrow_writer_text": (_STATUS, _BYTES),
-    "arrow_writer_begin_list": (_STATUS, [_HANDLE]),
-    "arrow_writer_begin_struct": (_STATUS, [_HANDLE]),
-    "arrow_writer_end": (_STATUS, [_HANDLE]),
-    "arrow_writer_row": (_STATUS, [_HANDLE]),
-    "arrow_writer_pair": (_STATUS, [*_BYTES, ctypes.c_char_p, _SIZE]),
-    "arrow_writer_send": (_STATUS, [_HANDLE]),
-    "arrow_writer_columns": (_STATUS, [_HANDLE, _HANDLE]),
-    "arrow_writer_finish": (_STATUS, [_HANDLE]),
-    "arrow_writer_ready": (_SIZE, [_HANDLE]),
-    "arrow_writer_take": (_SIZE, [_HANDLE, ctypes.c_void_p, _SIZE]),
-    "arrow_writer_line": (_STATUS, _TEXT),
-    "arrow_writer_free": (None, [_HANDLE]),
+    "arrowstream_batch_free": (None, [_HANDLE]),
+    "arrowstream_writer_open": (None, [ctypes.POINTER(Limits), ctypes.POINTER(_HANDLE)]),
+    "arrowstream_writer_schema": (_STATUS, _BYTES),
+    "arrowstream_writer_null": (_STATUS, [_HANDLE]),
+    "arrowstream_writer_bool": (_STATUS, [_HANDLE, ctypes.c_uint32]),
+    "arrowstream_writer_int": (_STATUS, [_HANDLE, ctypes.c_int64]),
+    "arrowstream_writer_uint": (_STATUS, [_HANDLE, ctypes.c_uint64]),
+    "arrowstream_writer_bytes": (_STATUS, _BYTES),
+    "arrowstream_writer_text": (_STATUS, _BYTES),
+    "arrowstream_writer_begin_list": (_STATUS, [_HANDLE]),
+    "arrowstream_writer_begin_struct": (_STATUS, [_HANDLE]),
+    "arrowstream_writer_end": (_STATUS, [_HANDLE]),
+    "arrowstream_writer_row": (_STATUS, [_HANDLE]),
+    "arrowstream_writer_pair": (_STATUS, [*_BYTES, ctypes.c_char_p, _SIZE]),
+    "arrowstream_writer_send": (_STATUS, [_HANDLE]),
+    "arrowstream_writer_columns": (_STATUS, [_HANDLE, _HANDLE]),
+    "arrowstream_writer_finish": (_STATUS, [_HANDLE]),
+    "arrowstream_writer_ready": (_SIZE, [_HANDLE]),
+    "arrowstream_writer_take": (_SIZE, [_HANDLE, ctypes.c_void_p, _SIZE]),
+    "arrowstream_writer_line": (_STATUS, _TEXT),
+    "arrowstream_writer_free": (None, [_HANDLE]),
 }
 
 
@@ -124,7 +124,7 @@ def _load() -> ctypes.PyDLL:
     for name, (result, arguments) in _CALLS.items():
         call = getattr(loaded, name)
         call.restype, call.argtypes = result, arguments
-    found = loaded.arrow_version()
+    found = loaded.arrowstream_version()
     if found != VERSION:
         raise ImportError(f"libarrowstream has version {found}, and {VERSION} is needed")
     return loaded
@@ -148,7 +148,7 @@ def text_of(call: Callable[..., int], handle: ctypes.c_void_p) -> str | None:
 def limits_of(metadata: int | None, body: int | None, slots: int | None) -> Limits:
     """The standard limits, with these in place of some. Raises ValueError."""
     limits = Limits()
-    library.arrow_limits_standard(limits)
+    library.arrowstream_limits_standard(limits)
     for name, value in (("metadata", metadata), ("body", body), ("slots", slots)):
         if value is not None:
             if not 0 <= value < 2**64:

@@ -14,10 +14,10 @@ from .values import EPOCH, EPOCH_DAY, PER_DAY_MS, PER_SECOND
 Cell = Tuple[Any, ...]
 
 _EPOCH_UTC = EPOCH.replace(tzinfo=datetime.timezone.utc)
-_NULL: Cell = (c.library.arrow_writer_null,)
-_LIST: Cell = (c.library.arrow_writer_begin_list,)
-_STRUCT: Cell = (c.library.arrow_writer_begin_struct,)
-_END: Cell = (c.library.arrow_writer_end,)
+_NULL: Cell = (c.library.arrowstream_writer_null,)
+_LIST: Cell = (c.library.arrowstream_writer_begin_list,)
+_STRUCT: Cell = (c.library.arrowstream_writer_begin_struct,)
+_END: Cell = (c.library.arrowstream_writer_end,)
 
 
 def _ticks(passed: datetime.timedelta, unit: str) -> int:
@@ -70,19 +70,19 @@ def _number(field: Field, value: Any) -> int:
 
 def _scalar(field: Field, value: Any) -> Cell:
     if isinstance(value, bool):
-        return c.library.arrow_writer_bool, value
+        return c.library.arrowstream_writer_bool, value
     if isinstance(value, str):
         text = value.encode()
-        return c.library.arrow_writer_text, text, len(text)
+        return c.library.arrowstream_writer_text, text, len(text)
     if isinstance(value, (bytes, bytearray, memoryview)):
         data = bytes(value)
-        return c.library.arrow_writer_bytes, data, len(data)
+        return c.library.arrowstream_writer_bytes, data, len(data)
     number = value if isinstance(value, int) else _number(field, value)
     if not -(2**63) <= number < 2**64:
         raise ValueError(f"{number} has more than 64 bits")
     if number >= 2**63 or (number >= 0 and field.type[0] == "uint"):
-        return c.library.arrow_writer_uint, number
-    return c.library.arrow_writer_int, number
+        return c.library.arrowstream_writer_uint, number
+    return c.library.arrowstream_writer_int, number
 
 
 def _by_name(fields: Sequence[Field], values: dict[str, Any]) -> list[Any]:

@@ -125,15 +125,15 @@ class Batch:
 
     def __del__(self) -> None:
         if self._handle:
-            c.library.arrow_batch_free(self._handle)
+            c.library.arrowstream_batch_free(self._handle)
 
     def __len__(self) -> int:
-        return c.library.arrow_batch_rows(self._handle)
+        return c.library.arrowstream_batch_rows(self._handle)
 
     @functools.cached_property
     def metadata(self) -> tuple[tuple[str, str], ...]:
         """The pairs of key and value of the batch's message."""
-        text = c.text_of(c.library.arrow_batch_pairs, self._handle)
+        text = c.text_of(c.library.arrowstream_batch_pairs, self._handle)
         return pairs_of(json.loads(text or "[]"))
 
     @property
@@ -160,7 +160,7 @@ class Batch:
 
     def _find(self, path: tuple[int, ...]) -> c.ColumnFacts | None:
         facts = c.ColumnFacts()
-        status = c.library.arrow_batch_column(self._handle, c.path_of(path), len(path), facts)
+        status = c.library.arrowstream_batch_column(self._handle, c.path_of(path), len(path), facts)
         return facts if status == c.OK else None
 
     def _has(self, path: tuple[int, ...]) -> bool:
@@ -177,7 +177,7 @@ class Batch:
         if (path, kind) not in self._buffers:
             room, wanted = bytearray(size), ctypes.c_size_t()
             if size:
-                c.library.arrow_batch_buffer(
+                c.library.arrowstream_batch_buffer(
                     self._handle, c.path_of(path), len(path), kind, c.start_of(room), size, wanted
                 )
             self._buffers[path, kind] = memoryview(room)
@@ -199,13 +199,13 @@ class Reader:
         self._schema: Schema | None = None
         self._handle = ctypes.c_void_p()
         self._end: str | None = None
-        c.library.arrow_reader_open(limits, self._handle)
+        c.library.arrowstream_reader_open(limits, self._handle)
         if not self._handle:
             raise MemoryError
 
     def __del__(self) -> None:
         if getattr(self, "_handle", None):
-            c.library.arrow_reader_free(self._handle)
+            c.library.arrowstream_reader_free(self._handle)
 
     def __iter__(self) -> Iterator[Batch]:
         return self
@@ -249,7 +249,7 @@ class Reader:
                 self._piece = memoryview(self._room)[:count]
             progress = c.Progress()
             start, size = c.start_of(self._piece), len(self._piece)
-            self._raise(c.library.arrow_reader_feed(self._handle, start, size, progress))
+            self._raise(c.library.arrowstream_reader_feed(self._handle, start, size, progress))
             self._piece = self._piece[progress.taken :]
             if progress.event == c.SCHEMA:
                 self._read_schema()
@@ -260,18 +260,18 @@ class Reader:
 
     def _close(self) -> int:
         progress = c.Progress()
-        self._raise(c.library.arrow_reader_close(self._handle, progress))
+        self._raise(c.library.arrowstream_reader_close(self._handle, progress))
         self._end = "mark" if progress.event == c.END else "closed"
         return progress.event
 
     def _read_schema(self) -> None:
-        text = c.text_of(c.library.arrow_reader_schema, self._handle)
+        text = c.text_of(c.library.arrowstream_reader_schema, self._handle)
         assert text is not None
         self._schema = schema_of(text)
 
     def _take(self) -> Batch:
         handle = ctypes.c_void_p()
-        c.library.arrow_reader_take(self._handle, handle)
+        c.library.arrowstream_reader_take(self._handle, handle)
         if not handle:
             raise MemoryError
         assert self._schema is not None
@@ -282,7 +282,7 @@ class Reader:
             return
         if status == c.OUT_OF_MEMORY:
             raise MemoryError
-        line = c.text_of(c.library.arrow_reader_line, self._handle)
+        line = c.text_of(c.library.arrowstream_reader_line, self._handle)
         raise ArrowError(line or f"F{status}")
 
 

@@ -62,10 +62,11 @@ class Writer:
         self._waiting = False
         self._handle = ctypes.c_void_p()
         text = _json_of(schema)
-        c.library.arrow_writer_open(c.limits_of(max_metadata, max_body, max_rows), self._handle)
+        limits = c.limits_of(max_metadata, max_body, max_rows)
+        c.library.arrowstream_writer_open(limits, self._handle)
         if not self._handle:
             raise MemoryError
-        self._raise(c.library.arrow_writer_schema(self._handle, text, len(text)))
+        self._raise(c.library.arrowstream_writer_schema(self._handle, text, len(text)))
         self.schema = schema_of(text)
         self._flush()
 
@@ -96,7 +97,7 @@ class Writer:
         self._check()
         for call, *arguments in row_cells(self.schema.fields, row):
             self._raise(call(self._handle, *arguments))
-        self._raise(c.library.arrow_writer_row(self._handle))
+        self._raise(c.library.arrowstream_writer_row(self._handle))
         self._waiting = True
 
     def send(self, metadata: Iterable[tuple[str, str]] = ()) -> None:
@@ -112,9 +113,9 @@ class Writer:
         self._waiting = False
         for key, value in pairs:
             self._raise(
-                c.library.arrow_writer_pair(self._handle, key, len(key), value, len(value))
+                c.library.arrowstream_writer_pair(self._handle, key, len(key), value, len(value))
             )
-        self._raise(c.library.arrow_writer_send(self._handle))
+        self._raise(c.library.arrowstream_writer_send(self._handle))
         self._flush()
 
     def write_batch(
@@ -135,7 +136,7 @@ class Writer:
         if self._waiting:
             self.send()
         if isinstance(batch, Batch):
-            self._raise(c.library.arrow_writer_columns(self._handle, batch._handle))
+            self._raise(c.library.arrowstream_writer_columns(self._handle, batch._handle))
             self._flush()
             return
         is_columns = isinstance(batch, dict)
@@ -151,7 +152,7 @@ class Writer:
         self._check()
         if self._waiting:
             self.send()
-        self._raise(c.library.arrow_writer_finish(self._handle))
+        self._raise(c.library.arrowstream_writer_finish(self._handle))
         self._flush()
         self._free()
 
@@ -166,18 +167,18 @@ class Writer:
             return
         if status in (c.OUT_OF_MEMORY, c.WRITE_OUT_OF_MEMORY):
             raise MemoryError
-        line = c.text_of(c.library.arrow_writer_line, self._handle)
+        line = c.text_of(c.library.arrowstream_writer_line, self._handle)
         raise ArrowError(line or f"status {status}")
 
     def _flush(self) -> None:
         """Writes the bytes that are ready to the file."""
         try:
             while self._handle:
-                size = min(c.library.arrow_writer_ready(self._handle), _PIECE)
+                size = min(c.library.arrowstream_writer_ready(self._handle), _PIECE)
                 if not size:
                     return
                 piece = bytearray(size)
-                count = c.library.arrow_writer_take(self._handle, c.start_of(piece), size)
+                count = c.library.arrowstream_writer_take(self._handle, c.start_of(piece), size)
                 self._write(memoryview(piece)[:count])
         except BaseException:
             # Bytes that the library gave are lost, so the stream cannot go on.
@@ -194,7 +195,7 @@ class Writer:
     def _free(self) -> None:
         handle, self._handle = self._handle, ctypes.c_void_p()
         if handle:
-            c.library.arrow_writer_free(handle)
+            c.library.arrowstream_writer_free(handle)
 
 
 def write(

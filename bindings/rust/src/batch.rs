@@ -114,20 +114,20 @@ impl Batch {
     /// Returns the number of rows.
     pub fn rows(&self) -> usize {
         // SAFETY: the batch was not freed.
-        unsafe { ffi::arrow_batch_rows(self.batch.as_ptr()) }
+        unsafe { ffi::arrowstream_batch_rows(self.batch.as_ptr()) }
     }
 
     /// Returns the number of columns.
     pub fn columns(&self) -> usize {
         // SAFETY: the batch was not freed.
-        unsafe { ffi::arrow_batch_columns(self.batch.as_ptr()) }
+        unsafe { ffi::arrowstream_batch_columns(self.batch.as_ptr()) }
     }
 
     /// Returns the metadata of the batch's message as JSON: an array of pairs of key and value.
     pub fn pairs(&self) -> Result<String, Error> {
         // SAFETY: the batch was not freed; `text` has `length` bytes.
         let text = text_of(|text, length, wanted| unsafe {
-            ffi::arrow_batch_pairs(self.batch.as_ptr(), text, length, wanted)
+            ffi::arrowstream_batch_pairs(self.batch.as_ptr(), text, length, wanted)
         })?;
         Ok(text.unwrap_or_default())
     }
@@ -138,7 +138,12 @@ impl Batch {
         let mut column = ffi::Column::default();
         // SAFETY: the batch was not freed; `path` has this length.
         let status = unsafe {
-            ffi::arrow_batch_column(self.batch.as_ptr(), path.as_ptr(), path.len(), &mut column)
+            ffi::arrowstream_batch_column(
+                self.batch.as_ptr(),
+                path.as_ptr(),
+                path.len(),
+                &mut column,
+            )
         };
         (status == ffi::OK).then(|| Column {
             layout: layout_of(column.layout),
@@ -158,7 +163,7 @@ impl Batch {
         let mut wanted = 0;
         // SAFETY: the batch was not freed; `path` and `bytes` have these lengths.
         let status = unsafe {
-            ffi::arrow_batch_buffer(
+            ffi::arrowstream_batch_buffer(
                 self.batch.as_ptr(),
                 path.as_ptr(),
                 path.len(),
@@ -188,6 +193,6 @@ impl Batch {
 impl Drop for Batch {
     fn drop(&mut self) {
         // SAFETY: the batch was not freed, and is not used after.
-        unsafe { ffi::arrow_batch_free(self.batch.as_ptr()) }
+        unsafe { ffi::arrowstream_batch_free(self.batch.as_ptr()) }
     }
 }

@@ -62,44 +62,44 @@ pub(crate) struct Column {
 }
 
 extern "C" {
-    pub(crate) fn arrow_limits_standard(out: *mut crate::Limits);
-    pub(crate) fn arrow_reader_open(limits: *const crate::Limits, out: *mut *mut Reader);
-    pub(crate) fn arrow_reader_feed(
+    pub(crate) fn arrowstream_limits_standard(out: *mut crate::Limits);
+    pub(crate) fn arrowstream_reader_open(limits: *const crate::Limits, out: *mut *mut Reader);
+    pub(crate) fn arrowstream_reader_feed(
         reader: *mut Reader,
         bytes: *const u8,
         length: usize,
         out: *mut Progress,
     ) -> u32;
-    pub(crate) fn arrow_reader_close(reader: *mut Reader, out: *mut Progress) -> u32;
-    pub(crate) fn arrow_reader_schema(
+    pub(crate) fn arrowstream_reader_close(reader: *mut Reader, out: *mut Progress) -> u32;
+    pub(crate) fn arrowstream_reader_schema(
         reader: *mut Reader,
         text: *mut u8,
         length: usize,
         wanted: *mut usize,
     ) -> u32;
-    pub(crate) fn arrow_reader_line(
+    pub(crate) fn arrowstream_reader_line(
         reader: *mut Reader,
         text: *mut u8,
         length: usize,
         wanted: *mut usize,
     ) -> u32;
-    pub(crate) fn arrow_reader_take(reader: *mut Reader, out: *mut *mut Batch);
-    pub(crate) fn arrow_reader_free(reader: *mut Reader);
-    pub(crate) fn arrow_batch_rows(batch: *mut Batch) -> usize;
-    pub(crate) fn arrow_batch_columns(batch: *mut Batch) -> usize;
-    pub(crate) fn arrow_batch_pairs(
+    pub(crate) fn arrowstream_reader_take(reader: *mut Reader, out: *mut *mut Batch);
+    pub(crate) fn arrowstream_reader_free(reader: *mut Reader);
+    pub(crate) fn arrowstream_batch_rows(batch: *mut Batch) -> usize;
+    pub(crate) fn arrowstream_batch_columns(batch: *mut Batch) -> usize;
+    pub(crate) fn arrowstream_batch_pairs(
         batch: *mut Batch,
         text: *mut u8,
         length: usize,
         wanted: *mut usize,
     ) -> u32;
-    pub(crate) fn arrow_batch_column(
+    pub(crate) fn arrowstream_batch_column(
         batch: *mut Batch,
         path: *const u64,
         steps: usize,
         out: *mut Column,
     ) -> u32;
-    pub(crate) fn arrow_batch_buffer(
+    pub(crate) fn arrowstream_batch_buffer(
         batch: *mut Batch,
         path: *const u64,
         steps: usize,
@@ -108,35 +108,51 @@ extern "C" {
         length: usize,
         wanted: *mut usize,
     ) -> u32;
-    pub(crate) fn arrow_batch_free(batch: *mut Batch);
-    pub(crate) fn arrow_writer_open(limits: *const crate::Limits, out: *mut *mut Writer);
-    pub(crate) fn arrow_writer_schema(writer: *mut Writer, text: *const u8, length: usize) -> u32;
-    pub(crate) fn arrow_writer_null(writer: *mut Writer) -> u32;
-    pub(crate) fn arrow_writer_bool(writer: *mut Writer, value: u32) -> u32;
-    pub(crate) fn arrow_writer_int(writer: *mut Writer, value: i64) -> u32;
-    pub(crate) fn arrow_writer_uint(writer: *mut Writer, value: u64) -> u32;
-    pub(crate) fn arrow_writer_bytes(writer: *mut Writer, bytes: *const u8, length: usize) -> u32;
-    pub(crate) fn arrow_writer_text(writer: *mut Writer, text: *const u8, length: usize) -> u32;
-    pub(crate) fn arrow_writer_begin_list(writer: *mut Writer) -> u32;
-    pub(crate) fn arrow_writer_begin_struct(writer: *mut Writer) -> u32;
-    pub(crate) fn arrow_writer_end(writer: *mut Writer) -> u32;
-    pub(crate) fn arrow_writer_row(writer: *mut Writer) -> u32;
-    pub(crate) fn arrow_writer_pair(
+    pub(crate) fn arrowstream_batch_free(batch: *mut Batch);
+    pub(crate) fn arrowstream_writer_open(limits: *const crate::Limits, out: *mut *mut Writer);
+    pub(crate) fn arrowstream_writer_schema(
+        writer: *mut Writer,
+        text: *const u8,
+        length: usize,
+    ) -> u32;
+    pub(crate) fn arrowstream_writer_null(writer: *mut Writer) -> u32;
+    pub(crate) fn arrowstream_writer_bool(writer: *mut Writer, value: u32) -> u32;
+    pub(crate) fn arrowstream_writer_int(writer: *mut Writer, value: i64) -> u32;
+    pub(crate) fn arrowstream_writer_uint(writer: *mut Writer, value: u64) -> u32;
+    pub(crate) fn arrowstream_writer_bytes(
+        writer: *mut Writer,
+        bytes: *const u8,
+        length: usize,
+    ) -> u32;
+    pub(crate) fn arrowstream_writer_text(
+        writer: *mut Writer,
+        text: *const u8,
+        length: usize,
+    ) -> u32;
+    pub(crate) fn arrowstream_writer_begin_list(writer: *mut Writer) -> u32;
+    pub(crate) fn arrowstream_writer_begin_struct(writer: *mut Writer) -> u32;
+    pub(crate) fn arrowstream_writer_end(writer: *mut Writer) -> u32;
+    pub(crate) fn arrowstream_writer_row(writer: *mut Writer) -> u32;
+    pub(crate) fn arrowstream_writer_pair(
         writer: *mut Writer,
         key: *const u8,
         key_length: usize,
         value: *const u8,
         value_length: usize,
     ) -> u32;
-    pub(crate) fn arrow_writer_send(writer: *mut Writer) -> u32;
-    pub(crate) fn arrow_writer_columns(writer: *mut Writer, batch: *mut Batch) -> u32;
-    pub(crate) fn arrow_writer_finish(writer: *mut Writer) -> u32;
-    pub(crate) fn arrow_writer_take(writer: *mut Writer, bytes: *mut u8, length: usize) -> usize;
-    pub(crate) fn arrow_writer_line(
+    pub(crate) fn arrowstream_writer_send(writer: *mut Writer) -> u32;
+    pub(crate) fn arrowstream_writer_columns(writer: *mut Writer, batch: *mut Batch) -> u32;
+    pub(crate) fn arrowstream_writer_finish(writer: *mut Writer) -> u32;
+    pub(crate) fn arrowstream_writer_take(
+        writer: *mut Writer,
+        bytes: *mut u8,
+        length: usize,
+    ) -> usize;
+    pub(crate) fn arrowstream_writer_line(
         writer: *mut Writer,
         text: *mut u8,
         length: usize,
         wanted: *mut usize,
     ) -> u32;
-    pub(crate) fn arrow_writer_free(writer: *mut Writer);
+    pub(crate) fn arrowstream_writer_free(writer: *mut Writer);
 }

@@ -36,7 +36,7 @@ impl Limits {
         let mut limits =
             Limits { metadata: 0, body: 0, slots: 0, fields: 0, depth: 0, text: 0, pairs: 0 };
         // SAFETY: `limits` may be written.
-        unsafe { ffi::arrow_limits_standard(&mut limits) };
+        unsafe { ffi::arrowstream_limits_standard(&mut limits) };
         limits
     }
 }
@@ -90,7 +90,7 @@ impl<R: Read> Reader<R> {
     pub fn open(source: R, limits: &Limits) -> Result<Reader<R>, Error> {
         let mut reader = null_mut();
         // SAFETY: `limits` may be read, and `reader` be written.
-        unsafe { ffi::arrow_reader_open(limits, &mut reader) };
+        unsafe { ffi::arrowstream_reader_open(limits, &mut reader) };
         let reader = NonNull::new(reader).ok_or(Error::OutOfMemory)?;
         let mut stream = Reader {
             source,
@@ -131,7 +131,7 @@ impl<R: Read> Reader<R> {
             let mut progress = ffi::Progress::default();
             // SAFETY: the reader was not freed; `piece` has this length.
             let status = unsafe {
-                ffi::arrow_reader_feed(
+                ffi::arrowstream_reader_feed(
                     self.reader.as_ptr(),
                     piece.as_ptr(),
                     piece.len(),
@@ -141,7 +141,7 @@ impl<R: Read> Reader<R> {
             self.check(status)?;
             self.unread.start += progress.taken;
             match progress.event {
-                ffi::SCHEMA => self.schema = self.text(ffi::arrow_reader_schema)?,
+                ffi::SCHEMA => self.schema = self.text(ffi::arrowstream_reader_schema)?,
                 ffi::END => self.end = Some(End::Mark),
                 ffi::BATCH => {}
                 _ => continue,
@@ -154,7 +154,7 @@ impl<R: Read> Reader<R> {
     fn close(&mut self) -> Result<u64, Error> {
         let mut progress = ffi::Progress::default();
         // SAFETY: the reader was not freed.
-        let status = unsafe { ffi::arrow_reader_close(self.reader.as_ptr(), &mut progress) };
+        let status = unsafe { ffi::arrowstream_reader_close(self.reader.as_ptr(), &mut progress) };
         self.check(status)?;
         let is_mark = progress.event == ffi::END;
         self.end = Some(if is_mark { End::Mark } else { End::Closed });
@@ -165,7 +165,7 @@ impl<R: Read> Reader<R> {
     fn take(&mut self) -> Result<Batch, Error> {
         let mut batch = null_mut();
         // SAFETY: the reader was not freed, and `batch` may be written.
-        unsafe { ffi::arrow_reader_take(self.reader.as_ptr(), &mut batch) };
+        unsafe { ffi::arrowstream_reader_take(self.reader.as_ptr(), &mut batch) };
         NonNull::new(batch).map(Batch::new).ok_or(Error::OutOfMemory)
     }
 
@@ -184,7 +184,7 @@ impl<R: Read> Reader<R> {
             ffi::OK => Ok(()),
             ffi::OUT_OF_MEMORY => Err(Error::OutOfMemory),
             number => {
-                let line = self.text(ffi::arrow_reader_line)?.unwrap_or_default();
+                let line = self.text(ffi::arrowstream_reader_line)?.unwrap_or_default();
                 Err(Error::Refused { number, line })
             }
         }
@@ -211,6 +211,6 @@ impl<R: Read> Iterator for Reader<R> {
 impl<R> Drop for Reader<R> {
     fn drop(&mut self) {
         // SAFETY: the reader was not freed, and is not used after.
-        unsafe { ffi::arrow_reader_free(self.reader.as_ptr()) }
+        unsafe { ffi::arrowstream_reader_free(self.reader.as_ptr()) }
     }
 }

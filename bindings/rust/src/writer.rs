@@ -54,7 +54,7 @@ struct Handle(NonNull<ffi::Writer>);
 impl Drop for Handle {
     fn drop(&mut self) {
         // SAFETY: the writer was not freed, and is not used after.
-        unsafe { ffi::arrow_writer_free(self.0.as_ptr()) }
+        unsafe { ffi::arrowstream_writer_free(self.0.as_ptr()) }
     }
 }
 
@@ -66,13 +66,13 @@ impl<W: Write> Writer<W> {
     pub fn open(sink: W, schema: &str, limits: &Limits) -> Result<Writer<W>, Error> {
         let mut writer = null_mut();
         // SAFETY: `limits` may be read, and `writer` be written.
-        unsafe { ffi::arrow_writer_open(limits, &mut writer) };
+        unsafe { ffi::arrowstream_writer_open(limits, &mut writer) };
         let writer = Handle(NonNull::new(writer).ok_or(Error::OutOfMemory)?);
         let room = vec![0; PIECE];
         let mut stream = Writer { sink, writer, room, waiting: false, failed: false };
         // SAFETY: the writer was not freed; `schema` has this length.
         stream.call(|writer| unsafe {
-            ffi::arrow_writer_schema(writer, schema.as_ptr(), schema.len())
+            ffi::arrowstream_writer_schema(writer, schema.as_ptr(), schema.len())
         })?;
         stream.flush()?;
         Ok(stream)
@@ -87,7 +87,7 @@ impl<W: Write> Writer<W> {
             self.add(cell, 0)?;
         }
         // SAFETY: the writer was not freed.
-        self.call(|writer| unsafe { ffi::arrow_writer_row(writer) })?;
+        self.call(|writer| unsafe { ffi::arrowstream_writer_row(writer) })?;
         self.waiting = true;
         Ok(())
     }
@@ -98,7 +98,13 @@ impl<W: Write> Writer<W> {
         // SAFETY: the writer was not freed; `key` and `value` have these lengths.
         self.call(|writer| unsafe {
             let (key, value) = (key.as_bytes(), value.as_bytes());
-            ffi::arrow_writer_pair(writer, key.as_ptr(), key.len(), value.as_ptr(), value.len())
+            ffi::arrowstream_writer_pair(
+                writer,
+                key.as_ptr(),
+                key.len(),
+                value.as_ptr(),
+                value.len(),
+            )
         })?;
         self.waiting = true;
         Ok(())
@@ -111,7 +117,7 @@ impl<W: Write> Writer<W> {
     pub fn send(&mut self) -> Result<(), Error> {
         self.waiting = false;
         // SAFETY: the writer was not freed.
-        self.call(|writer| unsafe { ffi::arrow_writer_send(writer) })?;
+        self.call(|writer| unsafe { ffi::arrowstream_writer_send(writer) })?;
         self.flush()
     }
 
@@ -125,7 +131,7 @@ impl<W: Write> Writer<W> {
             self.send()?;
         }
         // SAFETY: neither the writer nor the batch was freed.
-        self.call(|writer| unsafe { ffi::arrow_writer_columns(writer, batch.as_ptr()) })?;
+        self.call(|writer| unsafe { ffi::arrowstream_writer_columns(writer, batch.as_ptr()) })?;
         self.flush()
     }
 
@@ -136,7 +142,7 @@ impl<W: Write> Writer<W> {
             self.send()?;
         }
         // SAFETY: the writer was not freed.
-        self.call(|writer| unsafe { ffi::arrow_writer_finish(writer) })?;
+        self.call(|writer| unsafe { ffi::arrowstream_writer_finish(writer) })?;
         self.flush()?;
         self.sink.flush().map_err(Error::Write)?;
         Ok(self.sink)
@@ -148,20 +154,19 @@ impl<W: Write> Writer<W> {
         match *cell {
             // The row is refused at a cell above, whatever this one is.
             Cell::List(_) | Cell::Struct(_) if depth == DEPTH => self.add(&Cell::Null, depth),
-            Cell::Null => self.call(|it| unsafe { ffi::arrow_writer_null(it) }),
+            Cell::Null => self.call(|it| unsafe { ffi::arrowstream_writer_null(it) }),
             Cell::Bool(value) => {
-                self.call(|it| unsafe { ffi::arrow_writer_bool(it, value.into()) })
+                self.call(|it| unsafe { ffi::arrowstream_writer_bool(it, value.into()) })
             }
-            Cell::Int(value) => self.call(|it| unsafe { ffi::arrow_writer_int(it, value) }),
-            Cell::Uint(value) => self.call(|it| unsafe { ffi::arrow_writer_uint(it, value) }),
-            Cell::Bytes(bytes) => {
-                self.call(|it| unsafe { ffi::arrow_writer_bytes(it, bytes.as_ptr(), bytes.len()) })
-            }
-            Cell::Text(text) => {
-                self.call(|it| unsafe { ffi::arrow_writer_text(it, text.as_ptr(), text.len()) })
-            }
-            Cell::List(cells) => self.nest(ffi::arrow_writer_begin_list, cells, depth),
-            Cell::Struct(cells) => self.nest(ffi::arrow_writer_begin_struct, cells, depth),
+            Cell::Int(value) => self.call(|it| unsafe { ffi::arrowstream_writer_int(it, value) }),
+            Cell::Uint(value) => self.call(|it| unsafe { ffi::arrowstream_writer_uint(it, value) }),
+            Cell::Bytes(bytes) => self.call(|it| unsafe {
+                ffi::arrowstream_writer_bytes(it, bytes.as_ptr(), bytes.len())
+            }),
+            Cell::Text(text) => self
+                .call(|it| unsafe { ffi::arrowstream_writer_text(it, text.as_ptr(), text.len()) }),
+            Cell::List(cells) => self.nest(ffi::arrowstream_writer_begin_list, cells, depth),
+            Cell::Struct(cells) => self.nest(ffi::arrowstream_writer_begin_struct, cells, depth),
         }
     }
 
@@ -178,7 +183,7 @@ impl<W: Write> Writer<W> {
             self.add(cell, depth + 1)?;
         }
         // SAFETY: the writer was not freed.
-        self.call(|writer| unsafe { ffi::arrow_writer_end(writer) })
+        self.call(|writer| unsafe { ffi::arrowstream_writer_end(writer) })
     }
 
     // Calls the library, and returns the error of the status.
@@ -193,7 +198,7 @@ impl<W: Write> Writer<W> {
             number => {
                 // SAFETY: the writer was not freed; `text` has `length` bytes.
                 let line = text_of(|text, length, wanted| unsafe {
-                    ffi::arrow_writer_line(writer, text, length, wanted)
+                    ffi::arrowstream_writer_line(writer, text, length, wanted)
                 })?;
                 Err(Error::Refused { number, line: line.unwrap_or_default() })
             }
@@ -206,7 +211,7 @@ impl<W: Write> Writer<W> {
             // SAFETY: the writer was not freed; `room` has this length.
             let count = unsafe {
                 let room = &mut self.room;
-                ffi::arrow_writer_take(self.writer.0.as_ptr(), room.as_mut_ptr(), room.len())
+                ffi::arrowstream_writer_take(self.writer.0.as_ptr(), room.as_mut_ptr(), room.len())
             };
             if count == 0 {
                 return Ok(());

@@ -41,7 +41,7 @@ use writer::WriterHandle;
 
 /// Returns the version of the interface: the major number times 65,536, and the minor number.
 #[unsafe(no_mangle)]
-pub extern "C" fn arrow_version() -> u32
+pub extern "C" fn arrowstream_version() -> u32
     ensures { result ≡ 1 }
 {
     1
@@ -49,7 +49,7 @@ pub extern "C" fn arrow_version() -> u32
 
 /// Sets limits that fit what is written in practice, those of `Limits::standard`.
 #[unsafe(no_mangle)]
-pub extern "C" fn arrow_limits_standard(out: &mut ReadLimits)
+pub extern "C" fn arrowstream_limits_standard(out: &mut ReadLimits)
     ensures { AreStandard out.new }
 {
     answers::set_standard(out);
@@ -58,7 +58,7 @@ pub extern "C" fn arrow_limits_standard(out: &mut ReadLimits)
 /// Makes a reader at the beginning of a stream, and sets `out` to it, or to null if memory ran out.
 /// A limit above its maximum is as the maximum.
 #[unsafe(no_mangle)]
-pub extern "C" fn arrow_reader_open(alloc: Global, limits: &ReadLimits, out: &mut *mut u8)
+pub extern "C" fn arrowstream_reader_open(alloc: Global, limits: &ReadLimits, out: &mut *mut u8)
     ensures* { ∃ₛ (λ (made : Option ReadSession). sem 𝓛 (reader_or_null out.new made)
         ∗ ⌜ OpensReader limits.now made ⌝) }
 {
@@ -68,7 +68,7 @@ pub extern "C" fn arrow_reader_open(alloc: Global, limits: &ReadLimits, out: &mu
 
 /// Frees a reader. Batches that were taken from it remain.
 #[unsafe(no_mangle)]
-pub unsafe extern "C" fn arrow_reader_free(alloc: Global, reader: *mut u8)
+pub unsafe extern "C" fn arrowstream_reader_free(alloc: Global, reader: *mut u8)
     ghost was: { Option ReadSession }
     requires* { sem 𝓛 (reader_or_null reader was) }
 {
@@ -84,7 +84,11 @@ pub unsafe extern "C" fn arrow_reader_free(alloc: Global, reader: *mut u8)
 /// Drops the batch that was not taken, and takes a beginning of the bytes, up to the first arrival.
 /// Returns 0, or the number of the refusal.
 #[unsafe(no_mangle)]
-pub unsafe extern "C" fn arrow_reader_feed(reader: *mut u8, bytes: &[u8], out: &mut Progress) -> u32
+pub unsafe extern "C" fn arrowstream_reader_feed(
+    reader: *mut u8,
+    bytes: &[u8],
+    out: &mut Progress,
+) -> u32
     ghost was: { Option ReadSession }
     requires* { sem 𝓛 (reader_or_null reader was) }
     ensures* { ∃ₛ (λ (is : Option ReadSession). sem 𝓛 (reader_or_null reader is)
@@ -99,7 +103,7 @@ pub unsafe extern "C" fn arrow_reader_feed(reader: *mut u8, bytes: &[u8], out: &
 
 /// Ends the input. Returns 0, or the number of the refusal.
 #[unsafe(no_mangle)]
-pub unsafe extern "C" fn arrow_reader_close(reader: *mut u8, out: &mut Progress) -> u32
+pub unsafe extern "C" fn arrowstream_reader_close(reader: *mut u8, out: &mut Progress) -> u32
     ghost was: { Option ReadSession }
     requires* { sem 𝓛 (reader_or_null reader was) }
     ensures* { ∃ₛ (λ (is : Option ReadSession). sem 𝓛 (reader_or_null reader is)
@@ -115,7 +119,7 @@ pub unsafe extern "C" fn arrow_reader_close(reader: *mut u8, out: &mut Progress)
 /// Copies the schema as JSON text. Returns 0, `ABSENT` before the schema came, or 37 if memory ran
 /// out.
 #[unsafe(no_mangle)]
-pub unsafe extern "C" fn arrow_reader_schema(
+pub unsafe extern "C" fn arrowstream_reader_schema(
     reader: *mut u8,
     text: &mut [u8],
     wanted: &mut usize,
@@ -135,7 +139,7 @@ pub unsafe extern "C" fn arrow_reader_schema(
 /// Copies the line of the first refusal. Returns 0, `ABSENT` before a refusal, or 37 if memory ran
 /// out.
 #[unsafe(no_mangle)]
-pub unsafe extern "C" fn arrow_reader_line(
+pub unsafe extern "C" fn arrowstream_reader_line(
     reader: *mut u8,
     text: &mut [u8],
     wanted: &mut usize,
@@ -155,7 +159,7 @@ pub unsafe extern "C" fn arrow_reader_line(
 /// Takes the batch that the last piece completed, and sets `out` to it. It is null if there is no
 /// batch to take, and if memory ran out: then the batch is dropped.
 #[unsafe(no_mangle)]
-pub unsafe extern "C" fn arrow_reader_take(alloc: Global, reader: *mut u8, out: &mut *mut u8)
+pub unsafe extern "C" fn arrowstream_reader_take(alloc: Global, reader: *mut u8, out: &mut *mut u8)
     ghost was: { Option ReadSession }
     requires* { sem 𝓛 (reader_or_null reader was) }
     ensures* { ∃ₛ (λ (is : Option ReadSession). ∃ₛ (λ (found : Option ReadBatch).
@@ -172,7 +176,7 @@ pub unsafe extern "C" fn arrow_reader_take(alloc: Global, reader: *mut u8, out: 
 
 /// Frees a batch.
 #[unsafe(no_mangle)]
-pub unsafe extern "C" fn arrow_batch_free(alloc: Global, batch: *mut u8)
+pub unsafe extern "C" fn arrowstream_batch_free(alloc: Global, batch: *mut u8)
     ghost was: { Option ReadBatch }
     requires* { sem 𝓛 (batch_or_null batch was) }
 {
@@ -187,7 +191,7 @@ pub unsafe extern "C" fn arrow_batch_free(alloc: Global, batch: *mut u8)
 
 /// Returns the number of rows.
 #[unsafe(no_mangle)]
-pub unsafe extern "C" fn arrow_batch_rows(batch: *mut u8) -> usize
+pub unsafe extern "C" fn arrowstream_batch_rows(batch: *mut u8) -> usize
     ghost was: { Option ReadBatch }
     requires* { sem 𝓛 (batch_or_null batch was) }
     ensures* { ∃ₛ (λ (is : Option ReadBatch). sem 𝓛 (batch_or_null batch is)
@@ -201,7 +205,7 @@ pub unsafe extern "C" fn arrow_batch_rows(batch: *mut u8) -> usize
 
 /// Returns the number of columns.
 #[unsafe(no_mangle)]
-pub unsafe extern "C" fn arrow_batch_columns(batch: *mut u8) -> usize
+pub unsafe extern "C" fn arrowstream_batch_columns(batch: *mut u8) -> usize
     ghost was: { Option ReadBatch }
     requires* { sem 𝓛 (batch_or_null batch was) }
     ensures* { ∃ₛ (λ (is : Option ReadBatch). sem 𝓛 (batch_or_null batch is)
@@ -215,7 +219,7 @@ pub unsafe extern "C" fn arrow_batch_columns(batch: *mut u8) -> usize
 
 /// Copies the pairs of the batch's message as JSON text. Returns 0, or 37 if memory ran out.
 #[unsafe(no_mangle)]
-pub unsafe extern "C" fn arrow_batch_pairs(
+pub unsafe extern "C" fn arrowstream_batch_pairs(
     batch: *mut u8,
     text: &mut [u8],
     wanted: &mut usize,
@@ -234,7 +238,11 @@ pub unsafe extern "C" fn arrow_batch_pairs(
 
 /// Describes the column to which a path leads. Returns 0, or `ABSENT` if it leads to no column.
 #[unsafe(no_mangle)]
-pub unsafe extern "C" fn arrow_batch_column(batch: *mut u8, path: &[u64], out: &mut Column) -> u32
+pub unsafe extern "C" fn arrowstream_batch_column(
+    batch: *mut u8,
+    path: &[u64],
+    out: &mut Column,
+) -> u32
     ghost was: { Option ReadBatch }
     requires* { sem 𝓛 (batch_or_null batch was) }
     ensures* { ∃ₛ (λ (is : Option ReadBatch). sem 𝓛 (batch_or_null batch is)
@@ -250,7 +258,7 @@ pub unsafe extern "C" fn arrow_batch_column(batch: *mut u8, path: &[u64], out: &
 /// Copies a buffer of the column to which a path leads: 0 validity, 1 offsets, 2 values. Returns 0,
 /// or `ABSENT` if it leads to no column, or if there is no buffer of this number.
 #[unsafe(no_mangle)]
-pub unsafe extern "C" fn arrow_batch_buffer(
+pub unsafe extern "C" fn arrowstream_batch_buffer(
     batch: *mut u8,
     path: &[u64],
     buffer: u32,
@@ -273,7 +281,7 @@ pub unsafe extern "C" fn arrow_batch_buffer(
 /// Makes a writer without a schema, and sets `out` to it, or to null if memory ran out. A limit
 /// above its maximum is as the maximum.
 #[unsafe(no_mangle)]
-pub extern "C" fn arrow_writer_open(alloc: Global, limits: &ReadLimits, out: &mut *mut u8)
+pub extern "C" fn arrowstream_writer_open(alloc: Global, limits: &ReadLimits, out: &mut *mut u8)
     ensures* { ∃ₛ (λ (made : Option WriteSession). sem 𝓛 (writer_or_null out.new made)
         ∗ ⌜ w.OpensWriter limits.now made ⌝) }
 {
@@ -283,7 +291,7 @@ pub extern "C" fn arrow_writer_open(alloc: Global, limits: &ReadLimits, out: &mu
 
 /// Frees a writer.
 #[unsafe(no_mangle)]
-pub unsafe extern "C" fn arrow_writer_free(alloc: Global, writer: *mut u8)
+pub unsafe extern "C" fn arrowstream_writer_free(alloc: Global, writer: *mut u8)
     ghost was: { Option WriteSession }
     requires* { sem 𝓛 (writer_or_null writer was) }
 {
@@ -298,7 +306,7 @@ pub unsafe extern "C" fn arrow_writer_free(alloc: Global, writer: *mut u8)
 
 /// Begins the stream of the schema that a JSON text states. Returns 0, or the number of the error.
 #[unsafe(no_mangle)]
-pub unsafe extern "C" fn arrow_writer_schema(writer: *mut u8, text: &[u8]) -> u32
+pub unsafe extern "C" fn arrowstream_writer_schema(writer: *mut u8, text: &[u8]) -> u32
     ghost was: { Option WriteSession }
     requires* { sem 𝓛 (writer_or_null writer was) }
     ensures* { ∃ₛ (λ (is : Option WriteSession). sem 𝓛 (writer_or_null writer is)
@@ -312,7 +320,7 @@ pub unsafe extern "C" fn arrow_writer_schema(writer: *mut u8, text: &[u8]) -> u3
 
 /// Adds a null cell. Returns 0, or the number of the error.
 #[unsafe(no_mangle)]
-pub unsafe extern "C" fn arrow_writer_null(writer: *mut u8) -> u32
+pub unsafe extern "C" fn arrowstream_writer_null(writer: *mut u8) -> u32
     ghost was: { Option WriteSession }
     requires* { sem 𝓛 (writer_or_null writer was) }
     ensures* { ∃ₛ (λ (is : Option WriteSession). sem 𝓛 (writer_or_null writer is)
@@ -327,7 +335,7 @@ pub unsafe extern "C" fn arrow_writer_null(writer: *mut u8) -> u32
 /// Adds a boolean cell: 0 is false, and each other number is true. Returns 0, or the number of the
 /// error.
 #[unsafe(no_mangle)]
-pub unsafe extern "C" fn arrow_writer_bool(writer: *mut u8, value: u32) -> u32
+pub unsafe extern "C" fn arrowstream_writer_bool(writer: *mut u8, value: u32) -> u32
     ghost was: { Option WriteSession }
     requires* { sem 𝓛 (writer_or_null writer was) }
     ensures* { ∃ₛ (λ (is : Option WriteSession). sem 𝓛 (writer_or_null writer is)
@@ -342,7 +350,7 @@ pub unsafe extern "C" fn arrow_writer_bool(writer: *mut u8, value: u32) -> u32
 /// Adds a cell that is a signed integer, a date, a time, a timestamp or a duration. Returns 0, or
 /// the number of the error.
 #[unsafe(no_mangle)]
-pub unsafe extern "C" fn arrow_writer_int(writer: *mut u8, value: i64) -> u32
+pub unsafe extern "C" fn arrowstream_writer_int(writer: *mut u8, value: i64) -> u32
     ghost was: { Option WriteSession }
     requires* { sem 𝓛 (writer_or_null writer was) }
     ensures* { ∃ₛ (λ (is : Option WriteSession). sem 𝓛 (writer_or_null writer is)
@@ -356,7 +364,7 @@ pub unsafe extern "C" fn arrow_writer_int(writer: *mut u8, value: i64) -> u32
 
 /// Adds a cell that is an unsigned integer. Returns 0, or the number of the error.
 #[unsafe(no_mangle)]
-pub unsafe extern "C" fn arrow_writer_uint(writer: *mut u8, value: u64) -> u32
+pub unsafe extern "C" fn arrowstream_writer_uint(writer: *mut u8, value: u64) -> u32
     ghost was: { Option WriteSession }
     requires* { sem 𝓛 (writer_or_null writer was) }
     ensures* { ∃ₛ (λ (is : Option WriteSession). sem 𝓛 (writer_or_null writer is)
@@ -370,7 +378,7 @@ pub unsafe extern "C" fn arrow_writer_uint(writer: *mut u8, value: u64) -> u32
 
 /// Adds a cell of bytes. Returns 0, or the number of the error.
 #[unsafe(no_mangle)]
-pub unsafe extern "C" fn arrow_writer_bytes(writer: *mut u8, bytes: &[u8]) -> u32
+pub unsafe extern "C" fn arrowstream_writer_bytes(writer: *mut u8, bytes: &[u8]) -> u32
     ghost was: { Option WriteSession }
     requires* { sem 𝓛 (writer_or_null writer was) }
     ensures* { ∃ₛ (λ (is : Option WriteSession). sem 𝓛 (writer_or_null writer is)
@@ -384,7 +392,7 @@ pub unsafe extern "C" fn arrow_writer_bytes(writer: *mut u8, bytes: &[u8]) -> u3
 
 /// Adds a cell of UTF-8 text. Returns 0, or the number of the error.
 #[unsafe(no_mangle)]
-pub unsafe extern "C" fn arrow_writer_text(writer: *mut u8, text: &[u8]) -> u32
+pub unsafe extern "C" fn arrowstream_writer_text(writer: *mut u8, text: &[u8]) -> u32
     ghost was: { Option WriteSession }
     requires* { sem 𝓛 (writer_or_null writer was) }
     ensures* { ∃ₛ (λ (is : Option WriteSession). sem 𝓛 (writer_or_null writer is)
@@ -398,7 +406,7 @@ pub unsafe extern "C" fn arrow_writer_text(writer: *mut u8, text: &[u8]) -> u32
 
 /// Begins a list. Returns 0, or the number of the error.
 #[unsafe(no_mangle)]
-pub unsafe extern "C" fn arrow_writer_begin_list(writer: *mut u8) -> u32
+pub unsafe extern "C" fn arrowstream_writer_begin_list(writer: *mut u8) -> u32
     ghost was: { Option WriteSession }
     requires* { sem 𝓛 (writer_or_null writer was) }
     ensures* { ∃ₛ (λ (is : Option WriteSession). sem 𝓛 (writer_or_null writer is)
@@ -412,7 +420,7 @@ pub unsafe extern "C" fn arrow_writer_begin_list(writer: *mut u8) -> u32
 
 /// Begins a struct. Returns 0, or the number of the error.
 #[unsafe(no_mangle)]
-pub unsafe extern "C" fn arrow_writer_begin_struct(writer: *mut u8) -> u32
+pub unsafe extern "C" fn arrowstream_writer_begin_struct(writer: *mut u8) -> u32
     ghost was: { Option WriteSession }
     requires* { sem 𝓛 (writer_or_null writer was) }
     ensures* { ∃ₛ (λ (is : Option WriteSession). sem 𝓛 (writer_or_null writer is)
@@ -426,7 +434,7 @@ pub unsafe extern "C" fn arrow_writer_begin_struct(writer: *mut u8) -> u32
 
 /// Ends the list or struct that was begun last. Returns 0, or the number of the error.
 #[unsafe(no_mangle)]
-pub unsafe extern "C" fn arrow_writer_end(writer: *mut u8) -> u32
+pub unsafe extern "C" fn arrowstream_writer_end(writer: *mut u8) -> u32
     ghost was: { Option WriteSession }
     requires* { sem 𝓛 (writer_or_null writer was) }
     ensures* { ∃ₛ (λ (is : Option WriteSession). sem 𝓛 (writer_or_null writer is)
@@ -440,7 +448,7 @@ pub unsafe extern "C" fn arrow_writer_end(writer: *mut u8) -> u32
 
 /// Ends the row. Returns 0, or the number of the error.
 #[unsafe(no_mangle)]
-pub unsafe extern "C" fn arrow_writer_row(writer: *mut u8) -> u32
+pub unsafe extern "C" fn arrowstream_writer_row(writer: *mut u8) -> u32
     ghost was: { Option WriteSession }
     requires* { sem 𝓛 (writer_or_null writer was) }
     ensures* { ∃ₛ (λ (is : Option WriteSession). sem 𝓛 (writer_or_null writer is)
@@ -455,7 +463,7 @@ pub unsafe extern "C" fn arrow_writer_row(writer: *mut u8) -> u32
 /// Adds a pair of key and value to those that are sent with the pending rows. Returns 0, or the
 /// number of the error.
 #[unsafe(no_mangle)]
-pub unsafe extern "C" fn arrow_writer_pair(writer: *mut u8, key: &[u8], value: &[u8]) -> u32
+pub unsafe extern "C" fn arrowstream_writer_pair(writer: *mut u8, key: &[u8], value: &[u8]) -> u32
     ghost was: { Option WriteSession }
     requires* { sem 𝓛 (writer_or_null writer was) }
     ensures* { ∃ₛ (λ (is : Option WriteSession). sem 𝓛 (writer_or_null writer is)
@@ -471,7 +479,7 @@ pub unsafe extern "C" fn arrow_writer_pair(writer: *mut u8, key: &[u8], value: &
 /// Sends the pending rows as one batch with the pending pairs. Returns 0, or the number of the
 /// error.
 #[unsafe(no_mangle)]
-pub unsafe extern "C" fn arrow_writer_send(writer: *mut u8) -> u32
+pub unsafe extern "C" fn arrowstream_writer_send(writer: *mut u8) -> u32
     ghost was: { Option WriteSession }
     requires* { sem 𝓛 (writer_or_null writer was) }
     ensures* { ∃ₛ (λ (is : Option WriteSession). sem 𝓛 (writer_or_null writer is)
@@ -486,7 +494,7 @@ pub unsafe extern "C" fn arrow_writer_send(writer: *mut u8) -> u32
 /// Sends the columns and pairs of a batch that was read as one batch. Returns 0, or the number of
 /// the error.
 #[unsafe(no_mangle)]
-pub unsafe extern "C" fn arrow_writer_columns(writer: *mut u8, batch: *mut u8) -> u32
+pub unsafe extern "C" fn arrowstream_writer_columns(writer: *mut u8, batch: *mut u8) -> u32
     ghost was: { Option WriteSession × Option ReadBatch }
     requires* { sem 𝓛 (writer_or_null writer was.0) ∗ sem 𝓛 (batch_or_null batch was.1) }
     ensures* { ∃ₛ (λ (is : Option WriteSession). ∃ₛ (λ (left : Option ReadBatch).
@@ -508,7 +516,7 @@ pub unsafe extern "C" fn arrow_writer_columns(writer: *mut u8, batch: *mut u8) -
 
 /// Sends the end-of-stream mark. Returns 0, or the number of the error.
 #[unsafe(no_mangle)]
-pub unsafe extern "C" fn arrow_writer_finish(writer: *mut u8) -> u32
+pub unsafe extern "C" fn arrowstream_writer_finish(writer: *mut u8) -> u32
     ghost was: { Option WriteSession }
     requires* { sem 𝓛 (writer_or_null writer was) }
     ensures* { ∃ₛ (λ (is : Option WriteSession). sem 𝓛 (writer_or_null writer is)
@@ -522,7 +530,7 @@ pub unsafe extern "C" fn arrow_writer_finish(writer: *mut u8) -> u32
 
 /// Returns the number of bytes that are ready.
 #[unsafe(no_mangle)]
-pub unsafe extern "C" fn arrow_writer_ready(writer: *mut u8) -> usize
+pub unsafe extern "C" fn arrowstream_writer_ready(writer: *mut u8) -> usize
     ghost was: { Option WriteSession }
     requires* { sem 𝓛 (writer_or_null writer was) }
     ensures* { ∃ₛ (λ (is : Option WriteSession). sem 𝓛 (writer_or_null writer is)
@@ -536,7 +544,7 @@ pub unsafe extern "C" fn arrow_writer_ready(writer: *mut u8) -> usize
 
 /// Moves the first of the ready bytes to `bytes`. Returns their number.
 #[unsafe(no_mangle)]
-pub unsafe extern "C" fn arrow_writer_take(writer: *mut u8, bytes: &mut [u8]) -> usize
+pub unsafe extern "C" fn arrowstream_writer_take(writer: *mut u8, bytes: &mut [u8]) -> usize
     ghost was: { Option WriteSession }
     requires* { sem 𝓛 (writer_or_null writer was) }
     ensures* { ∃ₛ (λ (is : Option WriteSession). sem 𝓛 (writer_or_null writer is)
@@ -551,7 +559,7 @@ pub unsafe extern "C" fn arrow_writer_take(writer: *mut u8, bytes: &mut [u8]) ->
 
 /// Copies the line of the last error. Returns 0, `ABSENT` before an error, or 37 if memory ran out.
 #[unsafe(no_mangle)]
-pub unsafe extern "C" fn arrow_writer_line(
+pub unsafe extern "C" fn arrowstream_writer_line(
     writer: *mut u8,
     text: &mut [u8],
     wanted: &mut usize,
