@@ -66,8 +66,7 @@ static arrowstream_batch *one_batch(void) {
         must(arrowstream_reader_feed(reader, bytes + from, length - from, &now) == ARROWSTREAM_OK
                  && now.taken > 0,
              "the stream is refused");
-    arrowstream_reader_take(reader, &batch);
-    must(batch != NULL, "out of memory");
+    must(arrowstream_reader_take(reader, &batch) == ARROWSTREAM_OK, "out of memory");
     arrowstream_reader_free(reader);
     arrowstream_writer_free(writer);
     return batch;
@@ -109,10 +108,9 @@ static void check(void) {
             must(status == ARROWSTREAM_OK, "the stream is refused");
             if (now.event != ARROWSTREAM_BATCH) continue;
             arrowstream_batch *batch = NULL;
-            arrowstream_reader_take(reader, &batch);
-            must(batch != NULL, "out of memory");
+            must(arrowstream_reader_take(reader, &batch) == ARROWSTREAM_OK, "out of memory");
             rows += arrowstream_batch_rows(batch);
-            arrowstream_batch_free(batch);
+            arrowstream_reader_reuse(reader, batch);
         }
     must(arrowstream_reader_close(reader, &now) == ARROWSTREAM_OK, "the stream is cut off");
     arrowstream_reader_free(reader);

@@ -10,13 +10,13 @@
  * PROVED, by machine, for each call below: it is memory safe and returns on every input. Its
  * result, what it writes and the state that it leaves are as its comment says (docs/PROVED.md names
  * the clauses). What several calls give of one column belongs together. Only tested: this for the
- * values of a dictionary, that the buffers are the bytes of the stream, that memory ran out where a
- * call says so, and that no memory leaks.
+ * values of a dictionary, that the buffers are the bytes of the stream, that NULL with length 0 is
+ * as good as another pointer, that memory ran out where a call says so, and that no memory leaks.
  *
  * THE CALLER OWES, and nothing checks:
  *   - a reader, batch or writer is NULL, or is one that a call set and that is not freed yet;
  *   - a pointer with a length may be read, or written if it is not const, for that many elements,
- *     and is not NULL, even if the length is 0; an `out` or `wanted` may be written; no two of them
+ *     and may be NULL if the length is 0; an `out` or `wanted` may be written; no two of them
  *     overlap;
  *   - each reader, batch and writer is used by one call at a time, and not from a signal handler. A
  *     reader and a writer stay on the thread that made them; a batch may pass to another one;
@@ -38,7 +38,9 @@
 extern "C" {
 #endif
 
-/* The version of this interface: the major number times 65,536, and the minor number. */
+/* The version of the library, and that of this interface: of the former the major number times
+ * 65,536, and the minor number. */
+#define ARROWSTREAM_RELEASE "0.1.0"
 #define ARROWSTREAM_VERSION 1u
 
 /* Returns ARROWSTREAM_VERSION of the library that is linked. */
@@ -124,19 +126,29 @@ uint32_t arrowstream_reader_close(arrowstream_reader *reader, arrowstream_progre
  * Returns ARROWSTREAM_OK in both cases, ARROWSTREAM_ABSENT before the schema came, or
  * ARROWSTREAM_OUT_OF_MEMORY; in these two nothing is copied and `wanted` is 0. The reader stays as
  * it is. */
-uint32_t arrowstream_reader_schema(arrowstream_reader *reader, uint8_t *text, size_t length,
+uint32_t arrowstream_reader_schema(const arrowstream_reader *reader, uint8_t *text, size_t length,
                                    size_t *wanted);
 
 /* Copies the line of the first refusal, such as "F4 Truncated at message 2", as the program prints
  * it, without a line feed. `text`, `length`, `wanted` and the result are as in
  * arrowstream_reader_schema; ARROWSTREAM_ABSENT before a refusal. */
-uint32_t arrowstream_reader_line(arrowstream_reader *reader, uint8_t *text, size_t length,
+uint32_t arrowstream_reader_line(const arrowstream_reader *reader, uint8_t *text, size_t length,
                                  size_t *wanted);
 
-/* Takes the batch that the last call of arrowstream_reader_feed reported, and sets `out` to it. It
- * is NULL if there is none to take, and if memory ran out: then the batch is dropped. Free it by
- * arrowstream_batch_free, before or after its reader. */
-void arrowstream_reader_take(arrowstream_reader *reader, arrowstream_batch **out);
+/* Takes the batch that the last call of arrowstream_reader_feed reported, and sets `out` to it.
+ * Free it by arrowstream_batch_free or arrowstream_reader_reuse, before or after its reader.
+ *
+ * Returns ARROWSTREAM_OK, ARROWSTREAM_ABSENT if there is none to take, or
+ * ARROWSTREAM_OUT_OF_MEMORY: then the batch is dropped. If it does not return ARROWSTREAM_OK, `out`
+ * is NULL. */
+uint32_t arrowstream_reader_take(arrowstream_reader *reader, arrowstream_batch **out);
+
+/* Frees a batch of this reader or of another one, and lets the reader keep its memory. The next
+ * body is read over it, which saves the time to allocate and clear as much. Nothing else changes.
+ *
+ * The reader keeps no memory after its end and after a refusal, while the bytes of a body come, and
+ * if it has more already. At a NULL reader this is arrowstream_batch_free. */
+void arrowstream_reader_reuse(arrowstream_reader *reader, arrowstream_batch *batch);
 
 /* Frees a reader. Batches that were taken from it remain. */
 void arrowstream_reader_free(arrowstream_reader *reader);
@@ -145,13 +157,13 @@ void arrowstream_reader_free(arrowstream_reader *reader);
 
 /* No call below changes a batch but arrowstream_batch_free. */
 
-size_t arrowstream_batch_rows(arrowstream_batch *batch);
-size_t arrowstream_batch_columns(arrowstream_batch *batch);
+size_t arrowstream_batch_rows(const arrowstream_batch *batch);
+size_t arrowstream_batch_columns(const arrowstream_batch *batch);
 
 /* Copies the metadata of the batch's message as JSON text: an array of pairs of a key and a value.
  * `text`, `length`, `wanted` and the result are as in arrowstream_reader_schema, but
  * ARROWSTREAM_ABSENT never comes. */
-uint32_t arrowstream_batch_pairs(arrowstream_batch *batch, uint8_t *text, size_t length,
+uint32_t arrowstream_batch_pairs(const arrowstream_batch *batch, uint8_t *text, size_t length,
                                  size_t *wanted);
 
 enum {
@@ -193,8 +205,8 @@ typedef struct {
  *
  * Returns ARROWSTREAM_OK, or ARROWSTREAM_ABSENT if the path is empty or leads to no column; then
  * `out` is left as it is. */
-uint32_t arrowstream_batch_column(arrowstream_batch *batch, const uint64_t *path, size_t steps,
-                                  arrowstream_column *out);
+uint32_t arrowstream_batch_column(const arrowstream_batch *batch, const uint64_t *path,
+                                  size_t steps, arrowstream_column *out);
 
 enum {
     ARROWSTREAM_BUFFER_VALIDITY = 0,
@@ -209,8 +221,9 @@ enum {
  *
  * Returns ARROWSTREAM_OK in both cases, or ARROWSTREAM_ABSENT if the path leads to no column or
  * there is no buffer of this number; then nothing is copied and `wanted` is 0. */
-uint32_t arrowstream_batch_buffer(arrowstream_batch *batch, const uint64_t *path, size_t steps,
-                                  uint32_t buffer, uint8_t *bytes, size_t length, size_t *wanted);
+uint32_t arrowstream_batch_buffer(const arrowstream_batch *batch, const uint64_t *path,
+                                  size_t steps, uint32_t buffer, uint8_t *bytes, size_t length,
+                                  size_t *wanted);
 
 /* Frees a batch. */
 void arrowstream_batch_free(arrowstream_batch *batch);
@@ -222,8 +235,10 @@ typedef struct arrowstream_writer arrowstream_writer;
 /* A writer is in one of three states:
  *
  *   new      the schema is wanted. Every call but arrowstream_writer_schema returns
- *   ARROWSTREAM_MISUSE. open     rows are given and sent. ended    the stream was finished, or W9
- *   or W11 came. Every call returns ARROWSTREAM_WRITE_FAILED.
+ *            ARROWSTREAM_MISUSE.
+ *   open     rows are given and sent.
+ *   ended    the stream was finished, or W9 or W11 came. Every call returns
+ *            ARROWSTREAM_WRITE_FAILED.
  *
  * This is said of the calls that return a status, but for arrowstream_writer_line. The bytes that a
  * call makes are ready at once, and remain so until they are taken. After W11 these are the bytes
@@ -246,13 +261,13 @@ uint32_t arrowstream_writer_schema(arrowstream_writer *writer, const uint8_t *te
 /* These calls add one cell to the row, or to the list or struct that was begun last and has not
  * ended. A cell is of the kind that the field's type stores (docs/SCHEMA.md): integers, dates,
  * times, timestamps and durations are `int`; unsigned integers are `uint`; the cell of a field with
- * a dictionary is one of its values. Whether it fits is checked by arrowstream_writer_row.
+ * a dictionary is one of its values. As a `bool` 0 is false, and each other number is true. Whether
+ * a cell fits is checked by arrowstream_writer_row.
  *
  * They return ARROWSTREAM_OK, ARROWSTREAM_MISUSE or ARROWSTREAM_WRITE + 10 or 11.
  * arrowstream_writer_text also returns ARROWSTREAM_NOT_UTF8. */
 uint32_t arrowstream_writer_null(arrowstream_writer *writer);
-uint32_t arrowstream_writer_bool(arrowstream_writer *writer,
-                                 uint32_t value); /* 0 is false, others are true */
+uint32_t arrowstream_writer_bool(arrowstream_writer *writer, uint32_t value);
 uint32_t arrowstream_writer_int(arrowstream_writer *writer, int64_t value);
 uint32_t arrowstream_writer_uint(arrowstream_writer *writer, uint64_t value);
 uint32_t arrowstream_writer_bytes(arrowstream_writer *writer, const uint8_t *bytes, size_t length);
@@ -273,6 +288,11 @@ uint32_t arrowstream_writer_end(arrowstream_writer *writer);
  * then it is dropped. Returns ARROWSTREAM_MISUSE also inside a list or struct. */
 uint32_t arrowstream_writer_row(arrowstream_writer *writer);
 
+/* Drops the cells of the row that has not ended, with the lists and structs that were begun in it.
+ * The rows before it remain. Returns ARROWSTREAM_OK, ARROWSTREAM_MISUSE or ARROWSTREAM_WRITE +
+ * 10. */
+uint32_t arrowstream_writer_drop_row(arrowstream_writer *writer);
+
 /* Adds a pair of key and value to the metadata of the batch that is sent next, after the pairs that
  * it has. A key may occur more than once. Limits are checked by arrowstream_writer_send.
  *
@@ -280,6 +300,10 @@ uint32_t arrowstream_writer_row(arrowstream_writer *writer);
  * UTF-8, or ARROWSTREAM_WRITE + 10 or 11. */
 uint32_t arrowstream_writer_pair(arrowstream_writer *writer, const uint8_t *key, size_t key_length,
                                  const uint8_t *value, size_t value_length);
+
+/* Drops the rows and pairs that were not sent, and the row that has not ended. Returns as
+ * arrowstream_writer_drop_row. */
+uint32_t arrowstream_writer_drop_batch(arrowstream_writer *writer);
 
 /* Sends the rows as one record batch with the pairs, after the dictionaries that it needs. There
  * may be no rows, and no pairs.
@@ -292,7 +316,7 @@ uint32_t arrowstream_writer_send(arrowstream_writer *writer);
  * that it needs. The batch remains, and so do rows and pairs that were not sent.
  *
  * Returns ARROWSTREAM_OK, or ARROWSTREAM_WRITE + 2 to 9 or 11. */
-uint32_t arrowstream_writer_columns(arrowstream_writer *writer, arrowstream_batch *batch);
+uint32_t arrowstream_writer_columns(arrowstream_writer *writer, const arrowstream_batch *batch);
 
 /* Sends the end-of-stream mark, and ends the writer. Returns ARROWSTREAM_MISUSE also if rows or
  * pairs were not sent, or a row or its list or struct has not ended. */
@@ -310,7 +334,7 @@ size_t arrowstream_writer_take(arrowstream_writer *writer, uint8_t *bytes, size_
 /* Copies the line of the refusal that came last, such as "W4 OutOfRange at row 2 path 0", without a
  * line feed. ARROWSTREAM_WRITE_FAILED leaves the line of its cause. `text`, `length`, `wanted` and
  * the result are as in arrowstream_reader_schema; ARROWSTREAM_ABSENT before a refusal. */
-uint32_t arrowstream_writer_line(arrowstream_writer *writer, uint8_t *text, size_t length,
+uint32_t arrowstream_writer_line(const arrowstream_writer *writer, uint8_t *text, size_t length,
                                  size_t *wanted);
 
 /* Frees a writer. Bytes that were not taken are dropped. */

@@ -74,18 +74,15 @@ static void check_room(const copied *room) {
     if (room->bytes[room->count] != FILL) stop("a byte past the end");
 }
 
-typedef uint32_t reader_text(arrowstream_reader *, uint8_t *, size_t, size_t *);
-typedef uint32_t batch_text(arrowstream_batch *, uint8_t *, size_t, size_t *);
+typedef uint32_t reader_text(const arrowstream_reader *, uint8_t *, size_t, size_t *);
+typedef uint32_t batch_text(const arrowstream_batch *, uint8_t *, size_t, size_t *);
 
 /* Calls first with no room, and then with as much as is wanted. */
 static copied text_of(arrowstream_reader *reader, reader_text *of_reader, arrowstream_batch *batch,
                       batch_text *of_batch, uint32_t expected) {
     size_t wanted = 0, again = 0;
-    copied none = room_for(0);
-    uint32_t status = reader ? of_reader(reader, none.bytes, 0, &wanted)
-                             : of_batch(batch, none.bytes, 0, &wanted);
-    check_room(&none);
-    free(none.bytes);
+    uint32_t status =
+        reader ? of_reader(reader, NULL, 0, &wanted) : of_batch(batch, NULL, 0, &wanted);
     if (!is_done(status, expected) && wanted != 0) stop("a text without memory");
     copied text = room_for(wanted);
     status = reader ? of_reader(reader, text.bytes, wanted, &again)
@@ -100,6 +97,8 @@ static void read_buffer(arrowstream_batch *batch, const uint64_t *path, size_t s
     size_t wanted = 0;
     copied room = room_for(count);
     if (count > 0) {
+        is_done(arrowstream_batch_buffer(batch, path, steps, buffer, NULL, 0, &wanted), 0);
+        if (wanted != count) stop("another size without room");
         copied less = room_for(count - 1);
         is_done(
             arrowstream_batch_buffer(batch, path, steps, buffer, less.bytes, count - 1, &wanted),
@@ -149,21 +148,21 @@ static void read_batch(arrowstream_batch *batch, answer *all) {
     for (path[0] = 0; path[0] < arrowstream_batch_columns(batch); path[0]++)
         read_column(batch, path, 1, all);
     is_done(arrowstream_batch_column(batch, path, 1, &column), ARROWSTREAM_ABSENT);
-    is_done(arrowstream_batch_column(batch, path, 0, &column), ARROWSTREAM_ABSENT);
+    is_done(arrowstream_batch_column(batch, NULL, 0, &column), ARROWSTREAM_ABSENT);
     all->rows += arrowstream_batch_rows(batch);
 }
 
-/* Takes the batch that came. Each batch is read when the next one has come. */
+/* Takes the batch that came. Each batch is read when the next one has come, and given back. */
 static arrowstream_batch *take(arrowstream_reader *reader, arrowstream_batch *last, answer *all) {
     arrowstream_batch *batch = NULL, *none = NULL;
-    arrowstream_reader_take(reader, &batch);
-    arrowstream_reader_take(reader, &none);
-    if (none) stop("a batch twice");
-    told += !batch;
+    int is_taken = is_done(arrowstream_reader_take(reader, &batch), ARROWSTREAM_OK);
+    if (is_taken != (batch != NULL)) stop("a batch and another status");
+    if (arrowstream_reader_take(reader, &none) != ARROWSTREAM_ABSENT || none) stop("a batch twice");
     if (last) {
         read_batch(last, all);
-        arrowstream_batch_free(last);
+        arrowstream_reader_reuse(reader, last);
     }
+    arrowstream_reader_reuse(reader, NULL);
     all->batches++;
     return batch;
 }
@@ -171,6 +170,8 @@ static arrowstream_batch *take(arrowstream_reader *reader, arrowstream_batch *la
 static uint32_t feed(arrowstream_reader *reader, const uint8_t *bytes, size_t count, size_t piece,
                      answer *all, arrowstream_batch **last) {
     arrowstream_progress now = {0, 0, 0, ARROWSTREAM_NOTHING};
+    is_done(arrowstream_reader_feed(reader, NULL, 0, &now), ARROWSTREAM_OK);
+    if (now.taken != 0 || now.wanted == 0) stop("no bytes are wanted");
     while (count > 0 && now.event != ARROWSTREAM_END) {
         size_t length = count < piece ? count : piece;
         uint32_t status = arrowstream_reader_feed(reader, bytes, length, &now);
@@ -274,8 +275,9 @@ static void call_at_null(void) {
     if (arrowstream_reader_feed(NULL, &byte, 1, &fed) != ARROWSTREAM_MISUSE || !is_nowhere(&fed)
         || arrowstream_reader_close(NULL, &closed) != ARROWSTREAM_MISUSE || !is_nowhere(&closed))
         stop("a reader at NULL");
-    arrowstream_reader_take(NULL, &batch);
-    if (batch) stop("a batch of NULL");
+    if (arrowstream_reader_take(NULL, &batch) != ARROWSTREAM_MISUSE || batch)
+        stop("a batch of NULL");
+    arrowstream_reader_reuse(NULL, NULL);
     if (arrowstream_reader_schema(NULL, &byte, 1, &wanted[0]) != ARROWSTREAM_MISUSE
         || arrowstream_reader_line(NULL, &byte, 1, &wanted[1]) != ARROWSTREAM_MISUSE
         || arrowstream_batch_pairs(NULL, &byte, 1, &wanted[2]) != ARROWSTREAM_MISUSE

@@ -76,13 +76,26 @@ typedef struct {
 static const step steps[] = {
     {'n', ARROWSTREAM_MISUSE, 0, NULL, "call out of order"},
     {'f', ARROWSTREAM_MISUSE, 0, NULL, NULL},
+    {'d', ARROWSTREAM_MISUSE, 0, NULL, NULL},
+    {'D', ARROWSTREAM_MISUSE, 0, NULL, NULL},
     {'S', ARROWSTREAM_TEXT + 6, 0, "{\"fields\":[]", "X6 BadSchemaJson"},
     {'S', ARROWSTREAM_TEXT + 6, 0, "\xff", "X6 BadSchemaJson"},
     {'S', ARROWSTREAM_OK, 0, schema, NULL},
     {'S', ARROWSTREAM_MISUSE, 0, schema, NULL},
     {'e', ARROWSTREAM_MISUSE, 0, NULL, "call out of order"},
+    ROW(8, "Ulm"),
+    {'r', ARROWSTREAM_OK, 0, NULL, NULL},
+    {'p', ARROWSTREAM_OK, 0, "gone", NULL},
+    ROW(9, "Ulm"),
+    {'[', ARROWSTREAM_OK, 0, NULL, NULL},
+    {'D', ARROWSTREAM_OK, 0, NULL, NULL},
     ROW(1, "Bonn"),
     {'r', ARROWSTREAM_OK, 0, NULL, NULL},
+    ROW(7, "Ulm"),
+    {'{', ARROWSTREAM_OK, 0, NULL, NULL},
+    {'i', ARROWSTREAM_OK, 7, NULL, NULL},
+    {'d', ARROWSTREAM_OK, 0, NULL, NULL},
+    {'d', ARROWSTREAM_OK, 0, NULL, NULL},
     ROW(300, "Bonn"),
     {'r', ARROWSTREAM_WRITE + 4, 0, NULL, "W4 OutOfRange at row 1 path 0"},
     {'i', ARROWSTREAM_OK, 1, NULL, NULL},
@@ -118,11 +131,13 @@ static const step steps[] = {
     {'f', ARROWSTREAM_OK, 0, NULL, NULL},
     {'n', ARROWSTREAM_WRITE_FAILED, 0, NULL, "call out of order"},
     {'f', ARROWSTREAM_WRITE_FAILED, 0, NULL, NULL},
+    {'d', ARROWSTREAM_WRITE_FAILED, 0, NULL, NULL},
+    {'D', ARROWSTREAM_WRITE_FAILED, 0, NULL, NULL},
 };
 
 static uint32_t make(arrowstream_writer *writer, const step *now) {
-    const uint8_t *text = (const uint8_t *)(now->text ? now->text : "");
-    size_t length = strlen((const char *)text);
+    size_t length = now->text ? strlen(now->text) : 0;
+    const uint8_t *text = length > 0 ? (const uint8_t *)now->text : NULL;
     switch (now->call) {
     case 'S': return arrowstream_writer_schema(writer, text, length);
     case 'n': return arrowstream_writer_null(writer);
@@ -137,6 +152,8 @@ static uint32_t make(arrowstream_writer *writer, const step *now) {
     case 'r': return arrowstream_writer_row(writer);
     case 'p': return arrowstream_writer_pair(writer, text, length, text, length);
     case 's': return arrowstream_writer_send(writer);
+    case 'd': return arrowstream_writer_drop_row(writer);
+    case 'D': return arrowstream_writer_drop_batch(writer);
     default: return arrowstream_writer_finish(writer);
     }
 }
@@ -167,6 +184,7 @@ static void take(arrowstream_writer *writer, int writes) {
         if (bytes[count] != FILL) stop("a byte past the end", ready);
         if (writes && fwrite(bytes, 1, count, stdout) != count) stop("no output", ready);
     }
+    if (arrowstream_writer_take(writer, NULL, 0) != 0) stop("bytes of no room", 0);
     if (arrowstream_writer_take(writer, bytes, PIECE) != 0) stop("bytes after the last", 0);
 }
 
@@ -231,8 +249,7 @@ static void copy_schema(arrowstream_reader *reader, arrowstream_writer *writer) 
 
 static void copy_batch(arrowstream_reader *reader, arrowstream_writer *writer) {
     arrowstream_batch *batch = NULL;
-    arrowstream_reader_take(reader, &batch);
-    if (!batch) stop("no batch", 0);
+    if (arrowstream_reader_take(reader, &batch) != ARROWSTREAM_OK) stop("no batch", 0);
     size_t rows = arrowstream_batch_rows(batch);
     if (arrowstream_writer_columns(writer, NULL) != ARROWSTREAM_MISUSE)
         stop("columns of NULL", rows);

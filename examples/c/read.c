@@ -155,8 +155,7 @@ static int print_batch(arrowstream_reader *reader, size_t *rows) {
     arrowstream_batch *batch = NULL;
     uint64_t path[MOST_STEPS];
     int status = DONE;
-    arrowstream_reader_take(reader, &batch);
-    if (!batch) return NO_MEMORY;
+    if (arrowstream_reader_take(reader, &batch) != ARROWSTREAM_OK) return NO_MEMORY;
     *rows += arrowstream_batch_rows(batch);
     printf("batch, %zu rows, %zu columns, pairs ", arrowstream_batch_rows(batch),
            arrowstream_batch_columns(batch));
@@ -165,7 +164,7 @@ static int print_batch(arrowstream_reader *reader, size_t *rows) {
         path[0] = column;
         status = print_column(batch, path, 1);
     }
-    arrowstream_batch_free(batch);
+    arrowstream_reader_reuse(reader, batch);
     return status;
 }
 

@@ -76,15 +76,24 @@ CopiesLine was is old new wanted status = (is ≡ was)
     × ((answer : Result (Option (String Global)) Fault)
     × s.GivesLine was.refusal answer × GivesText answer old new wanted status)
 
--- the batch is held, or memory ran out
-abbrev pub MayHold : ReadBatch → Option ReadBatch → Type 0
-MayHold batch None = ⊤
-MayHold batch (Some held) = held ≡ batch
+-- the batch is held and the status is 0, or memory ran out
+abbrev pub MayHold : ReadBatch → Option ReadBatch → ℕ → Type 0
+MayHold batch None status = status ≡ fault_number OutOfMemory
+MayHold batch (Some held) status = (status ≡ 0) × (held ≡ batch)
 
--- the batch that came last leaves the reader; C has it, unless memory ran out
-abbrev pub TakesBatch : ReadSession → ReadSession → Option ReadBatch → Type 0
-TakesBatch was is None = is ≡ record was { batch = None }
-TakesBatch was is (Some found) = (was.batch ≡ Some found) × (is ≡ record was { batch = None })
+-- the batch that came last is held, unless memory ran out; without one there is none to hold
+abbrev pub IsTaken : Option ReadBatch → Option ReadBatch → ℕ → Type 0
+IsTaken None None status = status ≡ absent
+IsTaken None (Some found) status = ⊥
+IsTaken (Some last) found status = MayHold last found status
+
+-- the batch that came last leaves the reader, for C
+abbrev pub TakesBatch : ReadSession → ReadSession → Option ReadBatch → ℕ → Type 0
+TakesBatch was is found status = (is ≡ record was { batch = None }) × IsTaken was.batch found status
+
+-- the state of the stream stays: only the room for the next body may be another
+abbrev pub TakesBack : ReadSession → ReadSession → Type 0
+TakesBack was is = is ≡ record was { decoder = record was.decoder { room = is.decoder.room } }
 
 -- the number of rows; the batch stays
 abbrev pub AreRows : ReadBatch → ReadBatch → ℕ → Type 0

@@ -61,9 +61,17 @@ EndsCell was is status = s.Reports s.EndsCell was is status
 abbrev pub EndsRow : WriteSession → WriteSession → ℕ → Type 0
 EndsRow was is status = s.Reports s.EndsRow was is status
 
+-- the row that has not ended is dropped
+abbrev pub DropsRow : WriteSession → WriteSession → ℕ → Type 0
+DropsRow was is status = s.Reports s.DropsRow was is status
+
 -- a pair is added to those that are sent with the pending rows
 abbrev pub AddsPair : WriteSession → List ℕ → List ℕ → WriteSession → ℕ → Type 0
 AddsPair was key value is status = s.Reports (s.AddsPair key value) was is status
+
+-- the pending rows and pairs are dropped, with the row that has not ended
+abbrev pub DropsBatch : WriteSession → WriteSession → ℕ → Type 0
+DropsBatch was is status = s.Reports s.DropsBatch was is status
 
 -- the pending rows are sent
 abbrev pub SendsRows : WriteSession → WriteSession → ℕ → Type 0

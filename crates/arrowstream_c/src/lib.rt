@@ -6,7 +6,7 @@
 //! one call at a time on each reader, batch and writer, and a batch may change its thread.
 #![tactic(auto)]
 
-ghost use Rattle.std.specs.Prelude.{◌≡◌, None, Option};
+ghost use Rattle.std.specs.Prelude.{◌≡◌, ⊤, None, Option};
 ghost use Rattle.std.specs.Borrow.{sem};
 ghost use Rattle.ipc_stream_session.specs.declared.batch.ReadBatch.{ReadBatch};
 ghost use Rattle.ipc_stream_session.specs.declared.session.ReadSession.{ReadSession};
@@ -14,7 +14,7 @@ ghost use Rattle.ipc_stream_session.specs.declared.write_session.WriteSession.{W
 ghost use Rattle.arrowstream_c.specs.AtNull.{IsNowhere, RefusesColumn, RefusesText, TakesNothing};
 ghost use Rattle.arrowstream_c.specs.Calls.{AreRows, AreColumns, Closes, CopiesBuffer, CopiesLine};
 ghost use Rattle.arrowstream_c.specs.Calls.{CopiesPairs, CopiesSchema, DescribesColumn, Feeds};
-ghost use Rattle.arrowstream_c.specs.Calls.{OpensReader, TakesBatch};
+ghost use Rattle.arrowstream_c.specs.Calls.{OpensReader, TakesBack, TakesBatch};
 ghost use Rattle.arrowstream_c.specs.Handles.{OfHandle, OfHandles, batch_or_null, misuse};
 ghost use Rattle.arrowstream_c.specs.Handles.{reader_or_null, writer_or_null};
 ghost use Rattle.arrowstream_c.specs.Numbers.{AreStandard};
@@ -156,22 +156,52 @@ pub unsafe extern "C" fn arrowstream_reader_line(
     reader_calls::line(&mut *(reader as *mut ReadSession), text, wanted)
 }
 
-/// Takes the batch that the last piece completed, and sets `out` to it. It is null if there is no
-/// batch to take, and if memory ran out: then the batch is dropped.
+/// Takes the batch that the last piece completed, and sets `out` to it. Returns 0. Without a batch
+/// it returns `ABSENT`, and 37 if memory ran out; then the batch is dropped, and `out` is null.
 #[unsafe(no_mangle)]
-pub unsafe extern "C" fn arrowstream_reader_take(alloc: Global, reader: *mut u8, out: &mut *mut u8)
+pub unsafe extern "C" fn arrowstream_reader_take(
+    alloc: Global,
+    reader: *mut u8,
+    out: &mut *mut u8,
+) -> u32
     ghost was: { Option ReadSession }
     requires* { sem 𝓛 (reader_or_null reader was) }
     ensures* { ∃ₛ (λ (is : Option ReadSession). ∃ₛ (λ (found : Option ReadBatch).
         sem 𝓛 (reader_or_null reader is) ∗ (sem 𝓛 (batch_or_null out.new found)
-        ∗ ⌜ OfHandle (λ was is. TakesBatch was is found) (found ≡ None) was is ⌝))) }
+        ∗ ⌜ OfHandle (λ was is. TakesBatch was is found result)
+        ((found ≡ None) × (result ≡ misuse)) was is ⌝))) }
 {
     if reader.is_null() {
         *out = null_mut();
+        return MISUSE;
+    }
+    let BatchHandle { at, status } = reader_calls::take(alloc, &mut *(reader as *mut ReadSession));
+    *out = at;
+    status
+}
+
+/// Takes a batch back: it is freed, and the reader reads the next body into its memory.
+#[unsafe(no_mangle)]
+pub unsafe extern "C" fn arrowstream_reader_reuse(alloc: Global, reader: *mut u8, batch: *mut u8)
+    ghost was: { Option ReadSession × Option ReadBatch }
+    requires* { sem 𝓛 (reader_or_null reader was.0) ∗ sem 𝓛 (batch_or_null batch was.1) }
+    ensures* { ∃ₛ (λ (is : Option ReadSession). sem 𝓛 (reader_or_null reader is)
+        ∗ ⌜ OfHandle (λ was is. TakesBack was is) ⊤ was.0 is ⌝) }
+{
+    if reader.is_null() {
+        arrowstream_batch_free(alloc, batch);
         return;
     }
-    let BatchHandle { at } = reader_calls::take(alloc, &mut *(reader as *mut ReadSession));
-    *out = at;
+    if batch.is_null() {
+        return;
+    }
+    reader_calls::reuse(
+        &mut *(reader as *mut ReadSession),
+        Block {
+            ptr: batch as *mut ReadBatch,
+            alloc,
+        },
+    );
 }
 
 /// Frees a batch.
@@ -460,6 +490,21 @@ pub unsafe extern "C" fn arrowstream_writer_row(writer: *mut u8) -> u32
     writer_calls::end_row(&mut *(writer as *mut WriteSession))
 }
 
+/// Drops the row that has not ended, with its lists and structs. Returns 0, or the number of the
+/// error.
+#[unsafe(no_mangle)]
+pub unsafe extern "C" fn arrowstream_writer_drop_row(writer: *mut u8) -> u32
+    ghost was: { Option WriteSession }
+    requires* { sem 𝓛 (writer_or_null writer was) }
+    ensures* { ∃ₛ (λ (is : Option WriteSession). sem 𝓛 (writer_or_null writer is)
+        ∗ ⌜ OfHandle (λ was is. w.DropsRow was is result) (result ≡ misuse) was is ⌝) }
+{
+    if writer.is_null() {
+        return MISUSE;
+    }
+    writer_calls::drop_row(&mut *(writer as *mut WriteSession))
+}
+
 /// Adds a pair of key and value to those that are sent with the pending rows. Returns 0, or the
 /// number of the error.
 #[unsafe(no_mangle)]
@@ -474,6 +519,21 @@ pub unsafe extern "C" fn arrowstream_writer_pair(writer: *mut u8, key: &[u8], va
         return MISUSE;
     }
     writer_calls::add_pair(&mut *(writer as *mut WriteSession), key, value)
+}
+
+/// Drops the pending rows and pairs, and the row that has not ended. Returns 0, or the number of
+/// the error.
+#[unsafe(no_mangle)]
+pub unsafe extern "C" fn arrowstream_writer_drop_batch(writer: *mut u8) -> u32
+    ghost was: { Option WriteSession }
+    requires* { sem 𝓛 (writer_or_null writer was) }
+    ensures* { ∃ₛ (λ (is : Option WriteSession). sem 𝓛 (writer_or_null writer is)
+        ∗ ⌜ OfHandle (λ was is. w.DropsBatch was is result) (result ≡ misuse) was is ⌝) }
+{
+    if writer.is_null() {
+        return MISUSE;
+    }
+    writer_calls::drop_batch(&mut *(writer as *mut WriteSession))
 }
 
 /// Sends the pending rows as one batch with the pending pairs. Returns 0, or the number of the

@@ -1,12 +1,12 @@
 //! What each export of a reader does with it.
 ghost use Rattle.arrowstream_c.specs.Calls.{Closes, CopiesLine, CopiesSchema, Feeds, GivesText};
-ghost use Rattle.arrowstream_c.specs.Calls.{IsAt, TakesBatch};
+ghost use Rattle.arrowstream_c.specs.Calls.{IsAt, TakesBack, TakesBatch};
 
 use crate::answers::{ABSENT, Progress, arrival_number, end_number, status_of};
 use crate::batch::BatchHandle;
 use crate::block::Block;
 use ipc_model::Fault;
-use ipc_stream_session::{ReadSession, copy_into};
+use ipc_stream_session::{ReadBatch, ReadSession, copy_into};
 use std::alloc::Global;
 
 pub(crate) fn free_reader(reader: Block<ReadSession, Global>) {
@@ -90,10 +90,16 @@ pub(crate) fn line(reader: &mut ReadSession, text: &mut [u8], wanted: &mut usize
 }
 
 pub(crate) fn take(alloc: Global, reader: &mut ReadSession) -> BatchHandle
-    ensures { TakesBatch reader.old reader.new result.held }
+    ensures { TakesBatch reader.old reader.new result.held result.status }
 {
     match reader.take_batch() {
         Some(batch) => BatchHandle::holding(alloc, batch),
-        None => BatchHandle::none(),
+        None => BatchHandle::none(ABSENT),
     }
+}
+
+pub(crate) fn reuse(reader: &mut ReadSession, batch: Block<ReadBatch, Global>)
+    ensures { TakesBack reader.old reader.new }
+{
+    reader.reuse(Box::into_inner(batch.into_box()));
 }

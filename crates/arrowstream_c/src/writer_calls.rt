@@ -76,10 +76,22 @@ pub(crate) fn end_row(writer: &mut WriteSession) -> u32
     writer.end_row()
 }
 
+pub(crate) fn drop_row(writer: &mut WriteSession) -> u32
+    ensures { w.DropsRow writer.old writer.new result }
+{
+    writer.drop_row()
+}
+
 pub(crate) fn add_pair(writer: &mut WriteSession, key: &[u8], value: &[u8]) -> u32
     ensures { w.AddsPair writer.old key.now value.now writer.new result }
 {
     writer.add_pair(key, value)
+}
+
+pub(crate) fn drop_batch(writer: &mut WriteSession) -> u32
+    ensures { w.DropsBatch writer.old writer.new result }
+{
+    writer.drop_batch()
 }
 
 pub(crate) fn send(writer: &mut WriteSession) -> u32

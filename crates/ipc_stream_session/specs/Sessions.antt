@@ -67,6 +67,12 @@ abbrev pub Closes : ReadSession → ReadSession → Result End Fault → Type 0
 Closes old new r = d.ClosesAt old.decoder old.decoder.stage new.decoder r
     × (new.batch ≡ old.batch) × (new.refusal ≡ refusal_after old new r)
 
+-- only the room for the next body may be another, and there is none after the end or a refusal
+pub record TakesBack (old new : ReadSession) : Type 0 where
+  pub same : new ≡ record old { decoder = record old.decoder { room = new.decoder.room } }
+  pub metadata : new.decoder.room.metadata ≡ old.decoder.room.metadata
+  pub let_go : d.DropsLists new.decoder.stage new.decoder.room
+
 -- the text of the schema in force, if one came
 abbrev pub GivesSchemaText : State → Result (Option (String Global)) Fault → Type 0
 GivesSchemaText state (Ok None) = d.schema_of state ≡ None

@@ -176,6 +176,15 @@ TakesRow t old new (Err e) = RunsOut old new e
 abbrev pub EndsRow : WriteSession → WriteSession → Result ⊤ WriteError → Type 0
 EndsRow old new r = OnStage old.stage (λ t. TakesRow t old new r) old new r
 
+-- no cell and no list or struct of the row remains
+abbrev pub DropsCells : WriteSession → WriteSession → Result ⊤ WriteError → Type 0
+DropsCells old new (Ok x) = new ≡ record old { cells = []; nestings = [] }
+DropsCells old new (Err e) = ⊥
+
+-- the call that drops the row that has not ended
+abbrev pub DropsRow : WriteSession → WriteSession → Result ⊤ WriteError → Type 0
+DropsRow old new r = OnStage old.stage (λ _. DropsCells old new r) old new r
+
 -- ---- batches
 
 -- two texts are a pair if both are UTF-8, unless memory ran out
@@ -200,6 +209,16 @@ pub record AddsUtf8Pair (key value : List ℕ) (old new : WriteSession) (r : Res
 abbrev pub AddsPair : List ℕ → List ℕ → WriteSession → WriteSession → Result ⊤ WriteError → Type 0
 AddsPair key value old new r =
     OnStage old.stage (λ _. AddsUtf8Pair key value old new r) old new r
+
+-- no row, no pair and no cell remains pending
+abbrev pub DropsPending : WriteSession → WriteSession → Result ⊤ WriteError → Type 0
+DropsPending old new (Ok x) =
+    new ≡ record old { cells = []; nestings = []; rows = []; pairs = [] }
+DropsPending old new (Err e) = ⊥
+
+-- the call that drops what was not sent
+abbrev pub DropsBatch : WriteSession → WriteSession → Result ⊤ WriteError → Type 0
+DropsBatch old new r = OnStage old.stage (λ _. DropsPending old new r) old new r
 
 -- the error of a call whose writer refuses it
 abbrev pub refused_as : Result ⊤ WriteFault → Result ⊤ WriteError

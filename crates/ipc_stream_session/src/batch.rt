@@ -34,6 +34,18 @@ impl ReadBatch {
         }
     }
 
+    // The batch, without its pairs.
+    pub(crate) fn into_batch(self) -> Batch
+        ensures { result ≡ self.batch }
+    {
+        let ReadBatch {
+            batch,
+            pairs: _,
+            alloc: _,
+        } = self;
+        batch
+    }
+
     // The batch, and its pairs.
     pub(crate) fn parts(&self) -> (&Batch, &Items<(Text, Text)>)
         ensures batch { result.0.now ≡ self.now.batch }

@@ -2,7 +2,8 @@
 ghost use Rattle.std.specs.Prelude.{◌≡◌, None};
 ghost use Rattle.ipc_stream_read.specs.Decoding.{Wants};
 ghost use Rattle.ipc_stream_session.specs.Sessions.{Closes, Feeds, GivesLine, GivesSchemaText};
-ghost use Rattle.ipc_stream_session.specs.Sessions.{IsNew, arrival_of, batch_in, with_refusal};
+ghost use Rattle.ipc_stream_session.specs.Sessions.{IsNew, TakesBack, arrival_of, batch_in};
+ghost use Rattle.ipc_stream_session.specs.Sessions.{with_refusal};
 
 use crate::arrival::Arrival;
 use crate::batch::ReadBatch;
@@ -149,5 +150,14 @@ impl ReadSession {
         ensures state { self.new ≡ record self.old { batch = None } }
     {
         self.batch.take()
+    }
+
+    /// Takes back a batch that is no longer needed, of this session or of another one. The next
+    /// body is read over its bytes, so no memory of that length is allocated and cleared. The state
+    /// of the stream does not change. The memory is freed where `Decoder::reuse` drops the batch.
+    pub fn reuse(&mut self, batch: ReadBatch)
+        ensures { TakesBack self.old self.new }
+    {
+        self.decoder.reuse(batch.into_batch());
     }
 }

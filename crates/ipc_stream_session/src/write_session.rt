@@ -169,6 +169,15 @@ impl WriteSession {
         Ok(())
     }
 
+    fn try_drop_row(&mut self) -> Result<(), WriteError>
+        ensures { w.DropsRow self.old self.new result }
+    {
+        self.stage.open()?;
+        self.cells = Items::new(self.alloc);
+        self.nestings = Items::new(self.alloc);
+        Ok(())
+    }
+
     fn try_add_pair(&mut self, key: &[u8], value: &[u8]) -> Result<(), WriteError>
         ensures { w.AddsPair key.now value.now self.old self.new result }
     {
@@ -183,6 +192,15 @@ impl WriteSession {
             Ok(None) => Err(WriteError::NotUtf8),
             Err(_) => Err(self.end(WriteFault::OutOfMemory)),
         }
+    }
+
+    fn try_drop_batch(&mut self) -> Result<(), WriteError>
+        ensures { w.DropsBatch self.old self.new result }
+    {
+        self.try_drop_row()?;
+        self.rows = Items::new(self.alloc);
+        self.pairs = Items::new(self.alloc);
+        Ok(())
     }
 
     // Takes the open table out of the session, whose stage is then to be set.
@@ -361,12 +379,29 @@ impl WriteSession {
         self.report(answer)
     }
 
+    /// Drops the cells of the row that has not ended, with the lists and structs that were begun in
+    /// it. The pending rows remain. Returns 0, or the number of the error.
+    pub fn drop_row(&mut self) -> u32
+        ensures { w.Reports w.DropsRow self.old self.new result }
+    {
+        let answer = self.try_drop_row();
+        self.report(answer)
+    }
+
     /// Adds a pair of key and value to those that are sent with the pending rows. Their limits are
     /// checked by `send`. Returns as `add_null`, or 66 if one of the texts is not UTF-8.
     pub fn add_pair(&mut self, key: &[u8], value: &[u8]) -> u32
         ensures { w.Reports (w.AddsPair key.now value.now) self.old self.new result }
     {
         let answer = self.try_add_pair(key, value);
+        self.report(answer)
+    }
+
+    /// Drops the pending rows and pairs, and the row that has not ended. Returns as `drop_row`.
+    pub fn drop_batch(&mut self) -> u32
+        ensures { w.Reports w.DropsBatch self.old self.new result }
+    {
+        let answer = self.try_drop_batch();
         self.report(answer)
     }
 

@@ -1,5 +1,5 @@
 -- `arrowstream_reader_take` lends what the pointer leads to, has it back, and writes the pointer of what was made.
-use Rattle.std.proofs.Common.{◌≡◌, ◌++◌, List, [], ◌∷◌, refl, ap, subst, lit<, MutBor}
+use Rattle.std.proofs.Common.{◌≡◌, ◌++◌, List, [], ◌∷◌, refl, ap, subst, lit<, MutBor, w32}
 use Rattle.std.specs.Prelude.{Option, Some, None}
 use Rattle.std.proofs.raw_atomic.Walks.{proved}
 use Rattle.std.proofs.alloc.Calls.{Goes-blank}
@@ -13,7 +13,7 @@ use base.Logic.{id⊢, sep, ex}
 use base.Fml.{GName, ftrue, flft, flent}
 use lib.Dec.{T}
 use mir.Syntax.{named}
-use mir.Val.{Val, vptr, vnull, vunit, has_ty, WT}
+use mir.Val.{Val, vptr, vnull, vint, has_ty, WT}
 use contract.Monad.{fact}
 use contract.Running.{tables}
 use prog.Wp.{WpFn}
@@ -22,19 +22,21 @@ use types.SemTy.{Body}
 use types.Kit.{‵, raw, ◌⊛◌, some, later, prop, ◌$◌, ◌∵◌, !, qed, done, move, keep, drop, use1, use2, use3, split, join, fsplit}
 use types.Kit.{at_ret, fsplit3, fjoin, fjoin3, fpack, feq_i, feq_l, pick, await, rewrite, suffices, group, frame, show}
 use types.Part.{whole, sub}
-use types.Run.{enter, of_opd, lit, unit_lit, bin, addr, fld, store, assigns}
+use types.Run.{enter, of_opd, lit, bin, addr, fld, store, assigns}
 use types.Run.{no_more, and_then, stop, first, branches, skips, exec, returns, returns_within}
 use types.ByLocal.{alloc_all, pass_all, free_all, look_at, get, get_in, through, sets, lands_as, env}
 use types.Tokens.{lft_new, lft_end}
+use denote.Builtin.{u32}
 use denote.Laws.{Is, shows}
 use denote.Lend.{lends_ref, ref_back}
 use denote.Memory.{mem, part_at, lone, cell_at}
 use denote.Param.Laws.{Told}
+use denote.Plain.{uint_Makes}
 use denote.RattleType.{RattleType}
 use denote.RawPtr.{Ptr, RawPtr, block_ptr, null_ptr, ptr_val, tests_null, rawptr_vals, rawptr_Tells, rawptr_Lawful}
 use denote.Ref.{MutRef, mut_vals, mut_Tells}
 use denote.Signature.{plain}
-use denote.Steps.{nothing, only, peeks, opens, closes, heard}
+use denote.Steps.{nothing, only, owned, peeks, opens, closes, heard}
 use denote.Struct.OwningLaws.{Lowered}
 use denote.Triple.Call.{calls_at}
 use denote.Triple.Clauses.{lasts}
@@ -43,7 +45,7 @@ use denote.Triple.Table.{framed}
 use denote.Triple.Walked.{Stays, walk_of, says, stay_dropped, stay_ref, Goes-ref, ends_at}
 use Rattle.ipc_stream_session.specs.contracts.session.ReadSession as held
 use Rattle.ipc_stream_session.specs.contracts.batch.ReadBatch as found
-use Rattle.arrowstream_c.specs.Handles.{OfHandle, held_or_null}
+use Rattle.arrowstream_c.specs.Handles.{OfHandle, held_or_null, misuse}
 use Rattle.arrowstream_c.specs.Calls.{TakesBatch}
 use Rattle.arrowstream_c.specs.contracts.batch.BatchHandle as handle
 use Rattle.arrowstream_c.proofs.batch.BatchHandle.TheLaws as handle_laws
@@ -104,18 +106,20 @@ arrowstream_reader_take_spec 𝓤 𝓛 𝓜 𝓡 wired =
     (λ t. move ! (1 ∷ 0 ∷ []) $ fsplit3 ! $ move ! (1 ∷ 2 ∷ 3 ∷ []) $ opens ! tt RawPtr ob oo (λ us. move ! (1 ∷ []) $ feq_l ! (λ eq.
     rewrite ! 0 (λ (old : List Val). ‵ (cell_at full_share RawPtr.mir old ob oo)) eq refl $
     assigns ! (of_opd ! (lit ! tt)) (through ! refl (stop !)) (store ! 0 refl (tt, record { fits = lit< tt })) $
-    sets ! (of_opd ! (unit_lit !)) refl (tt, tt) $
+    sets ! (of_opd ! (lit ! tt)) refl (tt, record { fits = lit< tt }) $
     feq_i ! (List Val) (vnull ∷ []) (vnull ∷ []) refl $ move ! (1 ∷ 0 ∷ []) $ closes ! tt RawPtr null_ptr (vnull ∷ []) ob oo $
     -- [two parts of out; its token; its first part]
     returns_within ! (W.post (y null_ptr None)) refl (look_at ! 0 refl) $ free_all ! refl $ keep ! (3 ∷ 0 ∷ 1 ∷ 2 ∷ []) $ fjoin3 ! $
-    suffices ! _ (ends_at 𝓛 f.ended stayed c (y null_ptr None) vunit tt (tt, (tt, (null_ptr, tt))) (tt, (tt, (tt, tt)))) $
+    suffices ! _ (ends_at 𝓛 f.ended stayed c (y null_ptr None) (vint w32 65) 65 (tt, (tt, (null_ptr, tt))) (tt, (tt, (tt, tt)))) $
     nothing ! $ move ! (1 ∷ 0 ∷ []) $ join ! $ nothing ! $ join ! $ nothing ! $ join ! $ nothing ! $ move ! (2 ∷ 0 ∷ []) $ join ! $
-    feq_i ! (List Val) (vunit ∷ []) (vunit ∷ []) refl $ move ! (1 ∷ 2 ∷ 0 ∷ []) $ group ! 3 $ frame ! $
+    owned ! u32 _ (uint_Makes 𝓛 w32) 65 _ (refl, lit< tt) $ move ! (1 ∷ 2 ∷ 0 ∷ []) $ group ! 3 $ frame ! $
     show ! (λ (is : Option R.Denot). ex 𝓤 (λ (found : Option F.Denot). sep 𝓤 (sem 𝓛 (held_or_null R null_ptr is))
-    (sep 𝓤 (sem 𝓛 (held_or_null F null_ptr found)) (fact 𝓤 (OfHandle (λ was is. TakesBatch was is found) (found ≡ None) None is))))) None $
+    (sep 𝓤 (sem 𝓛 (held_or_null F null_ptr found)) (fact 𝓤 (OfHandle (λ was is. TakesBatch was is found 65)
+    ((found ≡ None) × (65 ≡ misuse)) None is))))) None $
     show ! (λ (found : Option F.Denot). sep 𝓤 (sem 𝓛 (held_or_null R null_ptr None))
-    (sep 𝓤 (sem 𝓛 (held_or_null F null_ptr found)) (fact 𝓤 (OfHandle (λ was is. TakesBatch was is found) (found ≡ None) None None)))) None $
-    feq_i ! Ptr null_ptr null_ptr refl $ frame ! $ says ! refl $ feq_i ! Ptr null_ptr null_ptr refl $ done !)))
+    (sep 𝓤 (sem 𝓛 (held_or_null F null_ptr found)) (fact 𝓤 (OfHandle (λ was is. TakesBatch was is found 65)
+    ((found ≡ None) × (65 ≡ misuse)) None None)))) None $
+    feq_i ! Ptr null_ptr null_ptr refl $ frame ! $ says ! (refl, refl) $ feq_i ! Ptr null_ptr null_ptr refl $ done !)))
     (λ t. absurd t)))
     (λ b o x h may.
     fsplit ! $ move ! (2 ∷ []) $ split ! $ split ! $ move ! (2 ∷ []) $ split ! $ move ! (1 ∷ []) $ split ! $ drop ! $ split ! $
@@ -141,7 +145,7 @@ arrowstream_reader_take_spec 𝓤 𝓛 𝓜 𝓡 wired =
     (and_then ! (get ! refl) (and_then ! (get ! refl) (no_more !))) (λ v.
     use1 𝓛 (later (some (λ (r : H.Denot). ((‵ (flft κ' full_share) ⊛ ‵ ftrue) ⊛ ‵ (H.own_val r (v ∷ []))) ⊛
     some (λ (ws : Unit {0} × (R.Denot × Unit {0})). ‵ (lasts g.ended z.0.0 z.0.3 ws) ⊛
-    raw (fact 𝓤 (TakesBatch x ws.1.0 r.held)))))) (id⊢ 𝓤 _) $
+    raw (fact 𝓤 (TakesBatch x ws.1.0 r.held r.status)))))) (id⊢ 𝓤 _) $
     await ! tt $ pick ! (λ r. split ! $ split ! $ split ! $ lft_end ! tt $ move ! (3 ∷ []) $
     pick ! (λ ws. split ! $ move ! (1 ∷ []) $ heard ! _ (λ made. fsplit ! $ drop ! $ fsplit ! $ fsplit ! $
     -- [the last value; its borrow; true; κ' is over; true; what was made; the lender's part; the token of out; out; the right to free]
@@ -151,26 +155,30 @@ arrowstream_reader_take_spec 𝓤 𝓛 𝓜 𝓡 wired =
     let low = lowers.lowered r in let e : v ≡ low = ap only (lowers.val_is r (v ∷ []) is) in
     let good = subst (λ (u : Val). T (has_ty (lone H.mir) u) × WT u) e ((handle_laws.the_row_laws.lawful 𝓛).typed r (v ∷ []) is).0 in
     let ptr_good = ((rawptr_Lawful 𝓛).typed r.at (ptr_val r.at ∷ []) refl).0 in
+    let below = good.1.1.0.fits in
     lands_as ! e refl good $ fsplit ! $ drop ! $
     -- [what the new pointer owns; the value; its borrow; true; true; the token of out; out; the right to free]
     sets ! (of_opd ! (get_in ! (fld ! refl (stop !)) (sub ! 0 refl (whole !)))) refl ptr_good $
+    sets ! (of_opd ! (get_in ! (fld ! refl (stop !)) (sub ! 1 refl (whole !)))) refl (tt, record { fits = below }) $
     move ! (6 ∷ 5 ∷ []) $ fsplit3 ! $ move ! (1 ∷ 2 ∷ 3 ∷ []) $ opens ! tt RawPtr ob oo (λ us. move ! (1 ∷ []) $ feq_l ! (λ eq.
     rewrite ! 0 (λ (old : List Val). ‵ (cell_at full_share RawPtr.mir old ob oo)) eq refl $
     assigns ! (of_opd ! (get ! refl)) (through ! refl (stop !)) (store ! 0 refl ptr_good) $
-    sets ! (of_opd ! (unit_lit !)) refl (tt, tt) $
+    sets ! (of_opd ! (get ! refl)) refl (tt, record { fits = below }) $
     feq_i ! (List Val) (ptr_val r.at ∷ []) (ptr_val r.at ∷ []) refl $ move ! (1 ∷ 0 ∷ []) $ closes ! tt RawPtr r.at (ptr_val r.at ∷ [])
     ob oo $
     -- [two parts of out; its token; its first part; what the new pointer owns; the value; ..; the right to free]
     returns ! (look_at ! 0 refl) $ free_all ! refl $ keep ! (3 ∷ 0 ∷ 1 ∷ 2 ∷ 4 ∷ 5 ∷ 9 ∷ []) $ fjoin3 ! $
-    suffices ! _ (ends_at 𝓛 f.ended stayed c (y (block_ptr b o) (Some x)) vunit tt (tt, (tt, (r.at, tt))) (tt, (tt, (tt, tt)))) $
+    suffices ! _ (ends_at 𝓛 f.ended stayed c (y (block_ptr b o) (Some x)) (vint w32 r.status) r.status (tt, (tt, (r.at, tt)))
+    (tt, (tt, (tt, tt)))) $
     nothing ! $ move ! (1 ∷ 0 ∷ []) $ join ! $ nothing ! $ join ! $ nothing ! $ join ! $ nothing ! $ move ! (2 ∷ 0 ∷ []) $ join ! $
-    feq_i ! (List Val) (vunit ∷ []) (vunit ∷ []) refl $ move ! (1 ∷ 2 ∷ 0 ∷ []) $ group ! 3 $ frame ! $
+    owned ! u32 _ (uint_Makes 𝓛 w32) r.status _ (refl, below) $ move ! (1 ∷ 2 ∷ 0 ∷ []) $ group ! 3 $ frame ! $
     -- [what the new pointer owns; the value; the right to free]
     show ! (λ (is : Option R.Denot). ex 𝓤 (λ (found : Option F.Denot). sep 𝓤 (sem 𝓛 (held_or_null R (block_ptr b o) is))
-    (sep 𝓤 (sem 𝓛 (held_or_null F r.at found)) (fact 𝓤 (OfHandle (λ was is. TakesBatch was is found) (found ≡ None) (Some x) is)))))
+    (sep 𝓤 (sem 𝓛 (held_or_null F r.at found)) (fact 𝓤 (OfHandle (λ was is. TakesBatch was is found r.status)
+    ((found ≡ None) × (r.status ≡ misuse)) (Some x) is)))))
     (Some ws.1.0) $
     show ! (λ (found : Option F.Denot). sep 𝓤 (sem 𝓛 (held_or_null R (block_ptr b o) (Some ws.1.0)))
-    (sep 𝓤 (sem 𝓛 (held_or_null F r.at found)) (fact 𝓤 (OfHandle (λ was is. TakesBatch was is found) (found ≡ None) (Some x) (Some
-    ws.1.0))))) r.held $
+    (sep 𝓤 (sem 𝓛 (held_or_null F r.at found)) (fact 𝓤 (OfHandle (λ was is. TakesBatch was is found r.status)
+    ((found ≡ None) × (r.status ≡ misuse)) (Some x) (Some ws.1.0))))) r.held $
     move ! (1 ∷ 2 ∷ []) $ fjoin ! $ fpack ! Global (λ d. box_owns (ghosts.dealloc_token d) R (block_ptr b o) ws.1.0) h $ frame ! $ says !
     made $ done !)))))))))))))

@@ -1,5 +1,5 @@
 -- `of` gives what the block owns to a handle.
-use Rattle.std.proofs.Common.{◌++◌, List, [], ◌∷◌, refl}
+use Rattle.std.proofs.Common.{◌++◌, List, [], ◌∷◌, refl, lit<, w32}
 use Rattle.std.specs.Prelude.{Some}
 use Rattle.std.proofs.raw_atomic.Walks.{proved}
 use Rattle.std.proofs.alloc.Calls.{Goes-blank}
@@ -11,20 +11,22 @@ use Rattle.std.proofs.alloc.Global.TheLaws as global_laws
 use base.Logic.{fst∗, never}
 use base.Fml.{ftrue}
 use mir.Raw.{raw as bare}
-use mir.Val.{Val, vptr, vstruct, vcons, vnil}
+use mir.Val.{Val, vptr, vint, vstruct, vcons, vnil}
 use contract.Running.{tables}
 use prog.Wp.{WpFn}
 use types.Logic.{sem}
 use types.Kit.{‵, ◌⊛◌, prop, ◌$◌, ◌∵◌, !, qed, done, move, keep, split, join, fsplit, fjoin, fpack, feq_i, regoal, suffices, group}
 use types.Part.{agg, whole, sub}
-use types.Run.{enter, of_opd, fld, no_more, and_then, stop, returns}
+use types.Run.{enter, of_opd, lit, fld, no_more, and_then, stop, returns}
 use types.ByLocal.{alloc_all, pass_all, free_all, look_at, get, get_in, sets}
+use denote.Builtin.{u32}
 use denote.Memory.{lone}
 use denote.Param.Laws.{Told}
+use denote.Plain.{uint_Makes}
 use denote.RattleType.{RattleType, owns, Valss}
 use denote.RawPtr.{Ptr, RawPtr, block_ptr, null_ptr, in_a_block}
 use denote.Signature.{plain}
-use denote.Steps.{nothing}
+use denote.Steps.{nothing, owned}
 use denote.Struct.Struct.{within}
 use denote.Struct.Owning.{shape}
 use denote.Struct.OwningLaws.{Lowered}
@@ -70,12 +72,15 @@ of_spec 𝓤 𝓛 𝓜 𝓡 wired =
     enter ! _ _ _ _ _ $ alloc_all ! (λ l. pass_all ! refl ((tt, (tt, (((tt, tt), tt), tt))), tt) $
     sets ! (of_opd ! (get_in ! (fld ! refl (stop !)) (sub ! 0 refl (whole !)))) refl (tt, tt) $
     sets ! (of_opd ! (get ! refl)) refl (tt, tt) $
-    sets ! (agg ! (and_then ! (get ! refl) (no_more !))) refl (tt, (tt, tt)) $
+    sets ! (agg ! (and_then ! (get ! refl) (and_then ! (lit ! tt) (no_more !)))) refl (tt, (tt, (record { fits = lit< tt }, tt))) $
     returns ! (look_at ! 0 refl) $ free_all ! refl $ keep ! (0 ∷ []) $
     fpack ! Global (λ g. box_owns (ghosts.dealloc_token g) R (block_ptr b o) x.value) x.alloc $
-    let v = vstruct (vcons (vptr b o) vnil) in
-    let h : handle.the_row.Denot = record { at = block_ptr b o; held = Some x.value } in
-    nothing ! $ feq_i ! (List Val) (vptr b o ∷ []) (vptr b o ∷ []) refl $ fjoin ! $ feq_i ! (List Val) (v ∷ []) (v ∷ []) refl $ fjoin ! $
-    fpack ! (Valss (RawPtr ∷ [])) (within (shape handle.the_type) (block_ptr b o, tt) (v ∷ [])) (vptr b o ∷ [], tt) $ fjoin ! $
-    suffices ! _ (ends_at 𝓛 f.ended stayed c y v h (tt, tt) (tt, tt)) $ says ! refl $
+    let v = vstruct (vcons (vptr b o) (vcons (vint w32 0) vnil)) in
+    let h : handle.the_row.Denot = record { at = block_ptr b o; status = 0; held = Some x.value } in
+    nothing ! $ owned ! u32 _ (uint_Makes 𝓛 w32) 0 _ (refl, lit< tt) $ fjoin ! $
+    feq_i ! (List Val) (vptr b o ∷ []) (vptr b o ∷ []) refl $ fjoin ! $
+    feq_i ! (List Val) (v ∷ []) (v ∷ []) refl $ fjoin ! $
+    fpack ! (Valss (RawPtr ∷ u32 ∷ [])) (within (shape handle.the_type) (block_ptr b o, (0, tt)) (v ∷ []))
+    (vptr b o ∷ [], (vint w32 0 ∷ [], tt)) $ fjoin ! $
+    suffices ! _ (ends_at 𝓛 f.ended stayed c y v h (tt, tt) (tt, tt)) $ says ! (refl, refl) $
     nothing ! $ nothing ! $ join ! $ nothing ! $ group ! 3 $ done !)))
