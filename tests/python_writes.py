@@ -3,7 +3,6 @@ type, tables that are refused, and files that fail."""
 import datetime
 import io
 import subprocess
-import threading
 
 from helpers import tries
 
@@ -264,15 +263,6 @@ def misuses(arrowstream):
     yield lambda: writer.write_batch(read, [("key", "value")]), "TypeError"
 
 
-def on_another_thread(call):
-    """The name of the exception that a call raises on another thread."""
-    names = []
-    thread = threading.Thread(target=lambda: names.append(raised(call)))
-    thread.start()
-    thread.join()
-    return names[0]
-
-
 def failed_states(arrowstream):
     """How many calls in a state that does not allow them were tried, and how many raise otherwise
     than they should."""
@@ -286,7 +276,6 @@ def failed_states(arrowstream):
         writer.send()
         sizes.append(len(file.getvalue()))
     found.append((str(sorted(set(sizes)) == sizes and sizes[0] > 0), "True"))
-    found.append((on_another_thread(lambda: writer.write_row((3,))), "RuntimeError"))
     writer.close()
     writer.close()
     found.append((raised(lambda: writer.write_row((3,))), "ValueError"))

@@ -8,15 +8,20 @@ proved.
             print(batch.column("name").to_list())
 """
 
+from .batch import Batch, Column
+from .decoder import Decoder
 from .errors import ArrowError
-from .reader import Batch, Column, Reader, read
+from .reader import Reader, read
 from .schema import Dictionary, Field, Schema
 from .writer import Writer, write
+
+__version__ = "0.1.0"
 
 __all__ = [
     "ArrowError",
     "Batch",
     "Column",
+    "Decoder",
     "Dictionary",
     "Field",
     "Reader",

@@ -2,14 +2,19 @@
 
 from __future__ import annotations
 
+import collections
 import ctypes
 import os
 import pathlib
+import threading
+import types
 from typing import Any, Callable
 
 OK = 0
 OUT_OF_MEMORY = 37
 ABSENT = 64
+# W9: the bytes of a writer go to memory, so only want of memory refuses them.
+WRITE_NO_ROOM = 109
 WRITE_OUT_OF_MEMORY = 111
 VERSION = 1
 
@@ -32,6 +37,9 @@ class Limits(ctypes.Structure):
 class Progress(ctypes.Structure):
     """`arrowstream_progress`."""
 
+    taken: int
+    wanted: int
+    event: int
     _fields_ = [
         ("taken", ctypes.c_size_t),
         ("wanted", ctypes.c_size_t),
@@ -55,6 +63,12 @@ class Layout(ctypes.Structure):
 class ColumnFacts(ctypes.Structure):
     """`arrowstream_column`."""
 
+    slots: int
+    nulls: int
+    children: int
+    validity: int
+    offsets: int
+    values: int
     _fields_ = [
         ("layout", Layout),
         ("slots", ctypes.c_size_t),
@@ -72,7 +86,7 @@ _STATUS = ctypes.c_uint32
 _TEXT = [_HANDLE, ctypes.c_void_p, _SIZE, ctypes.POINTER(_SIZE)]
 _PATH = [_HANDLE, ctypes.POINTER(ctypes.c_uint64), _SIZE]
 _BYTES = [_HANDLE, ctypes.c_char_p, _SIZE]
-_CALLS = {
+_CALLS: dict[str, tuple[Any, list[Any]]] = {
     "arrowstream_version": (_STATUS, []),
     "arrowstream_limits_standard": (None, [ctypes.POINTER(Limits)]),
     "arrowstream_reader_open": (None, [ctypes.POINTER(Limits), ctypes.POINTER(_HANDLE)]),
@@ -80,7 +94,8 @@ _CALLS = {
     "arrowstream_reader_close": (_STATUS, [_HANDLE, ctypes.POINTER(Progress)]),
     "arrowstream_reader_schema": (_STATUS, _TEXT),
     "arrowstream_reader_line": (_STATUS, _TEXT),
-    "arrowstream_reader_take": (None, [_HANDLE, ctypes.POINTER(_HANDLE)]),
+    "arrowstream_reader_take": (_STATUS, [_HANDLE, ctypes.POINTER(_HANDLE)]),
+    "arrowstream_reader_reuse": (None, [_HANDLE, _HANDLE]),
     "arrowstream_reader_free": (None, [_HANDLE]),
     "arrowstream_batch_rows": (_SIZE, [_HANDLE]),
     "arrowstream_batch_columns": (_SIZE, [_HANDLE]),
@@ -103,6 +118,8 @@ _CALLS = {
     "arrowstream_writer_begin_struct": (_STATUS, [_HANDLE]),
     "arrowstream_writer_end": (_STATUS, [_HANDLE]),
     "arrowstream_writer_row": (_STATUS, [_HANDLE]),
+    "arrowstream_writer_drop_row": (_STATUS, [_HANDLE]),
+    "arrowstream_writer_drop_batch": (_STATUS, [_HANDLE]),
     "arrowstream_writer_pair": (_STATUS, [*_BYTES, ctypes.c_char_p, _SIZE]),
     "arrowstream_writer_send": (_STATUS, [_HANDLE]),
     "arrowstream_writer_columns": (_STATUS, [_HANDLE, _HANDLE]),
@@ -114,23 +131,71 @@ _CALLS = {
 }
 
 
-def _load() -> ctypes.PyDLL:
-    """The shared library: the file that ARROWSTREAM_LIBRARY names, or the one of this package.
+# Calls that may take long: Python goes on in other threads meanwhile. A reader and a writer stay on
+# their thread, and a batch has a lock.
+_LONG = (
+    "arrowstream_reader_feed",
+    "arrowstream_batch_buffer",
+    "arrowstream_writer_send",
+    "arrowstream_writer_columns",
+)
 
-    PyDLL keeps Python's lock during a call, so one call at a time uses the library.
-    """
-    beside = pathlib.Path(__file__).with_name("libarrowstream.so")
-    loaded = ctypes.PyDLL(os.environ.get("ARROWSTREAM_LIBRARY") or str(beside))
+
+def _load() -> types.SimpleNamespace:
+    """The calls of the shared library: the file that ARROWSTREAM_LIBRARY names, or the one of this
+    package."""
+    path = os.environ.get("ARROWSTREAM_LIBRARY")
+    path = path or str(pathlib.Path(__file__).with_name("libarrowstream.so"))
+    short, long = ctypes.PyDLL(path), ctypes.CDLL(path)
+    calls = {}
     for name, (result, arguments) in _CALLS.items():
-        call = getattr(loaded, name)
+        call = getattr(long if name in _LONG else short, name)
         call.restype, call.argtypes = result, arguments
-    found = loaded.arrowstream_version()
+        calls[name] = call
+    found = calls["arrowstream_version"]()
     if found != VERSION:
         raise ImportError(f"libarrowstream has version {found}, and {VERSION} is needed")
-    return loaded
+    return types.SimpleNamespace(**calls)
 
 
 library = _load()
+
+
+class _Left(threading.local):
+    """The handles of this thread that another one let go of, with the calls that free them."""
+
+    def __init__(self) -> None:
+        self.handles: collections.deque[tuple[Any, Any]] = collections.deque()
+
+
+_left = _Left()
+
+
+class Home:
+    """The thread that made a reader or a writer of the library, which alone may use and free it."""
+
+    def __init__(self) -> None:
+        self._handles = _left.handles
+        while self._handles:
+            call, handle = self._handles.popleft()
+            call(handle)
+
+    def is_here(self) -> bool:
+        """Whether this is that thread."""
+        return _left.handles is self._handles
+
+    def check(self, name: str) -> None:
+        """Raises RuntimeError on another thread."""
+        if not self.is_here():
+            raise RuntimeError(f"a {name} stays on the thread that made it")
+
+    def free(self, call: Any, handle: ctypes.c_void_p) -> None:
+        """Frees a handle. On another thread this is left to the home, which does it when it next
+        makes a reader or a writer."""
+        if self.is_here():
+            call(handle)
+        else:
+            self._handles.append((call, handle))
 
 
 def text_of(call: Callable[..., int], handle: ctypes.c_void_p) -> str | None:

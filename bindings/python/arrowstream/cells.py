@@ -46,7 +46,7 @@ def _timestamp(value: datetime.datetime, unit: str, zone: str | None) -> int:
     return _ticks(value - (EPOCH if zone is None else _EPOCH_UTC), unit)
 
 
-_TEMPORAL: dict[str, tuple[type, Callable[..., int]]] = {
+_TEMPORAL: dict[str, tuple[type[Any], Callable[..., int]]] = {
     "date": (datetime.date, _date),
     "time": (datetime.time, _time),
     "timestamp": (datetime.datetime, _timestamp),

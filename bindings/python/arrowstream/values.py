@@ -11,7 +11,7 @@ from itertools import compress
 from typing import TYPE_CHECKING, Any, Callable, Iterator
 
 if TYPE_CHECKING:
-    from .reader import Column
+    from .batch import Column
 
 EPOCH = datetime.datetime(1970, 1, 1)
 EPOCH_DAY = EPOCH.toordinal()
@@ -79,7 +79,8 @@ def _filled(column: Column, values: list[Any], filler: Any = None) -> list[Any]:
 
 def _numbers(column: Column, kind: tuple[Any, ...]) -> list[int]:
     codes = _UNSIGNED if kind[0] == "uint" else _SIGNED
-    return column.values[: kind[1] // 8 * len(column)].cast(codes[kind[1]]).tolist()
+    numbers: list[int] = column.values[: kind[1] // 8 * len(column)].cast(codes[kind[1]]).tolist()
+    return numbers
 
 
 def _slices(whole: Any, bounds: list[int]) -> list[Any]:
@@ -149,13 +150,19 @@ def _times(numbers: list[int], unit: str) -> Iterator[datetime.time]:
 
 
 def _zone(name: str) -> datetime.tzinfo:
-    """The time zone of this name: an offset such as +02:00, or a name of the tz database."""
+    """The time zone of this name: an offset such as +02:00, or a name of the tz database. Raises
+    ValueError."""
     offset = _OFFSET.fullmatch(name)
     if offset:
         sign, hours, minutes = offset.groups()
         passed = datetime.timedelta(hours=int(hours), minutes=int(minutes))
         return datetime.timezone(-passed if sign == "-" else passed)
-    return datetime.timezone.utc if name == "UTC" else zoneinfo.ZoneInfo(name)
+    if name == "UTC":
+        return datetime.timezone.utc
+    try:
+        return zoneinfo.ZoneInfo(name)
+    except (LookupError, OSError, ValueError) as fault:
+        raise ValueError(f"no time zone {name!r} is known") from fault
 
 
 def _timestamps(
@@ -193,11 +200,10 @@ def _width_of(column: Column) -> tuple[str, int]:
 
 def _encoded(column: Column, as_stored: bool) -> list[Any]:
     """The dictionary's value of each slot."""
-    dictionary = column.dictionary
-    if dictionary is None:
+    encoding, values = column.field.dictionary, column.decoded(as_stored)
+    if encoding is None or len(values) == 1:
         return [None] * len(column)
-    values = [*dictionary.to_list(as_stored=as_stored), None]
-    indices = _filled(column, _numbers(column, column.field.dictionary.index_type), -1)
+    indices = _filled(column, _numbers(column, encoding.index_type), -1)
     return list(map(values.__getitem__, indices))
 
 

@@ -4,13 +4,12 @@ from __future__ import annotations
 
 import ctypes
 import json
-import threading
 from typing import Any, BinaryIO, Dict, Iterable, Sequence, Union
 
 from . import _library as c
+from .batch import Batch
 from .cells import row_cells, rows_of
 from .errors import ArrowError
-from .reader import Batch
 from .schema import Schema, schema_of
 
 _PIECE = 1 << 20
@@ -57,7 +56,7 @@ class Writer:
         Raises ArrowError: X6 if there is no such schema, and W1 or W6 if it breaks a rule or a
         limit. Raises MemoryError if memory runs out.
         """
-        self._thread = threading.get_ident()
+        self._home = c.Home()
         self._file = file
         self._waiting = False
         self._handle = ctypes.c_void_p()
@@ -83,6 +82,10 @@ class Writer:
         else:
             self._free()
 
+    def __repr__(self) -> str:
+        state = "open" if self._handle else "closed"
+        return f"<arrowstream.Writer to {self._file!r}, {state}, columns {self.schema.names}>"
+
     def write_row(self, row: Row) -> None:
         """Adds a row to those that wait for `send`. Values are those of `Column.to_list`: None,
         bool, int, str, bytes, an object of `datetime`, a list, and for a struct a dict, a tuple of
@@ -95,10 +98,19 @@ class Writer:
         is as it was.
         """
         self._check()
-        for call, *arguments in row_cells(self.schema.fields, row):
-            self._raise(call(self._handle, *arguments))
-        self._raise(c.library.arrowstream_writer_row(self._handle))
-        self._waiting = True
+        cells = row_cells(self.schema.fields, row)
+        try:
+            for call, *arguments in cells:
+                self._raise(call(self._handle, *arguments))
+            # An interrupt may come at any of these lines, also after the row is added.
+            was_waiting, self._waiting = self._waiting, True
+            status = c.library.arrowstream_writer_row(self._handle)
+        except BaseException:
+            c.library.arrowstream_writer_drop_row(self._handle)
+            raise
+        if status != c.OK:
+            self._waiting = was_waiting
+            self._raise(status)
 
     def send(self, metadata: Iterable[tuple[str, str]] = ()) -> None:
         """Sends the rows that wait as one batch, with these pairs of key and value. There may be no
@@ -110,12 +122,15 @@ class Writer:
         """
         self._check()
         pairs = [(key.encode(), value.encode()) for key, value in metadata]
+        try:
+            for key, value in pairs:
+                add = c.library.arrowstream_writer_pair
+                self._raise(add(self._handle, key, len(key), value, len(value)))
+            self._raise(c.library.arrowstream_writer_send(self._handle))
+        except BaseException:
+            self._drop_waiting()
+            raise
         self._waiting = False
-        for key, value in pairs:
-            self._raise(
-                c.library.arrowstream_writer_pair(self._handle, key, len(key), value, len(value))
-            )
-        self._raise(c.library.arrowstream_writer_send(self._handle))
         self._flush()
 
     def write_batch(
@@ -127,8 +142,8 @@ class Writer:
         value, or a batch that was read, which has its own. Rows that wait are sent before it, as a
         batch of their own.
 
-        Raises what `write_row` and `send` raise. The rows before one that is refused wait for
-        `send`. Raises TypeError for pairs with a batch that was read.
+        Raises what `write_row` and `send` raise; then nothing of the batch is written. Raises
+        TypeError for pairs with a batch that was read.
         """
         self._check()
         if isinstance(batch, Batch) and metadata:
@@ -136,13 +151,19 @@ class Writer:
         if self._waiting:
             self.send()
         if isinstance(batch, Batch):
-            self._raise(c.library.arrowstream_writer_columns(self._handle, batch._handle))
+            with batch._lock:
+                status = c.library.arrowstream_writer_columns(self._handle, batch._handle)
+            self._raise(status)
             self._flush()
             return
-        is_columns = isinstance(batch, dict)
-        for row in rows_of(self.schema.fields, batch) if is_columns else batch:
-            self.write_row(row)
-        self.send(metadata)
+        try:
+            rows = rows_of(self.schema.fields, batch) if isinstance(batch, dict) else batch
+            for row in rows:
+                self.write_row(row)
+            self.send(metadata)
+        except BaseException:
+            self._drop_waiting()
+            raise
 
     def close(self) -> None:
         """Sends the rows that wait, if there are any, and the end-of-stream mark. A closed writer
@@ -157,15 +178,19 @@ class Writer:
         self._free()
 
     def _check(self) -> None:
-        if threading.get_ident() != self._thread:
-            raise RuntimeError("a writer stays on the thread that made it")
+        self._home.check("writer")
         if not self._handle:
             raise ValueError("the writer is closed")
+
+    def _drop_waiting(self) -> None:
+        """Drops the rows and pairs that wait. A writer that ended stays as it is."""
+        c.library.arrowstream_writer_drop_batch(self._handle)
+        self._waiting = False
 
     def _raise(self, status: int) -> None:
         if status == c.OK:
             return
-        if status in (c.OUT_OF_MEMORY, c.WRITE_OUT_OF_MEMORY):
+        if status in (c.WRITE_NO_ROOM, c.WRITE_OUT_OF_MEMORY):
             raise MemoryError
         line = c.text_of(c.library.arrowstream_writer_line, self._handle)
         raise ArrowError(line or f"status {status}")
@@ -195,7 +220,7 @@ class Writer:
     def _free(self) -> None:
         handle, self._handle = self._handle, ctypes.c_void_p()
         if handle:
-            c.library.arrowstream_writer_free(handle)
+            self._home.free(c.library.arrowstream_writer_free, handle)
 
 
 def write(

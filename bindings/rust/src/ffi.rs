@@ -5,9 +5,12 @@ use std::marker::{PhantomData, PhantomPinned};
 
 pub(crate) const OK: u32 = 0;
 pub(crate) const OUT_OF_MEMORY: u32 = 37;
+// W9: the bytes of a writer go to memory, so only want of memory refuses them.
+pub(crate) const WRITE_NO_ROOM: u32 = 109;
 pub(crate) const WRITE_FAILED: u32 = 110;
 pub(crate) const WRITE_OUT_OF_MEMORY: u32 = 111;
 
+pub(crate) const NOTHING: u64 = 0;
 pub(crate) const SCHEMA: u64 = 1;
 pub(crate) const BATCH: u64 = 2;
 pub(crate) const END: u64 = 3;
@@ -72,35 +75,36 @@ extern "C" {
     ) -> u32;
     pub(crate) fn arrowstream_reader_close(reader: *mut Reader, out: *mut Progress) -> u32;
     pub(crate) fn arrowstream_reader_schema(
-        reader: *mut Reader,
+        reader: *const Reader,
         text: *mut u8,
         length: usize,
         wanted: *mut usize,
     ) -> u32;
     pub(crate) fn arrowstream_reader_line(
-        reader: *mut Reader,
+        reader: *const Reader,
         text: *mut u8,
         length: usize,
         wanted: *mut usize,
     ) -> u32;
-    pub(crate) fn arrowstream_reader_take(reader: *mut Reader, out: *mut *mut Batch);
+    pub(crate) fn arrowstream_reader_take(reader: *mut Reader, out: *mut *mut Batch) -> u32;
+    pub(crate) fn arrowstream_reader_reuse(reader: *mut Reader, batch: *mut Batch);
     pub(crate) fn arrowstream_reader_free(reader: *mut Reader);
-    pub(crate) fn arrowstream_batch_rows(batch: *mut Batch) -> usize;
-    pub(crate) fn arrowstream_batch_columns(batch: *mut Batch) -> usize;
+    pub(crate) fn arrowstream_batch_rows(batch: *const Batch) -> usize;
+    pub(crate) fn arrowstream_batch_columns(batch: *const Batch) -> usize;
     pub(crate) fn arrowstream_batch_pairs(
-        batch: *mut Batch,
+        batch: *const Batch,
         text: *mut u8,
         length: usize,
         wanted: *mut usize,
     ) -> u32;
     pub(crate) fn arrowstream_batch_column(
-        batch: *mut Batch,
+        batch: *const Batch,
         path: *const u64,
         steps: usize,
         out: *mut Column,
     ) -> u32;
     pub(crate) fn arrowstream_batch_buffer(
-        batch: *mut Batch,
+        batch: *const Batch,
         path: *const u64,
         steps: usize,
         buffer: u32,
@@ -141,7 +145,7 @@ extern "C" {
         value_length: usize,
     ) -> u32;
     pub(crate) fn arrowstream_writer_send(writer: *mut Writer) -> u32;
-    pub(crate) fn arrowstream_writer_columns(writer: *mut Writer, batch: *mut Batch) -> u32;
+    pub(crate) fn arrowstream_writer_columns(writer: *mut Writer, batch: *const Batch) -> u32;
     pub(crate) fn arrowstream_writer_finish(writer: *mut Writer) -> u32;
     pub(crate) fn arrowstream_writer_take(
         writer: *mut Writer,
@@ -149,7 +153,7 @@ extern "C" {
         length: usize,
     ) -> usize;
     pub(crate) fn arrowstream_writer_line(
-        writer: *mut Writer,
+        writer: *const Writer,
         text: *mut u8,
         length: usize,
         wanted: *mut usize,

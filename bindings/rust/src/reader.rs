@@ -2,7 +2,7 @@
 
 use crate::{ffi, Batch, Error};
 use std::io::{ErrorKind, Read};
-use std::marker::PhantomData;
+use std::mem::ManuallyDrop;
 use std::ptr::{null_mut, NonNull};
 
 const PIECE: usize = 1 << 16;
@@ -50,20 +50,32 @@ pub enum End {
     Closed,
 }
 
-/// A stream that is read: an iterator over its batches. It stays on one thread.
+/// A stream that is read: an iterator over its batches. It stays on one thread. No byte after the
+/// end-of-stream mark is read from the source.
 ///
-/// After an error, and after the end, the iterator returns `None`.
+/// After an error, and after the end, the iterator returns `None`. Only if the source has no bytes
+/// yet ([`ErrorKind::WouldBlock`]) the next call reads on.
 #[derive(Debug)]
 pub struct Reader<R> {
     source: R,
-    reader: NonNull<ffi::Reader>,
+    reader: Handle,
     room: Vec<u8>,
-    unread: std::ops::Range<usize>,
+    // The bytes before the next decision.
+    wanted: usize,
     schema: Option<String>,
     end: Option<End>,
     failed: bool,
-    // The library allows a reader's calls on one thread alone: neither `Send` nor `Sync`.
-    _thread: PhantomData<*mut u8>,
+}
+
+// The library's reader. A pointer is neither `Send` nor `Sync`.
+#[derive(Debug)]
+struct Handle(NonNull<ffi::Reader>);
+
+impl Drop for Handle {
+    fn drop(&mut self) {
+        // SAFETY: the reader was not freed, and is not used after.
+        unsafe { ffi::arrowstream_reader_free(self.0.as_ptr()) }
+    }
 }
 
 /// Returns the text that a call copies, or `None` if there is none.
@@ -85,23 +97,18 @@ pub(crate) fn text_of(
 }
 
 impl<R: Read> Reader<R> {
-    /// Reads the schema of a stream from `source`, such as a file or a socket. Bytes after the
-    /// end-of-stream mark may be read from it, and are ignored.
+    /// Reads the schema of a stream from `source`, such as a file or a socket. Each message is read
+    /// by four calls of the source or more.
     pub fn open(source: R, limits: &Limits) -> Result<Reader<R>, Error> {
         let mut reader = null_mut();
         // SAFETY: `limits` may be read, and `reader` be written.
         unsafe { ffi::arrowstream_reader_open(limits, &mut reader) };
-        let reader = NonNull::new(reader).ok_or(Error::OutOfMemory)?;
-        let mut stream = Reader {
-            source,
-            reader,
-            room: vec![0; PIECE],
-            unread: 0..0,
-            schema: None,
-            end: None,
-            failed: false,
-            _thread: PhantomData,
-        };
+        let reader = Handle(NonNull::new(reader).ok_or(Error::OutOfMemory)?);
+        let room = vec![0; PIECE];
+        let (schema, end) = (None, None);
+        let mut stream = Reader { source, reader, room, wanted: 0, schema, end, failed: false };
+        // Before the first bytes this says how many are wanted.
+        stream.feed(0)?;
         stream.advance()?;
         Ok(stream)
     }
@@ -116,45 +123,55 @@ impl<R: Read> Reader<R> {
         self.end
     }
 
+    /// Takes a batch back that is no longer needed: the next body is read into its memory, which
+    /// saves the time to allocate and clear as much.
+    pub fn reuse(&mut self, batch: Batch) {
+        let batch = ManuallyDrop::new(batch);
+        // SAFETY: neither the reader nor the batch was freed, and the batch is not used after.
+        unsafe { ffi::arrowstream_reader_reuse(self.reader.0.as_ptr(), batch.as_ptr()) }
+    }
+
     // Reads up to the next event, and returns it.
     fn advance(&mut self) -> Result<u64, Error> {
         loop {
-            if self.unread.is_empty() {
-                match self.source.read(&mut self.room) {
-                    Ok(0) => return self.close(),
-                    Ok(count) => self.unread = 0..count,
-                    Err(error) if error.kind() == ErrorKind::Interrupted => continue,
-                    Err(error) => return Err(Error::Read(error)),
-                }
+            let size = self.wanted.min(PIECE);
+            match self.source.read(&mut self.room[..size]) {
+                Ok(0) => return self.close(),
+                Ok(count) => match self.feed(count)? {
+                    ffi::NOTHING => {}
+                    event => return Ok(event),
+                },
+                Err(error) if error.kind() == ErrorKind::Interrupted => {}
+                Err(error) => return Err(Error::Read(error)),
             }
-            let piece = &self.room[self.unread.clone()];
-            let mut progress = ffi::Progress::default();
-            // SAFETY: the reader was not freed; `piece` has this length.
-            let status = unsafe {
-                ffi::arrowstream_reader_feed(
-                    self.reader.as_ptr(),
-                    piece.as_ptr(),
-                    piece.len(),
-                    &mut progress,
-                )
-            };
-            self.check(status)?;
-            self.unread.start += progress.taken;
-            match progress.event {
-                ffi::SCHEMA => self.schema = self.text(ffi::arrowstream_reader_schema)?,
-                ffi::END => self.end = Some(End::Mark),
-                ffi::BATCH => {}
-                _ => continue,
-            }
-            return Ok(progress.event);
         }
+    }
+
+    // Feeds the first bytes of the room, at most as many as are wanted. Returns the event.
+    fn feed(&mut self, count: usize) -> Result<u64, Error> {
+        let piece = &self.room[..count];
+        let mut progress = ffi::Progress::default();
+        // SAFETY: the reader was not freed; `piece` has this length.
+        let status = unsafe {
+            let reader = self.reader.0.as_ptr();
+            ffi::arrowstream_reader_feed(reader, piece.as_ptr(), piece.len(), &mut progress)
+        };
+        self.check(status)?;
+        self.wanted = progress.wanted;
+        match progress.event {
+            ffi::SCHEMA => self.schema = self.text(ffi::arrowstream_reader_schema)?,
+            ffi::END => self.end = Some(End::Mark),
+            _ => {}
+        }
+        Ok(progress.event)
     }
 
     // Ends the input.
     fn close(&mut self) -> Result<u64, Error> {
         let mut progress = ffi::Progress::default();
         // SAFETY: the reader was not freed.
-        let status = unsafe { ffi::arrowstream_reader_close(self.reader.as_ptr(), &mut progress) };
+        let status =
+            unsafe { ffi::arrowstream_reader_close(self.reader.0.as_ptr(), &mut progress) };
         self.check(status)?;
         let is_mark = progress.event == ffi::END;
         self.end = Some(if is_mark { End::Mark } else { End::Closed });
@@ -165,17 +182,19 @@ impl<R: Read> Reader<R> {
     fn take(&mut self) -> Result<Batch, Error> {
         let mut batch = null_mut();
         // SAFETY: the reader was not freed, and `batch` may be written.
-        unsafe { ffi::arrowstream_reader_take(self.reader.as_ptr(), &mut batch) };
+        self.check(unsafe { ffi::arrowstream_reader_take(self.reader.0.as_ptr(), &mut batch) })?;
         NonNull::new(batch).map(Batch::new).ok_or(Error::OutOfMemory)
     }
 
     // A text of the reader.
     fn text(
         &self,
-        call: unsafe extern "C" fn(*mut ffi::Reader, *mut u8, usize, *mut usize) -> u32,
+        call: unsafe extern "C" fn(*const ffi::Reader, *mut u8, usize, *mut usize) -> u32,
     ) -> Result<Option<String>, Error> {
         // SAFETY: the reader was not freed; `text` has `length` bytes.
-        text_of(|text, length, wanted| unsafe { call(self.reader.as_ptr(), text, length, wanted) })
+        text_of(|text, length, wanted| unsafe {
+            call(self.reader.0.as_ptr(), text, length, wanted)
+        })
     }
 
     // The error of a status.
@@ -203,14 +222,11 @@ impl<R: Read> Iterator for Reader<R> {
             Ok(_) => return None,
             Err(error) => Err(error),
         };
-        self.failed = batch.is_err();
+        self.failed = match &batch {
+            Ok(_) => false,
+            Err(Error::Read(cause)) => cause.kind() != ErrorKind::WouldBlock,
+            Err(_) => true,
+        };
         Some(batch)
-    }
-}
-
-impl<R> Drop for Reader<R> {
-    fn drop(&mut self) {
-        // SAFETY: the reader was not freed, and is not used after.
-        unsafe { ffi::arrowstream_reader_free(self.reader.as_ptr()) }
     }
 }

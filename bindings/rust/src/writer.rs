@@ -194,7 +194,7 @@ impl<W: Write> Writer<W> {
         let writer = self.writer.0.as_ptr();
         match call(writer) {
             ffi::OK => Ok(()),
-            ffi::WRITE_OUT_OF_MEMORY => Err(Error::OutOfMemory),
+            ffi::WRITE_NO_ROOM | ffi::WRITE_OUT_OF_MEMORY => Err(Error::OutOfMemory),
             number => {
                 // SAFETY: the writer was not freed; `text` has `length` bytes.
                 let line = text_of(|text, length, wanted| unsafe {
@@ -220,6 +220,21 @@ impl<W: Write> Writer<W> {
                 self.failed = true;
                 Error::Write(cause)
             })?;
+        }
+    }
+}
+
+#[cfg(test)]
+mod tests {
+    use super::*;
+
+    #[test]
+    fn want_of_memory_is_no_refusal() {
+        let schema = r#"{"metadata":[],"fields":[]}"#;
+        for status in [ffi::WRITE_NO_ROOM, ffi::WRITE_OUT_OF_MEMORY] {
+            let writer = Writer::open(Vec::new(), schema, &Limits::standard());
+            let answer = writer.expect("a writer").call(|_| status);
+            assert!(matches!(answer, Err(Error::OutOfMemory)));
         }
     }
 }
