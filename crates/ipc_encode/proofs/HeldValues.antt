@@ -1,10 +1,10 @@
 -- The values that a column holds, at every level.
 use Rattle.std.proofs.Common.{◌≡◌, refl, ap, ℕ, suc, Bool, true, false, List, [], ◌∷◌, ◌++◌, map, length, Option, Some, None, arith, ◌∙◌}
-use Rattle.std.proofs.Common.{sym, subst, ◌+◌, zero, replicate}
+use Rattle.std.proofs.Common.{sym, subst, ◌+◌, zero, replicate, cond}
 use Rattle.std.proofs.lemmas.Int.{ints}
 use Rattle.std.proofs.lemmas.List.{length-map}
 use Rattle.std.specs.List.{AllByRecursion}
-use Rattle.std.specs.Prelude.{ℤ, not, ⊤}
+use Rattle.std.specs.Prelude.{ℤ, not, ⊤, ◌==◌}
 use Rattle.ipc_model.proofs.FitsLemmas.{fits_roll}
 use Rattle.ipc_model.specs.Entries.{Listing, preorder, preorder_step, all_at, entries}
 use Rattle.ipc_model.specs.Fits.{FitsOwnType, EachFits, InnerFit, Fits, RowFits, fits_step}
@@ -280,7 +280,11 @@ fill_stands f (suc n) = (null_stands f, fill_stands f n)
 
 fixed_items_stand : (size : ℕ) (f : Field) (w : Value-F Value)
     → (not (is_null w) ≡ true → InnerFit Fits (t.FixedSizeList size) (f ∷ []) w) → AllByRecursion (Stands f) (fixed_items_in size w)
-fixed_items_stand size f (Value-F.List values) h = all_one (Fits f) (Stands f) (λ x fits there. fits) values (h refl)
+fixed_items_stand size f (Value-F.List values) h = by (length values == size)
+  where
+    by : (b : Bool) → AllByRecursion (Stands f) (cond b values (replicate size v.Null))
+    by true = all_one (Fits f) (Stands f) (λ x fits there. fits) values (h refl)
+    by false = fill_stands f size
 fixed_items_stand size f _ h = fill_stands f size
 
 all_fixed_stand : (size : ℕ) (f : Field) (vs : List Value)

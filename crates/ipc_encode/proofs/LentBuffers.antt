@@ -2,6 +2,7 @@
 use Rattle.std.proofs.Common.{◌≡◌, ◌∙◌, refl, sym, ap, subst, ℕ, zero, suc, ◌+◌, ◌-◌, ◌*◌, ◌/◌, ◌<◌, ◌≤◌, Bool, true, false, cond, List}
 use Rattle.std.proofs.Common.{[], ◌∷◌, ◌++◌, length, take, drop, get_or, Some, add-one, arith, replicate, inl, inr, ◌^◌, get_or-drop}
 use Rattle.std.proofs.Common.{get_or-take, length-drop}
+use Rattle.std.proofs.Math.Nat.{mul-le-mul_left}
 use Rattle.std.proofs.Math.Seq.{take-add}
 use Rattle.std.proofs.lemmas.Bool.{eqb-false, eqb-true, false≢true, leb-true, ne_eqb, cases_lt}
 use Rattle.std.proofs.lemmas.Int.{ints, to_z-of_z, to_z_pos}
@@ -43,7 +44,7 @@ use Rattle.ipc_encode.proofs.Bits.{clear_nulls, unmarked}
 use Rattle.ipc_encode.proofs.NumberSlots.{null_out, signed_out, slots_next, unsigned_out, valid_at, null_slot, valid_slot, num_more}
 use Rattle.ipc_encode.proofs.NumberSlots.{num_none, num_small, unsigned_bytes}
 use Rattle.ipc_encode.proofs.Sizes.{content_data}
-use Rattle.ipc_encode.proofs.Steps.{bytes_extents, ends_push, extents}
+use Rattle.ipc_encode.proofs.Steps.{bytes_extents, ends_push, extents, of_size}
 
 -- ---- what the buffers of a column that was read hold, as those of a column that is built hold it
 
@@ -283,6 +284,10 @@ module _ (s : Nested) (b : Buffers) (h : AreBuffers s b) (e : b.layout ≡ l.Bit
 
 -- ---- a fixed width
 
+-- how long a cut is
+range_size : (bs : List ℕ) (a b : ℕ) → b ≤ length bs → length (slice_range bs a b) ≡ b - a
+range_size bs a b h = length-take-le (b - a) (drop a bs) (omega (arith, length-drop a bs))
+
 pub tells_widths : (layout : Layout) (width : ℕ) → layout ≡ l.FixedBytes width → TellsNulls layout
 tells_widths layout width e = (λ is. absurd (cc (e, is)), λ bits signed id is. absurd (cc (e, is)))
 
@@ -307,7 +312,13 @@ module _ (s : Nested) (b : Buffers) (h : AreBuffers s b) (width : ℕ) (e : b.la
       own : (layout : Layout) → layout ≡ l.FixedBytes width
           → slot_bytes (Fixed width) (own_value layout s.column.dictionary (row (child_columns s)) b.offsets.now b.values.now i)
           ≡ slice_range b.values.now (width * i) (width * i + width)
-      own layout e = rw e (ap (fixed_in width) (bytes_out (slice_range b.values.now (width * i) (width * i + width))))
+      own layout e =
+          let slot = slice_range b.values.now (width * i) (width * i + width) in
+          let there = widths_there in
+          let most : width * (i + 1) ≤ width * length (slot_values s) = mul-le-mul_left width (omega (arith, m)) in
+          let more : width * (i + 1) ≡ width * i + width = omega arith in
+          let size = range_size b.values.now (width * i) (width * i + width) (omega (arith, there, most, more)) in
+          rw e (ap (fixed_in width) (bytes_out slot) ∙ of_size slot (replicate width 0) width (omega (arith, size)))
 
   pub widths_lent : nulls (slot_values s) ≡ 0 → take (width * length (slot_values s)) b.values.now ≡ slots (Fixed width) (slot_values s)
   widths_lent none =
@@ -383,10 +394,6 @@ ends_next run start vs i end m e =
     ∙ (sym (ends_push run start (take i vs) (get_or vs i Null)) ∙ ap (ends run start) (sym next)))
 
 -- ---- the bytes and the offsets of texts and binary values that were read
-
--- how long a cut is
-range_size : (bs : List ℕ) (a b : ℕ) → b ≤ length bs → length (slice_range bs a b) ≡ b - a
-range_size bs a b h = length-take-le (b - a) (drop a bs) (omega (arith, length-drop a bs))
 
 -- a number in a cut of some bytes
 num_in_cut : (w p : ℕ) (bs : List ℕ) (n k : ℕ) → p + w ≤ n → num (take n (drop k bs)) p w ≡ num bs (k + p) w

@@ -34,7 +34,7 @@ use Rattle.ipc_encode.specs.Columns.{data_in}
 use Rattle.ipc_encode.specs.Marks.{MarksNulls}
 use Rattle.ipc_encode.specs.Numbers.{index_unless_null, index_of, indices_of}
 use Rattle.ipc_encode.specs.Pieces.{Number, Valid, ValueSlot, True}
-use Rattle.ipc_encode.proofs.Steps.{slots_push}
+use Rattle.ipc_encode.proofs.Steps.{not_of_size, of_size, slots_push}
 
 -- ---- the bytes of numbers that were read are those that are written (Arrow Columnar Format, "Byte Order")
 
@@ -309,12 +309,18 @@ module _ (under : ℕ → List Value) (i : ℕ) where
   no_items slot.Struct h = items_are slot.Struct
 
   -- the bytes of a fixed width
-  pub fixed_is : (width : ℕ) (x : Slot) → fixed_bytes width (value_in_slot under i x) ≡ fixed_in width (opened x)
+  fixed_is : (width : ℕ) (x : Slot) → fixed_bytes width (value_in_slot under i x) ≡ fixed_in width (opened x)
   fixed_is width x = ap (fixed_in width) (shown_out x)
 
-  pub no_bytes : (width : ℕ) (x : Slot) → ((bytes : _) → x ≡ slot.Bytes bytes → ⊥) → fixed_bytes width (value_in_slot under i x)
-      ≡ replicate width 0
-  no_bytes width (slot.Bytes bytes) h = absurd (h bytes refl)
+  pub fixed_are : (width : ℕ) (x : Slot) (bytes : _) → x ≡ slot.Bytes bytes → length bytes.now ≡ width
+      → fixed_bytes width (value_in_slot under i x) ≡ bytes.now
+  fixed_are width x bytes e size = ap (λ (y : Slot). fixed_bytes width (value_in_slot under i y)) e
+      ∙ (fixed_is width (slot.Bytes bytes) ∙ of_size bytes.now (replicate width 0) width size)
+
+  pub no_bytes : (width : ℕ) (x : Slot) → ((bytes : _) → x ≡ slot.Bytes bytes → length bytes.now ≡ width → ⊥)
+      → fixed_bytes width (value_in_slot under i x) ≡ replicate width 0
+  no_bytes width (slot.Bytes bytes) h =
+      fixed_is width (slot.Bytes bytes) ∙ not_of_size bytes.now (replicate width 0) width (h bytes refl)
   no_bytes width slot.Null h = fixed_is width slot.Null
   no_bytes width (slot.Bool truth) h = fixed_is width (slot.Bool truth)
   no_bytes width (slot.Int number) h = fixed_is width (slot.Int number)

@@ -4,7 +4,6 @@ use Rattle.std.proofs.Common.{cond, List, [], ◌∷◌, ◌++◌, length, take,
 use Rattle.std.proofs.Math.Nat.{mod-eq_of_lt}
 use Rattle.std.proofs.lemmas.Bool.{eqb-true, ne_eqb}
 use Rattle.std.proofs.lemmas.Int.{ints, to_z_pos, to_z-of_z}
-use Rattle.std.proofs.lemmas.List.{length-replicate}
 use Rattle.std.proofs.lemmas.Option.{get_or_from_slice_get}
 use Rattle.std.specs.Int.{w32, cast_signed, bytes_low_first, w8, w16, w64, cast_unsigned}
 use Rattle.std.specs.List.{AllByRecursion}
@@ -38,6 +37,7 @@ use Rattle.ipc_encode.specs.Pieces as p
 use Rattle.ipc_encode.proofs.Bits.{length_bytes, bit_of, flags_length, clear_is}
 use Rattle.ipc_encode.proofs.Indexed.{numbers_length, number_out, number_at}
 use Rattle.ipc_encode.proofs.Ranges.{cut_behind}
+use Rattle.ipc_encode.proofs.Steps.{fixed_length}
 
 -- the bytes of the offsets in a column of this layout
 abbrev pub offsets_in : Layout → List Value → List ℕ
@@ -187,17 +187,10 @@ pub numbers_wide : (bits : IntBits) (vs : List Value) → Wide (Number bits) (nu
 numbers_wide bits [] = tt
 numbers_wide bits (v ∷ vs) = (length_low_bytes 0 (number_bytes bits) (number_bits v), numbers_wide bits vs)
 
--- a value of fixed-size binary has as many bytes as its width
-pub fixed_length : (width n : ℕ) (v : Value) (w : Value-F Value) → out-Value v ≡ w → Holds (l.FixedBytes width) n w
-    → length (fixed_bytes width v) ≡ width
-fixed_length width n v Value-F.Null e h = rw e (length-replicate width 0)
-fixed_length width n v (Value-F.Bytes bytes) e h = rw e h
-fixed_length width n v _ e h = absurd h
-
 -- each slot of fixed-size binary has as many bytes as its width
-pub fixed_wide : (width n : ℕ) (vs : List Value) → AllHeld (l.FixedBytes width) n vs → Wide (Fixed width) width vs
-fixed_wide width n [] h = tt
-fixed_wide width n (v ∷ vs) h = (fixed_length width n v (out-Value v) refl h.0, fixed_wide width n vs h.1)
+pub fixed_wide : (width : ℕ) (vs : List Value) → Wide (Fixed width) width vs
+fixed_wide width [] = tt
+fixed_wide width (v ∷ vs) = (fixed_length width v, fixed_wide width vs)
 
 -- the number of slot i
 pub number_back : (bits : IntBits) (vs : List Value) (i : ℕ) (d : Value) → i < length vs
@@ -210,14 +203,13 @@ number_back bits vs i d k =
     ∙ num_low (slots (Number bits) (take i vs)) rest (w * i) w x (wide_front (Number bits) w vs i (numbers_wide bits vs) (omega arith))
 
 -- the bytes of slot i, of one width
-pub fixed_back : (width n : ℕ) (vs : List Value) (i : ℕ) (d : Value) → AllHeld (l.FixedBytes width) n vs → i < length vs
+pub fixed_back : (width : ℕ) (vs : List Value) (i : ℕ) (d : Value) → i < length vs
     → slice_range (slots (Fixed width) vs) (width * i) (width * i + width) ≡ fixed_bytes width (get_or vs i d)
-fixed_back width n vs i d h k =
+fixed_back width vs i d k =
     let front = slots (Fixed width) (take i vs) in
     let own = fixed_bytes width (get_or vs i d) in
-    let start : width * i ≡ length front = sym (wide_front (Fixed width) width vs i (fixed_wide width n vs h) (omega arith)) in
-    let size : width ≡ length own = sym (fixed_length width n (get_or vs i d) (out-Value (get_or vs i d)) refl
-    (held_at (l.FixedBytes width) n vs i d h k)) in
+    let start : width * i ≡ length front = sym (wide_front (Fixed width) width vs i (fixed_wide width vs) (omega arith)) in
+    let size : width ≡ length own = sym (fixed_length width (get_or vs i d)) in
     let end : width * i + width ≡ length front + length own = omega (arith, start, size) in
     ap (λ (bs : List ℕ). slice_range bs (width * i) (width * i + width)) (slots_split (Fixed width) vs i d k)
     ∙ (ap (λ (m : ℕ). slice_range (front ++ (own ++ slots (Fixed width) (drop (suc i) vs))) (width * i) m) end
@@ -379,7 +371,7 @@ long_enough m known lay n vs h = record { bitmap = bitmap_there lay; values = va
         length vs =
         wide_length (Number bits) (number_bytes bits) (numbers_of (known id) vs) (numbers_wide bits (numbers_of (known id) vs))
         ∙ ap (λ (n : ℕ). number_bytes bits * n) (numbers_length (known id) vs) in omega (arith, e)
-    values_there (l.FixedBytes width) h = let e = wide_length (Fixed width) width vs (fixed_wide width n vs h) in omega (arith, e)
+    values_there (l.FixedBytes width) h = let e = wide_length (Fixed width) width vs (fixed_wide width vs) in omega (arith, e)
     values_there _ h = tt
 
     offsets_there : (l : Layout) → HoldOffsets l (length vs) (length (offsets_in l vs))

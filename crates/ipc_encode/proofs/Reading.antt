@@ -1,11 +1,12 @@
 -- Columns that are written give their rows back.
 use Rattle.std.proofs.Common.{◌≡◌, ◌∙◌, refl, sym, ap, subst, ℕ, zero, suc, ◌+◌, ◌-◌, ◌*◌, ◌%◌, ◌^◌, ◌<◌, ◌≤◌, Bool, true, false, cond}
 use Rattle.std.proofs.Common.{List, [], ◌∷◌, ◌++◌, length, take, drop, get_or, append_assoc, length-append, arith, inl, inr}
+use Rattle.std.proofs.Common.{replicate}
 use Rattle.std.proofs.Math.ListN.{get_or-append}
 use Rattle.std.proofs.Math.Nat.{mul-le-mul_left}
 use Rattle.std.proofs.lemmas.Bool.{cases_lt}
 use Rattle.std.proofs.lemmas.Int.{ints}
-use Rattle.std.proofs.lemmas.List.{get_or-append-add, length-replicate}
+use Rattle.std.proofs.lemmas.List.{get_or-append-add, length-take-le}
 use Rattle.std.proofs.lemmas.List.Elements.{All-from_recursion}
 use Rattle.std.proofs.lemmas.Option.{slice_get_within}
 use Rattle.std.specs.List.{AllByRecursion}
@@ -52,7 +53,7 @@ use Rattle.ipc_encode.proofs.ReadbackParts.{column_of, written_values, Holds, Al
 use Rattle.ipc_encode.proofs.ReadbackParts.{between_is, IsShort, reach, reach_items, place_is, place_next, number_is, signed_is, found_at}
 use Rattle.ipc_encode.proofs.ReadbackParts.{index_back, HasItsChild, reach_bytes, front_most, front_more, each_at, nulls_most, in_order}
 use Rattle.ipc_encode.proofs.ReadbackParts.{spelled, index_number, long_enough, counts_nulls, offsets_in}
-use Rattle.ipc_encode.proofs.Steps.{cells_length}
+use Rattle.ipc_encode.proofs.Steps.{all_fixed_length, cells_length, of_size}
 
 -- ---- what is read back of the buffers of a column
 
@@ -169,32 +170,10 @@ list_is vs i n xs rows k e one short picks =
 
 -- ---- lists of a fixed size
 
--- a list of a fixed size gives so many items, and so does a null
-fixed_items_length : (size n : ℕ) (value : Value) (w : Value-F Value) → out-Value value ≡ w → Holds (l.FixedLists size) n w
-    → length (fixed_items size value) ≡ size
-fixed_items_length size n value Value-F.Null e h = rw e (length-replicate size v.Null)
-fixed_items_length size n value (Value-F.List values) e h = rw e h.0
-fixed_items_length size n value _ e h = absurd h
-
--- lists of a fixed size give so many items each
-pub all_fixed_length : (size n : ℕ) (vs : List Value) → AllHeld (l.FixedLists size) n vs
-    → length (all_fixed_items size vs) ≡ size * length vs
-all_fixed_length size n [] h = omega arith
-all_fixed_length size n (value ∷ vs) h =
-    let e : size * suc (length vs) ≡ size + size * length vs = omega arith in
-    let here = fixed_items_length size n value (out-Value value) refl h.0 in
-    omega (arith, e, here, all_fixed_length size n vs h.1, length-append (fixed_items size value) (all_fixed_items size vs))
-
 -- the first i lists give size * i items
-fixed_front : (size n : ℕ) (vs : List Value) (i : ℕ) → AllHeld (l.FixedLists size) n vs → i ≤ length vs
-    → length (all_fixed_items size (take i vs)) ≡ size * i
-fixed_front size n vs zero h k = omega arith
-fixed_front size n [] (suc i) h k = absurd (omega arith)
-fixed_front size n (value ∷ vs) (suc i) h k =
-    let e : size * suc i ≡ size + size * i = omega arith in
-    let here = fixed_items_length size n value (out-Value value) refl h.0 in
-    let rest = fixed_front size n vs i h.1 (omega arith) in
-    omega (arith, e, here, rest, length-append (fixed_items size value) (all_fixed_items size (take i vs)))
+fixed_front : (size : ℕ) (vs : List Value) (i : ℕ) → i ≤ length vs → length (all_fixed_items size (take i vs)) ≡ size * i
+fixed_front size vs i k =
+    all_fixed_length size (take i vs) ∙ ap (λ (n : ℕ). size * n) (length-take-le i vs k)
 
 -- the items of all of them are those before list i, its own and those behind it
 fixed_split : (size : ℕ) (vs : List Value) (i : ℕ) → i < length vs → all_fixed_items size vs
@@ -207,24 +186,25 @@ fixed_split size (value ∷ vs) (suc i) k =
     (fixed_items size (get_or vs i v.Null) ++ all_fixed_items size (drop (suc i) vs)))
 
 -- item m of list i stands so far behind the items of the lists before it
-fixed_item_at : (size n : ℕ) (vs : List Value) (i m : ℕ) → AllHeld (l.FixedLists size) n vs → i < length vs
+fixed_item_at : (size : ℕ) (vs : List Value) (i m : ℕ) → i < length vs
     → m < length (fixed_items size (get_or vs i v.Null)) → (size * i + m < length (all_fixed_items size vs))
     × (get_or (all_fixed_items size vs) (size * i + m) v.Null ≡ get_or (fixed_items size (get_or vs i v.Null)) m v.Null)
-fixed_item_at size n vs i m all k inside =
+fixed_item_at size vs i m k inside =
     item_in (all_fixed_items size vs) (all_fixed_items size (take i vs)) (fixed_items size (get_or vs i v.Null))
     (all_fixed_items size (drop (suc i) vs)) (size * i) m (fixed_split size vs i k)
-    (sym (fixed_front size n vs i all (omega arith))) inside
+    (sym (fixed_front size vs i (omega arith))) inside
 
 -- the items of a list of a fixed size are so many values from their place on
 fixed_list_is : (size : ℕ) (vs : List Value) (i n : ℕ) (xs : List Value) (rows : ℕ → List Value) → i < length vs
-    → AllHeld (l.FixedLists size) n vs → out-Value (get_or vs i v.Null) ≡ Value-F.List xs → length xs ≡ size → n ≡ 1
+    → out-Value (get_or vs i v.Null) ≡ Value-F.List xs → length xs ≡ size → n ≡ 1
     → ArePicked rows n (λ j. all_fixed_items size vs) → slots_from (λ j. first_of (rows j)) (size * i) size ≡ xs
-fixed_list_is size vs i n xs rows k all e count one picks =
-    let own : fixed_items size (get_or vs i v.Null) ≡ xs = ap (λ (w : Value-F Value). fixed_items_in size w) e in
+fixed_list_is size vs i n xs rows k e count one picks =
+    let own : fixed_items size (get_or vs i v.Null) ≡ xs =
+    ap (λ (w : Value-F Value). fixed_items_in size w) e ∙ of_size xs (replicate size v.Null) size count in
     let many : length (fixed_items size (get_or vs i v.Null)) ≡ length xs = ap (λ (ws : List Value). length ws) own in
     ap (λ (c : ℕ). slots_from (λ j. first_of (rows j)) (size * i) c) (sym count)
     ∙ listed (λ j. first_of (rows j)) xs (size * i) (λ m inside.
-    let here = fixed_item_at size n vs i m all k (omega (arith, inside, many)) in
+    let here = fixed_item_at size vs i m k (omega (arith, inside, many)) in
     ap first_of (picks (size * i + m) (λ j. here.0) ∙ ap (λ (c : ℕ). picked c (λ j. all_fixed_items size vs) (size * i + m)) one)
     ∙ (here.1 ∙ ap (λ (ws : List Value). get_or ws m v.Null) own))
 
@@ -248,7 +228,8 @@ own_is ds known rows (l.Numbers bits false) n vs i (Value-F.UInt number) k all s
     ∙ (ap (λ (x : Value-F Value). bits_in x % 256 ^ number_bytes bits) e ∙ number_is bits number h))
     ∙ (sym (v.rolls-UInt number) ∙ back_to (get_or vs i v.Null) (Value-F.UInt number) e)
 own_is ds known rows (l.FixedBytes size) n vs i (Value-F.Bytes bytes) k all short picks e h valid found =
-    ap (λ (b : List ℕ). v.Bytes b) (fixed_back size n vs i v.Null all k ∙ ap (λ (x : Value-F Value). fixed_in size x) e)
+    ap (λ (b : List ℕ). v.Bytes b) (fixed_back size vs i v.Null k
+    ∙ (ap (λ (x : Value-F Value). fixed_in size x) e ∙ of_size bytes (replicate size 0) size h))
     ∙ (sym (v.rolls-Bytes bytes) ∙ back_to (get_or vs i v.Null) (Value-F.Bytes bytes) e)
 own_is ds known rows (l.VariableBytes false) n vs i (Value-F.Bytes bytes) k all short picks e h valid found =
     ap (λ (b : List ℕ). v.Bytes b) (between_is vs i v.Null k short ∙ ap bytes_in e)
@@ -260,7 +241,7 @@ own_is ds known rows l.Lists n vs i (Value-F.List xs) k all short picks e h vali
     ap (λ (ws : List Value). v.List ws) (list_is vs i n xs rows k e h short picks)
     ∙ (sym (v.rolls-List xs) ∙ back_to (get_or vs i v.Null) (Value-F.List xs) e)
 own_is ds known rows (l.FixedLists size) n vs i (Value-F.List xs) k all short picks e h valid found =
-    ap (λ (ws : List Value). v.List ws) (fixed_list_is size vs i n xs rows k all e h.0 h.1 picks)
+    ap (λ (ws : List Value). v.List ws) (fixed_list_is size vs i n xs rows k e h.0 h.1 picks)
     ∙ (sym (v.rolls-List xs) ∙ back_to (get_or vs i v.Null) (Value-F.List xs) e)
 own_is ds known rows l.Structs n vs i (Value-F.Struct parts) k all short picks e h valid found =
     ap (λ (ws : List Value). v.Struct ws) (struct_is vs i n parts rows k e h picks)
@@ -416,7 +397,7 @@ long_children ds known l.Structs children vs child held =
 long_children ds known (l.FixedLists size) bare vs child held = absurd (omega (arith, child))
 long_children ds known (l.FixedLists size) (field first inner rest) vs child held =
     let children = field first inner rest in
-    let many = all_fixed_length size (across children) vs held in
+    let many = all_fixed_length size vs in
     slots_written ds known (λ n. size * length vs ≤ n) children (child_values (l.FixedLists size) vs) (λ j. omega (arith, many))
 long_children ds known _ children vs child held = tt
 
@@ -450,7 +431,7 @@ text_is ds known most l.Lists n vs i under g k valid more = λ j from to.
     let most = front_most p.Items vs (suc i) in let sum = front_more p.Items vs i v.Null k in omega (arith, next, most, sum) in
     more j (λ c. omega (arith, to, within, reach_items vs))
 text_is ds known most (l.FixedLists size) n vs i under g k valid more = λ j from to.
-    let many = all_fixed_length size n vs g.held in
+    let many = all_fixed_length size vs in
     let within : size * (i + 1) ≤ size * length vs = mul-le-mul_left size (omega (arith, k)) in
     more j (λ c. omega (arith, to, within, many))
 text_is ds known most l.Structs n vs i under g k valid more = more i (λ j. omega (arith, k, parts_length j vs))
@@ -493,7 +474,7 @@ index_is ds known most l.Lists n vs i under g k valid more = λ j from to.
     let most = front_most p.Items vs (suc i) in let sum = front_more p.Items vs i v.Null k in omega (arith, next, most, sum) in
     more j (λ c. omega (arith, to, within, reach_items vs))
 index_is ds known most (l.FixedLists size) n vs i under g k valid more = λ j from to.
-    let many = all_fixed_length size n vs g.held in
+    let many = all_fixed_length size vs in
     let within : size * (i + 1) ≤ size * length vs = mul-le-mul_left size (omega (arith, k)) in
     more j (λ c. omega (arith, to, within, many))
 index_is ds known most l.Structs n vs i under g k valid more = more i (λ j. omega (arith, k, parts_length j vs))

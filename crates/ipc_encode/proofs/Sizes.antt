@@ -35,6 +35,7 @@ use Rattle.ipc_encode.specs.declared.column.ColumnCounts.{ColumnCounts}
 use Rattle.ipc_encode.specs.declared.column.ColumnData.{ColumnData}
 use Rattle.ipc_encode.specs.declared.column.ColumnData.TheVariants as kind
 use Rattle.ipc_encode.proofs.Bits.{length_bytes, flags_length}
+use Rattle.ipc_encode.proofs.Steps.{fixed_length}
 
 -- how many bytes a column's buffers take in a body: `count` slots, `null_count` of them null, and
 -- `value_bytes` bytes of values
@@ -116,7 +117,7 @@ fixed_data width [] = refl
 fixed_data width (v ∷ vs) =
     let more = fixed_data width vs in
     let size = length-append (fixed_bytes width v) (slots (Fixed width) vs) in
-    omega (arith, more, size)
+    omega (arith, more, size, fixed_length width v)
 
 pub content_data : (utf8 : Bool) (vs : List Value) → length (slots Content vs) ≡ data_in (l.VariableBytes utf8) vs
 content_data utf8 [] = refl

@@ -1,10 +1,11 @@
 -- One value more in a column, and what it gives to the columns below.
 use Rattle.std.proofs.Common.{◌≡◌, ◌∙◌, refl, sym, ap, ℕ, suc, ◌+◌, Bool, cond, List, [], ◌∷◌, ◌++◌, length, append_assoc, arith}
-use Rattle.std.proofs.Common.{zero, ◌*◌, ◌≤◌, replicate, take, subst, true, false}
+use Rattle.std.proofs.Common.{zero, ◌*◌, ◌≤◌, replicate, take, subst, true, false, length-append}
 use Rattle.std.proofs.Math.Nat.{suc-mul}
-use Rattle.std.proofs.lemmas.Bool.{ne_eqb}
-use Rattle.std.proofs.lemmas.List.{append-nil, replicate-append-replicate, take-replicate}
+use Rattle.std.proofs.lemmas.Bool.{eq-eqb, eqb-true, ne_eqb}
+use Rattle.std.proofs.lemmas.List.{append-nil, length-replicate, replicate-append-replicate, take-replicate}
 use Rattle.std.specs.Int.{bytes_low_first}
+use Rattle.std.specs.Prelude.{◌==◌}
 use denote.Hole.Carrier
 use Rattle.ipc_model.specs.Layouts.{has_validity}
 use Rattle.ipc_model.specs.declared.layout.Layout.{Layout}
@@ -21,6 +22,7 @@ use Rattle.ipc_encode.specs.Buffers.{child_values, nulls_below}
 use Rattle.ipc_encode.specs.Built.{IsColumn}
 use Rattle.ipc_encode.specs.Cells.{cell, cells, is_set, flags, nulls, content, slot_bytes, slots, extent, ends, offsets, items}
 use Rattle.ipc_encode.specs.Cells.{struct_member, fixed_items, all_fixed_items, all_items, all_parts, fixed_items_in, part_in}
+use Rattle.ipc_encode.specs.Cells.{fixed_bytes, fixed_in, items_in}
 use Rattle.ipc_encode.specs.Columns.{value_len, data_in, validity_bytes, validity_in}
 use Rattle.ipc_encode.specs.Numbers.{Numbering}
 use Rattle.ipc_encode.specs.Pieces.{Flag, Run, Valid, ValueSlot}
@@ -61,6 +63,47 @@ pub amount_more : (layout : Layout) (vs : List Value) (v : Value) (amount added 
     ≡ value_len layout v
     → amount + added ≡ data_in layout (vs ++ v ∷ [])
 amount_more layout vs v amount added a b = let more = data_push layout vs v in omega (arith, more, a, b)
+
+-- ---- slots of one size
+
+-- one of two lists, which have so many elements
+either_length : {A : Type 0} → (xs ys : List A) (n : ℕ) → length ys ≡ n → length (cond (length xs == n) xs ys) ≡ n
+either_length xs ys n other = by (length xs == n) refl
+  where
+    by : (b : Bool) → (length xs == n) ≡ b → length (cond b xs ys) ≡ n
+    by true e = eqb-true (length xs) n e
+    by false e = other
+
+-- it is the first if that has so many, and else the second
+pub of_size : {A : Type 0} → (xs ys : List A) (n : ℕ) → length xs ≡ n → cond (length xs == n) xs ys ≡ xs
+of_size xs ys n e = rw (eq-eqb (length xs) n e) refl
+
+pub not_of_size : {A : Type 0} → (xs ys : List A) (n : ℕ) → (length xs ≡ n → ⊥) → cond (length xs == n) xs ys ≡ ys
+not_of_size xs ys n other = rw (ne_eqb (length xs) n other) refl
+
+fixed_in_length : (width : ℕ) (w : Value-F Value) → length (fixed_in width w) ≡ width
+fixed_in_length width (o.Bytes bytes) = either_length bytes (replicate width 0) width (length-replicate width 0)
+fixed_in_length width _ = length-replicate width 0
+
+-- a slot of a fixed width has as many bytes
+pub fixed_length : (width : ℕ) (value : Value) → length (fixed_bytes width value) ≡ width
+fixed_length width value = fixed_in_length width (out-Value value)
+
+items_in_length : (size : ℕ) (w : Value-F Value) → length (fixed_items_in size w) ≡ size
+items_in_length size (o.List values) = either_length values (replicate size v.Null) size (length-replicate size v.Null)
+items_in_length size _ = length-replicate size v.Null
+
+-- a slot of a fixed size gives as many items
+pub fixed_items_length : (size : ℕ) (value : Value) → length (fixed_items size value) ≡ size
+fixed_items_length size value = items_in_length size (out-Value value)
+
+-- so do several
+pub all_fixed_length : (size : ℕ) (vs : List Value) → length (all_fixed_items size vs) ≡ size * length vs
+all_fixed_length size [] = omega arith
+all_fixed_length size (value ∷ vs) =
+    let e : size * suc (length vs) ≡ size + size * length vs = omega arith in
+    let all = length-append (fixed_items size value) (all_fixed_items size vs) in
+    omega (arith, e, all, fixed_items_length size value, all_fixed_length size vs)
 
 -- ---- offsets
 
@@ -190,20 +233,26 @@ unfolding out-Value roll-Value Carrier.roll
 parts_are value values e j = ap (λ (w : Value). struct_member j w) e ∙ ap (λ (w : Value-F Value). part_in j w)
     (out-roll-Value (o.Struct values))
 
-pub fixed_are : (size : ℕ) (value : Value) (values : List Value) → value ≡ v.List values → fixed_items size value ≡ values
+pub list_are : (value : Value) (values : List Value) → value ≡ v.List values → items value ≡ values
 unfolding out-Value roll-Value Carrier.roll
-fixed_are size value values e = ap (λ (w : Value). fixed_items size w) e ∙ ap (fixed_items_in size) (out-roll-Value (o.List values))
+list_are value values e = ap (λ (w : Value). items w) e ∙ ap (λ (w : Value-F Value). items_in w) (out-roll-Value (o.List values))
 
-no_fixed_in : (size : ℕ) (f : Value-F Value) → ((values : List Value) → f ≡ o.List values → ⊥)
+pub fixed_are : (size : ℕ) (value : Value) (values : List Value) → value ≡ v.List values → length values ≡ size
+    → fixed_items size value ≡ values
+unfolding out-Value roll-Value Carrier.roll
+fixed_are size value values e same = ap (λ (w : Value). fixed_items size w) e
+    ∙ (ap (fixed_items_in size) (out-roll-Value (o.List values)) ∙ of_size values (replicate size v.Null) size same)
+
+no_fixed_in : (size : ℕ) (f : Value-F Value) → ((values : List Value) → f ≡ o.List values → length values ≡ size → ⊥)
     → fixed_items_in size f ≡ replicate size v.Null
-no_fixed_in size (o.List values) other = absurd (other values refl)
+no_fixed_in size (o.List values) other = not_of_size values (replicate size v.Null) size (other values refl)
 no_fixed_in size _ other = refl
 
 no_parts_in : (j : ℕ) (f : Value-F Value) → ((values : List Value) → f ≡ o.Struct values → ⊥) → part_in j f ≡ v.Null
 no_parts_in j (o.Struct values) other = absurd (other values refl)
 no_parts_in j _ other = refl
 
-no_fixed : (size : ℕ) (value : Value) → ((values : List Value) → value ≡ v.List values → ⊥)
+no_fixed : (size : ℕ) (value : Value) → ((values : List Value) → value ≡ v.List values → length values ≡ size → ⊥)
     → fixed_items size value ≡ replicate size v.Null
 unfolding roll-Value Carrier.roll
 no_fixed size value other = no_fixed_in size (out-Value value) (λ values e. other values (sym (roll-out-Value value) ∙ ap roll-Value e))
@@ -212,9 +261,9 @@ no_struct : (value : Value) → ((values : List Value) → value ≡ v.Struct va
 unfolding roll-Value Carrier.roll
 no_struct value other j = no_parts_in j (out-Value value) (λ values e. other values (sym (roll-out-Value value) ∙ ap roll-Value e))
 
--- what is no list gives as many nulls to the child of a column of lists of a fixed size
+-- what is no list of a fixed size gives as many nulls to the child of a column of such lists
 pub fixed_gives : (layout : Layout) (size : ℕ) (value : Value) → layout ≡ l.FixedLists size
-    → ((values : List Value) → value ≡ v.List values → ⊥) → (j : ℕ)
+    → ((values : List Value) → value ≡ v.List values → length values ≡ size → ⊥) → (j : ℕ)
     → child_values layout (value ∷ []) j ≡ replicate (nulls_below layout) v.Null
 fixed_gives layout size value e other j = rw e (append-nil (fixed_items size value) ∙ no_fixed size value other)
 

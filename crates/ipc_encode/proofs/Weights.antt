@@ -205,9 +205,9 @@ list_given layout value us vs e same is =
     rw (e, same) (λ d j. sym (append-nil (items value) ∙ ap (λ (w : Value-F Value). items_in w) (out_list value vs is)) d)
 
 pub fixed_given : (layout : Layout) (size : ℕ) (value : Value) (us vs : List Value) → layout ≡ l.FixedLists size → us ≡ vs
-    → value ≡ v.List vs → ◌≡◌ {A = ℕ → List Value} (λ j. us) (child_values layout (value ∷ []))
-fixed_given layout size value us vs e same is =
-    rw (e, same) (λ d j. sym (append-nil (fixed_items size value) ∙ fixed_are size value vs is) d)
+    → value ≡ v.List vs → length vs ≡ size → ◌≡◌ {A = ℕ → List Value} (λ j. us) (child_values layout (value ∷ []))
+fixed_given layout size value us vs e same is many =
+    rw (e, same) (λ d j. sym (append-nil (fixed_items size value) ∙ fixed_are size value vs is many) d)
 
 -- a struct gives its parts
 pub struct_given : (layout : Layout) (value : Value) (us vs : List Value) → layout ≡ l.Structs → us ≡ vs → value ≡ v.Struct vs
@@ -297,7 +297,7 @@ given_items t.List None n f [] value vs own fitting leaf is =
     sym (ap (λ (g : ℕ → List Value). weight_of 0 (shape_of (f ∷ [])) g) (list_given l.Lists value vs vs refl refl is))
     ∙ omega arith
 given_items (t.FixedSizeList size) None n f [] value vs own fitting leaf is =
-    sym (ap (λ (g : ℕ → List Value). weight_of 0 (shape_of (f ∷ [])) g) (fixed_given (l.FixedLists size) size value vs vs refl refl is))
+    sym (ap (λ (g : ℕ → List Value). weight_of 0 (shape_of (f ∷ [])) g) (fixed_given (l.FixedLists size) size value vs vs refl refl is own))
     ∙ omega arith
 given_items t.Struct d n f fs value vs own fitting leaf is = absurd own
 given_items (t.Int bits true) d n f fs value vs own fitting leaf is = absurd own

@@ -1,7 +1,7 @@
 -- The values of a column, and what each adds to the column's buffers (Arrow Columnar Format,
 -- "Physical Memory Layout").
 use Rattle.std.specs.Prelude.{ℕ, ◌+◌, Bool, true, false, not, List, [], ◌∷◌, ◌++◌, length}
-use Rattle.std.specs.Prelude.{replicate, slice_index_or, if◌then◌else◌, ⊤}
+use Rattle.std.specs.Prelude.{replicate, slice_index_or, if◌then◌else◌, ⊤, ◌==◌}
 use Rattle.std.specs.Str.{IsUtf8}
 use Rattle.std.specs.Int.{w64, cast_unsigned, bytes_low_first}
 use Rattle.ipc_model.specs.declared.value.Value.{Value, out-Value}
@@ -57,9 +57,9 @@ bytes_in (Value-F.Bytes bytes) = bytes
 bytes_in (Value-F.Text text) = text
 bytes_in _ = []
 
--- the bytes of a binary value; `width` zeros for any other value
+-- the bytes of a binary value of this width; `width` zeros for any other value
 abbrev pub fixed_in : ℕ → Value-F Value → List ℕ
-fixed_in width (Value-F.Bytes bytes) = bytes
+fixed_in width (Value-F.Bytes bytes) = if length bytes == width then bytes else replicate width 0
 fixed_in width _ = replicate width 0
 
 -- the items of a list; none of any other value
@@ -85,12 +85,13 @@ abbrev pub all_items : List Value → List Value
 all_items [] = []
 all_items (value ∷ values) = items value ++ all_items values
 
--- the items of a list; `size` nulls for any other value
+-- the items of a list of this size; `size` nulls for any other value
 abbrev pub fixed_items_in : ℕ → Value-F Value → List Value
-fixed_items_in size (Value-F.List items) = items
+fixed_items_in size (Value-F.List items) =
+    if length items == size then items else replicate size v.Null
 fixed_items_in size _ = replicate size v.Null
 
--- the items of a list; `size` nulls for any other value
+-- the items of a list of this size; `size` nulls for any other value
 abbrev pub fixed_items : ℕ → Value → List Value
 fixed_items size value = fixed_items_in size (out-Value value)
 
@@ -112,7 +113,7 @@ number_bits value = bits_in (out-Value value)
 abbrev pub content : Value → List ℕ
 content value = bytes_in (out-Value value)
 
--- the bytes of a binary value; `width` zeros for any other value
+-- the bytes of a binary value of this width; `width` zeros for any other value
 abbrev pub fixed_bytes : ℕ → Value → List ℕ
 fixed_bytes width value = fixed_in width (out-Value value)
 

@@ -7,7 +7,7 @@ use Rattle.ipc_model.specs.declared.value.Value.{Value}
 use Rattle.ipc_model.specs.declared.layout.Layout.{Layout}
 use Rattle.ipc_model.specs.declared.layout.Layout.TheVariants as l
 use Rattle.ipc_model.specs.Layouts.{number_bytes}
-use Rattle.ipc_encode.specs.Cells.{nulls, content, fixed_bytes, items}
+use Rattle.ipc_encode.specs.Cells.{nulls, content, items}
 use Rattle.ipc_encode.specs.Buffers.{validity, piece_bytes}
 
 -- the bytes of a validity bitmap, or none if no value is null
@@ -31,7 +31,7 @@ validity_in (l.FixedLists size) values = validity_bytes values
 -- how much one value adds to the data of a column: bytes, or items of a list
 abbrev pub value_len : Layout → Value → ℕ
 value_len (l.Numbers bits signed) value = number_bytes bits
-value_len (l.FixedBytes width) value = length (fixed_bytes width value)
+value_len (l.FixedBytes width) value = width
 value_len (l.VariableBytes utf8) value = length (content value)
 value_len l.Lists value = length (items value)
 value_len l.Null value = 0

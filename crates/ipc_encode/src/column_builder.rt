@@ -19,9 +19,7 @@ ghost use Rattle.ipc_encode.specs.Pieces.{Number, Fixed};
 
 use crate::bitmaps::{push_bit, set_bits};
 use crate::column::{ColumnBuilder, ColumnCounts, ColumnData, IndexData};
-use crate::counting::{
-    check_amount, content, fixed_len, is_true, is_valid, items, null_count, number_bits,
-};
+use crate::counting::{check_amount, content, is_true, is_valid, items, null_count, number_bits};
 use crate::fault::PushFault;
 use crate::index::IndexOf;
 use ipc_model::{IntBits, Layout, Limits, Value};
@@ -134,13 +132,15 @@ pub(crate) fn push_offset(offsets: &mut Vec<u8>, end: usize) -> Result<(), Alloc
     push_u32(offsets, end as u64)
 }
 
-// Appends the bytes of a binary value, or `width` zeros.
+// Appends the bytes of a binary value of this width, or `width` zeros.
 fn push_fixed(values: &mut Vec<u8>, value: &Value, width: u32) -> Result<(), AllocError>
     ensures { OnOk result (values.new.items
         ≡ values.old.items ++ slot_bytes (Fixed width) value.now) }
 {
     match value {
-        Value::Bytes(bytes) => values.extend_from_slice(bytes.as_slice()),
+        Value::Bytes(bytes) if bytes.as_slice().len() == width as usize => {
+            values.extend_from_slice(bytes.as_slice())
+        }
         _ => values.resize(values.len() + width as usize, 0),
     }
 }
@@ -369,7 +369,7 @@ impl ColumnData {
             ColumnData::Bits(bits) => Ok(push_bit(bits, slots, is_true(value))?),
             ColumnData::Numbers { bits, values, .. } => Ok(push_number(values, value, *bits)?),
             ColumnData::FixedBytes { width, values } => {
-                let amount = values.len() + fixed_len(value, *width);
+                let amount = values.len() + *width as usize;
                 check_amount(Layout::FixedBytes(*width), amount, limits)?;
                 Ok(push_fixed(values, value, *width)?)
             }

@@ -7,7 +7,7 @@ ghost use Rattle.ipc_model.specs.declared.limits.Limits.{Limits};
 ghost use Rattle.ipc_model.specs.declared.value.Value.{Value};
 ghost use Rattle.ipc_encode.specs.Buffers.{column_buffers, padded_bytes};
 ghost use Rattle.ipc_encode.specs.Built.{HasTaken, IsColumn, AreCountsOf, IsNext, IsPushRefused};
-ghost use Rattle.ipc_encode.specs.Cells.{nulls, is_set, number_bits, content, fixed_bytes, items};
+ghost use Rattle.ipc_encode.specs.Cells.{nulls, is_set, number_bits, content, items};
 ghost use Rattle.ipc_encode.specs.Cells.{HasUtf8};
 ghost use Rattle.ipc_encode.specs.Columns.{data_in, value_len, ExceedsOffsets, offsets_length};
 ghost use Rattle.ipc_encode.specs.Columns.{validity_length, values_length};
@@ -71,18 +71,6 @@ pub(crate) fn content(value: &Value) -> &[u8]
     }
 }
 
-/// Returns the number of bytes that a value takes in a column of fixed width.
-#[inline(always)]
-pub(crate) fn fixed_len(value: &Value, width: u32) -> usize
-    ensures len { result ≡ length (fixed_bytes width value.now) }
-    ensures few { result < 2 ^ 63 }
-{
-    match value {
-        Value::Bytes(bytes) => bytes.as_slice().len(),
-        _ => width as usize,
-    }
-}
-
 /// Returns the items of a list. Any other value has none.
 #[inline(always)]
 pub(crate) fn items(value: &Value) -> &[Value]
@@ -103,7 +91,7 @@ pub(crate) fn value_len(layout: Layout, value: &Value) -> usize
     match layout {
         Layout::Null | Layout::Bits | Layout::FixedLists(_) | Layout::Structs => 0,
         Layout::Numbers { bits, .. } | Layout::Indices { bits, .. } => bits.bytes(),
-        Layout::FixedBytes(width) => fixed_len(value, width),
+        Layout::FixedBytes(width) => width as usize,
         Layout::VariableBytes { .. } => content(value).len(),
         Layout::Lists => items(value).len(),
     }

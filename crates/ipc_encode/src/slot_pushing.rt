@@ -59,7 +59,7 @@ fn push_zeros(values: &mut Vec<u8>, width: u32) -> Result<(), AllocError>
     values.resize(values.len() + width as usize, 0)
 }
 
-/// Appends the bytes of a binary value, or `width` zeros.
+/// Appends the bytes of a binary value of this width, or `width` zeros.
 #[inline(always)]
 pub(crate) fn push_fixed_slot(
     values: &mut Vec<u8>,
@@ -70,7 +70,7 @@ pub(crate) fn push_fixed_slot(
         ≡ values.old.items ++ slot_bytes (Fixed width) (value_in_slot under slot value.now)) }
 {
     match value {
-        Slot::Bytes(bytes) => values.extend_from_slice(bytes),
+        Slot::Bytes(bytes) if bytes.len() == width as usize => values.extend_from_slice(bytes),
         _ => push_zeros(values, width),
     }
 }

@@ -300,8 +300,10 @@ fn take_below<I: IndexOf>(
 {
     match layout {
         Layout::Lists => take_items(items(value), nodes, purpose, limits, indices),
-        Layout::FixedLists(_) => match value {
-            Value::List(items) => take_items(items.as_slice(), nodes, purpose, limits, indices),
+        Layout::FixedLists(size) => match value {
+            Value::List(items) if items.as_slice().len() == size as usize => {
+                take_items(items.as_slice(), nodes, purpose, limits, indices)
+            }
             _ => take_nulls(nodes, nulls_below(layout), purpose, limits, indices),
         },
         Layout::Structs => match value {

@@ -146,7 +146,7 @@ module _ (Asked : IntBits → Bool → ℤ → Value → Type 0) where
   fixed_ask size [] vs one asks = tt
   fixed_ask size (f ∷ []) vs one asks = (
     λ d value named pair. asks d value (Contains-append_left (of_field f) [] d named)
-        (subst (λ (ps : Pairs). Contains ps (d.id, value)) (fixed_pairs f size vs) pair),
+        (fixed_pairs f size vs (d.id, value) pair),
     tt,
   )
   fixed_ask size (f ∷ g ∷ fs) vs one asks = absurd (omega arith)

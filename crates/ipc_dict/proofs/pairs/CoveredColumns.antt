@@ -1,7 +1,7 @@
 -- The pairs of a column are among those of the rows that it is cut from.
 use Rattle.std.proofs.Common.{◌≡◌, ◌∙◌, refl, sym, ap, subst, ℕ, suc, zero, ℤ, List, [], ◌∷◌, ◌++◌, map, Option, Some, None, replicate}
-use Rattle.std.proofs.Common.{append_assoc, arith, ⊎_elim}
-use Rattle.std.specs.Prelude.{⊤}
+use Rattle.std.proofs.Common.{append_assoc, arith, ⊎_elim, Bool, true, false, cond, length}
+use Rattle.std.specs.Prelude.{⊤, ◌==◌}
 use Rattle.std.specs.List.{Contains}
 use Rattle.std.proofs.lemmas.List.Elements.{Contains-append_left, Contains-append_right, Contains-append_cases}
 use Rattle.ipc_model.specs.declared.schema.DataType.{DataType}
@@ -80,42 +80,48 @@ fill_pairs : (f : Field) (n : ℕ) → items_pairs (pairs f) (replicate n v.Null
 fill_pairs f zero = refl
 fill_pairs f (suc n) = ap (λ (ps : Pairs). ps ++ items_pairs (pairs f) (replicate n v.Null)) (null_pairs f) ∙ fill_pairs f n
 
--- so does a list of a fixed size, and the nulls of another value give nothing
-one_fixed : (f : Field) (size : ℕ) (w : Value-F Value)
-    → items_pairs (pairs f) (fixed_items_in size w) ≡ inner_pairs (t.FixedSizeList size) (pairs f ∷ []) w
-one_fixed f size (Value-F.List values) = refl
-one_fixed f size Value-F.Null = fill_pairs f size
-one_fixed f size (Value-F.Bool truth) = fill_pairs f size
-one_fixed f size (Value-F.Int z) = fill_pairs f size
-one_fixed f size (Value-F.UInt n) = fill_pairs f size
-one_fixed f size (Value-F.Bytes bytes) = fill_pairs f size
-one_fixed f size (Value-F.Text text) = fill_pairs f size
-one_fixed f size (Value-F.Struct values) = fill_pairs f size
-
--- so do those of lists of a fixed size
-pub fixed_pairs : (f : Field) (size : ℕ) (vs : List Value)
-    → items_pairs (pairs f) (all_fixed_items size vs)
-    ≡ items_pairs (λ x. inner_pairs (t.FixedSizeList size) (pairs f ∷ []) (out-Value x)) vs
-fixed_pairs f size [] = refl
-fixed_pairs f size (value ∷ vs) =
-    items_append (pairs f) (fixed_items size value) (all_fixed_items size vs)
-    ∙ (ap (λ (ps : Pairs). ps ++ items_pairs (pairs f) (all_fixed_items size vs)) (one_fixed f size (out-Value value))
-    ∙ ap (λ (ps : Pairs). inner_pairs (t.FixedSizeList size) (pairs f ∷ []) (out-Value value) ++ ps) (fixed_pairs f size vs))
-
--- ---- the parts of a struct, and the cells of a row
-
 -- each of these pairs is one of those
 abbrev pub Within : Pairs → Pairs → Type 0
 Within ps qs = (p : ℤ × Value) → Contains ps p → Contains qs p
+
+nothing_within : (ps qs : Pairs) → ps ≡ [] → Within ps qs
+nothing_within ps qs none p there =
+    let bad : Contains [] p = subst (λ (xs : Pairs). Contains xs p) none there in absurd (omega (arith, bad.1))
+
+fill_within : (f : Field) (n : ℕ) (ps : Pairs) → Within (items_pairs (pairs f) (replicate n v.Null)) ps
+fill_within f n ps = nothing_within (items_pairs (pairs f) (replicate n v.Null)) ps (fill_pairs f n)
+
+-- the items of a list of a fixed size give what it does, and the nulls of another value give nothing
+one_fixed : (f : Field) (size : ℕ) (w : Value-F Value)
+    → Within (items_pairs (pairs f) (fixed_items_in size w)) (inner_pairs (t.FixedSizeList size) (pairs f ∷ []) w)
+one_fixed f size (Value-F.List values) = by (length values == size)
+  where
+    by : (b : Bool) → Within (items_pairs (pairs f) (cond b values (replicate size v.Null))) (items_pairs (pairs f) values)
+    by true p there = there
+    by false p there = fill_within f size (items_pairs (pairs f) values) p there
+one_fixed f size _ = fill_within f size []
+
+-- those of lists of a fixed size are among the pairs of the lists
+pub fixed_pairs : (f : Field) (size : ℕ) (vs : List Value)
+    → Within (items_pairs (pairs f) (all_fixed_items size vs))
+    (items_pairs (λ x. inner_pairs (t.FixedSizeList size) (pairs f ∷ []) (out-Value x)) vs)
+fixed_pairs f size [] p there = there
+fixed_pairs f size (value ∷ vs) p there =
+    let own = inner_pairs (t.FixedSizeList size) (pairs f ∷ []) (out-Value value) in
+    let others = items_pairs (λ x. inner_pairs (t.FixedSizeList size) (pairs f ∷ []) (out-Value x)) vs in
+    ⊎_elim (λ (here : Contains (items_pairs (pairs f) (fixed_items size value)) p).
+    Contains-append_left own others p (one_fixed f size (out-Value value) p here))
+    (λ (later : Contains (items_pairs (pairs f) (all_fixed_items size vs)) p).
+    Contains-append_right own others p (fixed_pairs f size vs p later))
+    (Contains-append_cases (items_pairs (pairs f) (fixed_items size value)) (items_pairs (pairs f) (all_fixed_items size vs)) p
+    (subst (λ (ps : Pairs). Contains ps p) (items_append (pairs f) (fixed_items size value) (all_fixed_items size vs)) there))
+
+-- ---- the parts of a struct, and the cells of a row
 
 -- each pair that a value side by side gives in its field is one of those
 abbrev pub EachWithin : List Field → (ℕ → Value) → Pairs → Type 0
 EachWithin [] at qs = ⊤
 EachWithin (f ∷ fs) at qs = Within (pairs f (at 0)) qs × EachWithin fs (λ j. at (suc j)) qs
-
-nothing_within : (ps qs : Pairs) → ps ≡ [] → Within ps qs
-nothing_within ps qs none p there =
-    let bad : Contains [] p = subst (λ (xs : Pairs). Contains xs p) none there in absurd (omega (arith, bad.1))
 
 nulls_within : (fs : List Field) (qs : Pairs) → EachWithin fs (λ j. v.Null) qs
 nulls_within [] qs = tt

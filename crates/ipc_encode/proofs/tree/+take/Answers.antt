@@ -1,19 +1,23 @@
-use Rattle.std.proofs.Common.{◌≡◌, ◌∙◌, refl, sym, ap, subst, ℕ, ◌+◌, ◌++◌, List, [], ◌∷◌, take, add-one, append_assoc, arith}
+use Rattle.std.proofs.Common.{◌≡◌, ◌∙◌, refl, sym, ap, subst, ℕ, ◌+◌, ◌++◌, List, [], ◌∷◌, length, take, add-one, append_assoc, arith}
 use Rattle.std.proofs.Common.{rules}
 use Rattle.std.proofs.lemmas.Result.{err_from_is_err_and, on_ok_weaker, IfErr-weaker}
 use Rattle.std.proofs.lemmas.List.{take_more}
 use Rattle.ipc_model.specs.declared.layout.Layout.{Layout}
 use Rattle.ipc_model.specs.declared.value.Value.{Value}
+use Rattle.ipc_model.specs.declared.value.Value.TheVariants as v
 use Rattle.ipc_column.specs.Shapes.{bare, field}
 use Rattle.ipc_encode.specs.declared.tree.Node.{Node, out-Node}
 use Rattle.ipc_encode.specs.declared.column_builder.Purpose.{Purpose}
-use Rattle.ipc_encode.specs.Buffers.{child_values}
+use Rattle.ipc_encode.specs.Buffers.{child_values, nulls_below}
 use Rattle.ipc_encode.specs.Cells.{cell}
 use Rattle.ipc_encode.specs.Built.{AreNodes, IsNode, HasTaken, IsColumn, ArePushesRefused}
 use Rattle.ipc_encode.specs.Numbers.{index_or_zero}
 use Rattle.ipc_encode.proofs.Steps.{fixed_are, parts_are, fixed_gives, struct_gives, lists_more, fixed_more, nulls_more, structs_more}
+use Rattle.ipc_encode.proofs.Steps.{list_are}
 use Rattle.ipc_encode.proofs.Growing.{own_refused, child_refused, mixed_refused, all_refused, node_is, lent_column, lent_node, taken_laid}
 use Rattle.ipc_encode.proofs.Growing.{mixed_more, mixed_all, kept_at, leaf_has}
+use Rattle.ipc_encode.proofs.tree.+take.Goals.{take_below-in_default-value-via-in-List+else-as_slice-size}
+use Rattle.ipc_encode.proofs.tree.+take.Goals.{take_below-in_default-value-via-in_default-value}
 use Rattle.ipc_encode.proofs.tree.+take.Goals.{take_parts-in-Some+in_ok-take-in-Some, take_parts-in-None+in_ok-take_null-in-None}
 use Rattle.ipc_encode.proofs.tree.+take.Goals as goal
 
@@ -118,24 +122,39 @@ take_below-returns-in-Struct-clause-refused g t c = λ shape values h.
 pub take_below-returns-in-List-clause-taken : goal.take_below-returns-in-List-clause-taken
 take_below-returns-in-List-clause-taken g t c = λ shape values h.
     let P = HasTaken (index_or_zero (g.I.IndexOf.index c.args.indices.now)) c.args.purpose c.args.limits.now in
-    let is = fixed_are c.in-FixedLists.field-0 c.args.value.now c.in-List.items c.in-List.is ∙ sym c.as_slice.ensures in
+    let many : length c.in-List.items ≡ c.in-FixedLists.size =
+    ap (λ (vs : List Value). length vs) (sym c.as_slice.ensures) ∙ c.if-as_slice-size.true in
+    let is = fixed_are c.in-FixedLists.size c.args.value.now c.in-List.items c.in-List.is many ∙ sym c.as_slice-in-List.ensures in
     on_ok_weaker c.take_items-in-List.result
     (λ more. subst (λ (given : ℕ → List Value). AreNodes P shape c.take_items-in-List.new.nodes given)
-    (fixed_more c.args.layout c.in-FixedLists.field-0 values c.args.value.now c.as_slice.result.now c.in-FixedLists.is is) more)
+    (fixed_more c.args.layout c.in-FixedLists.size values c.args.value.now c.as_slice-in-List.result.now c.in-FixedLists.is is) more)
     (c.take_items-in-List.ensures.taken shape (child_values c.args.layout values) h)
 
 pub take_below-returns-in-List-clause-refused : goal.take_below-returns-in-List-clause-refused
 take_below-returns-in-List-clause-refused g t c = λ shape values h.
-    let is = fixed_are c.in-FixedLists.field-0 c.args.value.now c.in-List.items c.in-List.is ∙ sym c.as_slice.ensures in
+    let many : length c.in-List.items ≡ c.in-FixedLists.size =
+    ap (λ (vs : List Value). length vs) (sym c.as_slice.ensures) ∙ c.if-as_slice-size.true in
+    let is = fixed_are c.in-FixedLists.size c.args.value.now c.in-List.items c.in-List.is many ∙ sym c.as_slice-in-List.ensures in
     IfErr-weaker c.take_items-in-List.result _ _
     (λ fault index_or_zero. subst (λ (given : ℕ → List Value). ArePushesRefused c.args.limits.now shape given fault)
-    (fixed_more c.args.layout c.in-FixedLists.field-0 values c.args.value.now c.as_slice.result.now c.in-FixedLists.is is) index_or_zero)
+    (fixed_more c.args.layout c.in-FixedLists.size values c.args.value.now c.as_slice-in-List.result.now c.in-FixedLists.is is)
+    index_or_zero)
     (c.take_items-in-List.ensures.refused shape (child_values c.args.layout values) h)
 
 pub take_below-returns-in_default-value : goal.take_below-returns-in_default-value
 take_below-returns-in_default-value g t c =
-    let more = λ (values : List Value). nulls_more c.args.layout values c.args.value.now c.nulls_below.result c.nulls_below.ensures.count
-    (λ j. fixed_gives c.args.layout c.in-FixedLists.field-0 c.args.value.now c.in-FixedLists.is c.in_default-value.not-List j) in
+    let other : (items : List Value) → c.args.value.now ≡ v.List items → length items ≡ c.in-FixedLists.size → ⊥ =
+    elim c.in_default-value.branch [
+      | take_below-in_default-value-via-in-List+else-as_slice-size w ↦ λ items e size.
+          let same : length items ≡ length w.as_slice.result.now =
+          ap (λ (vs : List Value). length vs) (sym (list_are c.args.value.now items e)
+          ∙ (list_are c.args.value.now w.in-List.items w.in-List.is ∙ sym w.as_slice.ensures)) in
+          w.if-as_slice-size.false (sym same ∙ size)
+      | take_below-in_default-value-via-in_default-value w ↦ λ items e size. w.in_default-value.not-List items e
+    ] in
+    let count = c.nulls_below.ensures.count ∙ sym (ap nulls_below c.in-FixedLists.is) in
+    let more = λ (values : List Value). nulls_more c.args.layout values c.args.value.now c.nulls_below.result count
+    (λ j. fixed_gives c.args.layout c.in-FixedLists.size c.args.value.now c.in-FixedLists.is other j) in
     record {
       taken = λ shape values h. on_ok_weaker c.take_nulls.result
           (λ taken. subst (λ (given : ℕ → List Value). AreNodes

@@ -1,4 +1,4 @@
-use Rattle.std.proofs.Common.{◌≡◌, ◌∙◌, sym, ap, ℕ, Bool, List, [], ◌∷◌, ◌++◌, length, arith}
+use Rattle.std.proofs.Common.{◌≡◌, ◌∙◌, refl, sym, ap, ℕ, Bool, List, [], ◌∷◌, ◌++◌, length, arith}
 use Rattle.std.proofs.lemmas.Result.{err_from_is_err_and}
 use Rattle.ipc_model.specs.declared.layout.Layout.TheVariants as l
 use Rattle.ipc_encode.specs.Bitmaps.{bitmap}
@@ -26,7 +26,7 @@ returns-in_err-check_amount-in-FixedBytes-clause-refused g c = λ vs h count.
     let width = c.in-FixedBytes.width in
     let same = rw c.in-FixedBytes.is at h in
     let size = ap (λ (bs : List ℕ). length bs) same ∙ fixed_data width vs in
-    let more = amount_more (l.FixedBytes width) vs c.args.value.now _ _ size c.fixed_len.ensures.len in
+    let more = amount_more (l.FixedBytes width) vs c.args.value.now _ width size refl in
     let p = err_from_is_err_and c.from_residual-in_err-check_amount-in-FixedBytes.result
     c.from_residual-in_err-check_amount-in-FixedBytes.ensures.1 in
     rw (p.1, p.2, c.in-FixedBytes.is) (c.in_err-check_amount-in-FixedBytes.ensures.refused (vs ++ c.args.value.now ∷ [])
