@@ -92,7 +92,7 @@ nulls_from : (vs : List Value) (i : ℕ) (d : Value) → i < length vs
 nulls_from vs i d l = rw (drop-cons vs i d) refl
 
 -- the clear bits so far and the nulls that are left
-clear_so_far : (vs : List Value) (k : ℕ) (d : Value) → k ≤ length vs → clear (bitmap (flags Valid vs)) k + nulls (drop k vs) ≡ nulls vs
+pub clear_so_far : (vs : List Value) (k : ℕ) (d : Value) → k ≤ length vs → clear (bitmap (flags Valid vs)) k + nulls (drop k vs) ≡ nulls vs
 unfolding clear
 clear_so_far vs zero d l = omega arith
 clear_so_far vs (suc k) d l =

@@ -10,8 +10,7 @@ use Rattle.ipc_model.specs.declared.layout.Layout.TheVariants as l
 use Rattle.ipc_model.specs.Layouts.{own_buffers}
 use Rattle.ipc_column.specs.Columns.{Columns, none, column, EachTop}
 use Rattle.ipc_column.specs.Shapes.{Shape, bare, field, node_count, buffer_count, node_at, buffer_at, column_at, assigned_columns}
-use Rattle.ipc_encode.specs.Cells.{nulls}
-use Rattle.ipc_encode.specs.Buffers.{column_buffers, child_values, nodes_of, buffers_with, written_values}
+use Rattle.ipc_encode.specs.Buffers.{column_buffers, column_nulls, child_values, nodes_of, buffers_with, written_values}
 use Rattle.ipc_encode.specs.Numbers.{Numbering}
 use Rattle.ipc_column.specs.Dictionaries.{Dictionaries, values_for}
 use Rattle.ipc_encode.proofs.Indexed.{validity_same}
@@ -87,7 +86,7 @@ BuffersAt head body n bs = StandAt (buffer_at head body) [] n bs
 
 -- a column whose node and buffers were written is cut out of the body again
 pub column_back : (ds : Dictionaries) (known : Numbering) (l : Layout) (vs : List Value) (head : BatchHead) (body : List ℕ) (n m : ℕ)
-    → node_at head n ≡ (pos (length vs), pos (nulls vs)) → BuffersAt head body m (column_buffers l (written_values known l vs))
+    → node_at head n ≡ (pos (length vs), pos (column_nulls l vs)) → BuffersAt head body m (column_buffers l (written_values known l vs))
     → column_at ds l head body n m ≡ column_of ds known l vs
 column_back ds known l.Null vs head body n m e h =
     λ i. record {
@@ -212,10 +211,11 @@ cut_back ds known (field l children rest) given head body n m ns bs =
     let other_buffers = buffers_with known rest (λ j. given (suc j)) in
     let nodes = node_at head in
     let buffers = buffer_at head body in
-    let node : node_at head n ≡ (pos (length vs), pos (nulls vs)) =
+    let node : node_at head n ≡ (pos (length vs), pos (column_nulls l vs)) =
     ap nodes (let z : n ≡ n + 0 = omega arith in z) ∙ ns 0 (omega arith) in
     let later_nodes : NodesAt head (n + 1) (inner_nodes ++ other_nodes) =
-    stand_behind nodes (pos 0, pos 0) n (n + 1) 1 ((pos (length vs), pos (nulls vs)) ∷ []) (inner_nodes ++ other_nodes) refl refl ns in
+    stand_behind nodes (pos 0, pos 0) n (n + 1) 1 ((pos (length vs), pos (column_nulls l vs)) ∷ []) (inner_nodes ++ other_nodes)
+    refl refl ns in
     let later_buffers : BuffersAt head body (m + own_buffers l) (inner_buffers ++ other_buffers) =
     stand_behind buffers [] m (m + own_buffers l) (own_buffers l) own (inner_buffers ++ other_buffers)
     (own_length l (written_values known l vs)) refl bs in

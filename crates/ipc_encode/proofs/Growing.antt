@@ -15,7 +15,7 @@ use Rattle.ipc_model.specs.declared.schema.Field.{Field}
 use Rattle.ipc_model.specs.declared.value.Value.{Value}
 use Rattle.ipc_column.specs.Shapes.{Shape, bare, field, shapes, field_shape, shape_of}
 use Rattle.ipc_encode.specs.Buffers.{padded_buffer, padded_bytes, ranges_from, child_values, row_columns, column_buffers, buffers_of}
-use Rattle.ipc_encode.specs.Buffers.{rows_body, nodes_of}
+use Rattle.ipc_encode.specs.Buffers.{column_nulls, rows_body, nodes_of}
 use Rattle.ipc_encode.specs.Built.{AreNodes, IsNode, HasTaken, IsPushRefused, ArePushesRefused, data_layout}
 use Rattle.ipc_encode.specs.Cells.{nulls}
 use Rattle.ipc_encode.specs.Columns.{bits_length, padded_length, validity_length, offsets_length, values_length, data_in}
@@ -562,9 +562,9 @@ nodes_next (suc i) (field k d rest) given l c h =
     let inner = nodes_of d (child_values k (given 0)) in
     let later = nodes_of (first i rest) (λ j. given (suc j)) in
     let one = nodes_of (field l c bare) (λ j. given (suc i)) in
-    ap (λ (ns : List (ℤ × ℤ)). (pos (length (given 0)), pos (nulls (given 0))) ∷ (inner ++ ns))
+    ap (λ (ns : List (ℤ × ℤ)). (pos (length (given 0)), pos (column_nulls k (given 0))) ∷ (inner ++ ns))
     (nodes_next i rest (λ j. given (suc j)) l c h)
-    ∙ ap (λ (ns : List (ℤ × ℤ)). (pos (length (given 0)), pos (nulls (given 0))) ∷ ns) (sym (append_assoc inner later one))
+    ∙ ap (λ (ns : List (ℤ × ℤ)). (pos (length (given 0)), pos (column_nulls k (given 0))) ∷ ns) (sym (append_assoc inner later one))
 
 -- the bytes of one field more
 pub bytes_next : (i : ℕ) (shape : Shape) (given : ℕ → List Value) (l : Layout) (c : Shape) → IsAt i shape l c

@@ -163,23 +163,6 @@ module _ (s : Nested) (b : Buffers) (h : AreBuffers s b) (layout : Layout) (laid
           let bytes = eqb-false (length s.column.validity) 0 e in
           with_bits (omega (arith, bytes)) ∙ clear_nulls s.column.validity (slot_values s) marks bytes
 
--- values that are all null
-all_null : (vs : List Value) → ((i : ℕ) → i < length vs → get_or vs i Null ≡ Null) → nulls vs ≡ length vs
-all_null [] h = refl
-all_null (v ∷ vs) h =
-    let rest = all_null vs (λ i m. h (suc i) (omega (arith, m))) in
-    let one : cond {A = ℕ} (is_set Valid v) 0 1 ≡ 1 = rw (h 0 (omega arith), null_out) refl in
-    omega (arith, rest, one)
-
-pub null_slots : (s : Nested) → s.column.layout ≡ l.Null → nulls (slot_values s) ≡ length (slot_values s)
-null_slots s e = all_null (slot_values s) (λ i m. slot_is s i m ∙ either i (is_valid s.column.validity i))
-  where
-    either : (i : ℕ) (valid : Bool)
-        → cond valid (own_value s.column.layout s.column.dictionary (row (child_columns s)) s.column.offsets s.column.values i) v.Null
-        ≡ Null
-    either i true = rw e refl
-    either i false = refl
-
 -- ---- numbers
 
 -- a number stands in the values alone

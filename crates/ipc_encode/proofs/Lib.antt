@@ -13,6 +13,7 @@ pub mod Agreeing
 pub mod Ranges
 pub mod ReadbackParts
 pub mod Cutting
+pub mod FirstSlots
 pub mod HeldValues
 pub mod Reading
 pub mod FittingColumns

@@ -26,7 +26,7 @@ use Rattle.ipc_column.specs.checks.Rules.{AreOffsets, HoldValues, HoldOffsets, I
 use Rattle.ipc_column.specs.Shapes.{dictionary_at}
 use Rattle.ipc_column.specs.Values.{is_valid, offset, offset_position, between, signed_at, value_at, number_in}
 use Rattle.ipc_encode.specs.Bitmaps.{bitmap}
-use Rattle.ipc_encode.specs.Buffers.{piece_bytes}
+use Rattle.ipc_encode.specs.Buffers.{column_nulls, piece_bytes}
 use Rattle.ipc_encode.specs.Cells.{is_set, flags, nulls, number_bits, content, fixed_bytes, SpellsOut, slot_bytes, slots, extent, ends}
 use Rattle.ipc_encode.specs.Cells.{offsets, items, all_items, is_null}
 use Rattle.ipc_encode.specs.Columns.{validity_bytes, validity_in}
@@ -69,7 +69,7 @@ abbrev pub column_of : Dictionaries → Numbering → Layout → List Value → 
 column_of m known l vs = record {
   layout = l;
   slots = length vs;
-  nulls = nulls vs;
+  nulls = column_nulls l vs;
   validity = validity_in l vs;
   offsets = offsets_in l vs;
   values = written_values known l vs;
@@ -118,6 +118,10 @@ pub nulls_most : (vs : List Value) → nulls vs ≤ length vs
 nulls_most [] = omega arith
 nulls_most (v ∷ vs) = let h = nulls_most vs in elim (is_set Valid v) as (λ b. cond b 0 1 + nulls vs ≤ suc (length vs))
     [ true ↦ omega (arith, h) | false ↦ omega (arith, h) ]
+
+pub column_nulls_most : (layout : Layout) (vs : List Value) → column_nulls layout vs ≤ length vs
+column_nulls_most l.Null vs = omega arith
+column_nulls_most _ vs = nulls_most vs
 
 -- where no value is null, each is valid
 pub no_null : (vs : List Value) (i : ℕ) (d : Value) → nulls vs ≡ 0 → i < length vs → is_set Valid (get_or vs i d) ≡ true
@@ -273,16 +277,23 @@ front_more run [] i d k = absurd (omega arith)
 front_more run (v ∷ vs) zero d k = omega arith
 front_more run (v ∷ vs) (suc i) d k = let rest = front_more run vs i d (omega arith) in omega (arith, rest)
 
+-- the end of slot i is where the runs before the next one reach
+pub end_is : (run : Run) (vs : List Value) (i : ℕ) → i ≤ length vs → reach run vs ≤ 2 ^ 31 - 1
+    → num (offsets run vs) (4 * i) 4 ≡ reach run (take i vs)
+end_is run vs i k short =
+    let most = front_most run vs i in
+    let n = reach run (take i vs) in
+    ap (λ (m : ℕ). num (offsets run vs) m 4) (let e : 4 * i ≡ 0 + 4 * i = omega arith in e)
+    ∙ (ends_back run vs [] 0 i k ∙ (ap (λ (m : ℕ). m % 2 ^ 32) (let e : 0 + n ≡ n = omega arith in e)
+    ∙ mod-eq_of_lt (omega (arith, most, short))))
+
 -- offset i is where the runs before slot i reach
 pub offset_is : (run : Run) (vs : List Value) (i : ℕ) → i ≤ length vs → reach run vs ≤ 2 ^ 31 - 1
     → offset (offsets run vs) i ≡ pos (reach run (take i vs))
 offset_is run vs i k short =
     let most = front_most run vs i in
     let n = reach run (take i vs) in
-    let back : num (offsets run vs) (4 * i) 4 ≡ n % 2 ^ 32 =
-    ap (λ (m : ℕ). num (offsets run vs) m 4) (let e : 4 * i ≡ 0 + 4 * i = omega arith in e)
-    ∙ (ends_back run vs [] 0 i k ∙ ap (λ (m : ℕ). m % 2 ^ 32) (let e : 0 + n ≡ n = omega arith in e)) in
-    ap (cast_signed w32) (back ∙ mod-eq_of_lt (omega (arith, most, short))) ∙ to_z_pos w32 n (omega (arith, most, short))
+    ap (cast_signed w32) (end_is run vs i k short) ∙ to_z_pos w32 n (omega (arith, most, short))
 
 -- slot i begins where the runs before it reach
 pub place_is : (run : Run) (vs : List Value) (i : ℕ) → i ≤ length vs → reach run vs ≤ 2 ^ 31 - 1
@@ -393,11 +404,11 @@ counts_nulls m known lay n vs h = record { with_bitmap = there lay; without_bitm
         (λ h. let e = bitmap_length vs in let m = nulls_most vs in omega (arith, e, h, m))
 
     there : (l : Layout) → has_validity l ≡ true → 0 < length (validity_in l vs) → HasWholeBitmap (column_of m known l vs)
-        → nulls vs ≡ clear (validity_in l vs) (length vs)
+        → column_nulls l vs ≡ clear (validity_in l vs) (length vs)
     there l.Null e h b = absurd (omega arith)
     there _ e h b = some h
 
-    absent : (l : Layout) → AllHeld l n vs → has_validity l ≡ true → length (validity_in l vs) ≡ 0 → nulls vs ≡ 0
+    absent : (l : Layout) → AllHeld l n vs → has_validity l ≡ true → length (validity_in l vs) ≡ 0 → column_nulls l vs ≡ 0
     absent l.Null h e z = absurd (cc)
     absent _ h e z = none z
 

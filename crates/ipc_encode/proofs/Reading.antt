@@ -51,7 +51,8 @@ use Rattle.ipc_encode.proofs.HeldValues.{across, across_is, ColumnsHeld, all_bot
 use Rattle.ipc_encode.proofs.Ranges.{buffer_back, ranges_length, ranges_inside}
 use Rattle.ipc_encode.proofs.ReadbackParts.{column_of, written_values, Holds, AllHeld, held_at, valid_is, number_back, fixed_back}
 use Rattle.ipc_encode.proofs.ReadbackParts.{between_is, IsShort, reach, reach_items, place_is, place_next, number_is, signed_is, found_at}
-use Rattle.ipc_encode.proofs.ReadbackParts.{index_back, HasItsChild, reach_bytes, front_most, front_more, each_at, nulls_most, in_order}
+use Rattle.ipc_encode.proofs.ReadbackParts.{index_back, HasItsChild, reach_bytes, front_most, front_more, each_at, in_order}
+use Rattle.ipc_encode.proofs.ReadbackParts.{column_nulls_most}
 use Rattle.ipc_encode.proofs.ReadbackParts.{spelled, index_number, long_enough, counts_nulls, offsets_in}
 use Rattle.ipc_encode.proofs.Steps.{all_fixed_length, cells_length, of_size}
 
@@ -499,7 +500,7 @@ are_nodes : (ds : Dictionaries) (known : Numbering) (limits : Limits) (s : Shape
 are_nodes ds known limits bare given g = tt
 are_nodes ds known limits (field l children rest) given g =
     let few = g.0.few in
-    let most = nulls_most (given 0) in (
+    let most = column_nulls_most l (given 0) in (
       record {
         slots = record { from = omega (arith, ints); to = omega (arith, ints, few) };
         nulls_from = omega (arith, ints);

@@ -18,7 +18,7 @@ use Rattle.ipc_column.specs.Shapes.{Shape, bare, field, field_children, field_la
 use Rattle.ipc_encode.specs.Buffers.{padded_bytes, padded_buffer, ranges_from, child_values, buffers_with, column_buffers, data_buffers}
 use Rattle.ipc_encode.specs.Buffers.{row_columns, nodes_of, written_values}
 use Rattle.ipc_encode.specs.Built.{ArePushesRefused, IsColumn, IsNode}
-use Rattle.ipc_encode.specs.Cells.{nulls}
+use Rattle.ipc_encode.specs.Buffers.{column_nulls}
 use Rattle.ipc_encode.specs.Columns.{data_in, validity_bytes}
 use Rattle.ipc_encode.specs.Faults.{write_fault}
 use Rattle.ipc_encode.specs.Limits.{HasLongData, HasLongItems, HasLongNode, HasExcessData, AreRowsRefused, IsWithin, SomeExcessData}
@@ -213,7 +213,7 @@ refused_later limits d mid xs ys e a h =
 
 pub leaf_added : (limits : Limits) (known : Numbering) (lay : Layout) (vs : List Value) (bs : List (List ℕ)) (count none : ℕ)
     (d e : SegmentedDraft)
-    → length vs ≡ count → nulls vs ≡ none → column_buffers lay (written_values known lay vs) ≡ bs
+    → length vs ≡ count → column_nulls lay vs ≡ none → column_buffers lay (written_values known lay vs) ≡ bs
     → e.nodes.items ≡ d.nodes.items ++ (pos count, pos none) ∷ [] → AddsBuffers d e bs → count ≤ limits.slots
     → (HasExcessData lay vs → ⊥) → AreStored lay vs → e.len ≤ limits.body
     → AddsColumns limits known (field lay bare bare) (λ j. vs) d e
@@ -293,7 +293,7 @@ pub with_children : (limits : Limits) (known : Numbering) (lay : Layout) (c : Sh
     → AddsColumns limits known (field lay bare bare) (λ j. vs) d mid → AddsColumns limits known c (child_values lay vs) mid e
     → AddsColumns limits known (field lay c bare) (λ j. vs) d e
 with_children limits known lay c vs d mid e own inner =
-    let node : ℤ × ℤ = (pos (length vs), pos (nulls vs)) in
+    let node : ℤ × ℤ = (pos (length vs), pos (column_nulls lay vs)) in
     let nodes = nodes_of c (child_values lay vs) in
     let buffers = column_buffers lay (written_values known lay vs) in
     let more = buffers_with known c (child_values lay vs) in

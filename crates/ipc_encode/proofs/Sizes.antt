@@ -20,6 +20,7 @@ use Rattle.ipc_model.specs.declared.value.Value.TheOpen.{Value-F}
 use Rattle.ipc_column.specs.Shapes.{Shape, bare, field}
 use Rattle.ipc_encode.specs.Bitmaps.{bitmap}
 use Rattle.ipc_encode.specs.Buffers.{padded_buffer, padded_bytes, piece_bytes, column_buffers, child_values, buffers_of}
+use Rattle.ipc_encode.specs.Buffers.{column_nulls}
 use Rattle.ipc_encode.specs.Built.{AreCountsOf, AreColumnsWithin, HoldsValues, IsColumn, data_layout}
 use Rattle.ipc_encode.specs.Cells.{flags, nulls, content, fixed_bytes, items, slot_bytes, slots, ends, offsets, extent, number_bits}
 use Rattle.ipc_encode.specs.Cells.{all_items}
@@ -99,7 +100,7 @@ ends_length run start (v ∷ vs) =
     let size = length-append (bytes_low_first 0 4 (start + extent run v)) (ends run (start + extent run v) vs) in
     omega (arith, rest, here, size)
 
-offsets_size : (run : p.Run) (vs : List Value) → length (offsets run vs) ≡ 4 * (length vs + 1)
+pub offsets_size : (run : p.Run) (vs : List Value) → length (offsets run vs) ≡ 4 * (length vs + 1)
 offsets_size run vs = let size = ends_length run 0 vs in omega (arith, size)
 
 -- ---- the data of a column
@@ -236,7 +237,13 @@ held_stored known vs _ h = tt
 pub counted_size : (limits : Limits) (layout : Layout) (vs : List Value) (counts : ColumnCounts) → AreCountsOf limits layout vs counts
     → column_length layout counts.slots counts.nulls (values_length layout counts.slots counts.amount)
     ≡ length (padded_bytes (column_buffers layout vs))
-counted_size limits layout vs counts h = rw (h.slots_are, h.nulls_are, h.amount_is) (sym (column_size layout vs))
+counted_size limits layout vs counts h =
+    rw (h.slots_are, h.nulls_are, h.amount_is) (same layout ∙ sym (column_size layout vs))
+  where
+    same : (lay : Layout) → column_length lay (length vs) (column_nulls lay vs) (values_length lay (length vs) (data_in lay vs))
+        ≡ column_length lay (length vs) (nulls vs) (values_length lay (length vs) (data_in lay vs))
+    same l.Null = refl
+    same _ = refl
 
 -- ---- buffers
 

@@ -5,7 +5,7 @@ use Rattle.std.proofs.Math.Nat.{suc-mul}
 use Rattle.std.proofs.lemmas.Bool.{eq-eqb, eqb-true, ne_eqb}
 use Rattle.std.proofs.lemmas.List.{append-nil, length-replicate, replicate-append-replicate, take-replicate}
 use Rattle.std.specs.Int.{bytes_low_first}
-use Rattle.std.specs.Prelude.{◌==◌}
+use Rattle.std.specs.Prelude.{◌==◌, ◌&&◌}
 use denote.Hole.Carrier
 use Rattle.ipc_model.specs.Layouts.{has_validity}
 use Rattle.ipc_model.specs.declared.layout.Layout.{Layout}
@@ -18,7 +18,7 @@ use Rattle.ipc_model.specs.declared.value.Value.TheOpen as o
 use Rattle.ipc_model.specs.declared.value.Value.TheVariants as v
 use Rattle.ipc_model.specs.declared.value.Value.TheViews.{out-Value, roll-Value, out-roll-Value, roll-out-Value}
 use Rattle.ipc_encode.specs.Bitmaps.{bitmap}
-use Rattle.ipc_encode.specs.Buffers.{child_values, nulls_below}
+use Rattle.ipc_encode.specs.Buffers.{child_values, column_nulls, nulls_below}
 use Rattle.ipc_encode.specs.Built.{IsColumn}
 use Rattle.ipc_encode.specs.Cells.{cell, cells, is_set, flags, nulls, content, slot_bytes, slots, extent, ends, offsets, items}
 use Rattle.ipc_encode.specs.Cells.{struct_member, fixed_items, all_fixed_items, all_items, all_parts, fixed_items_in, part_in}
@@ -346,6 +346,28 @@ null_more vs v e none =
 -- as many nulls as before at least
 pub nulls_stay : (vs : List Value) (v : Value) → (nulls vs ≡ 0 → ⊥) → nulls (vs ++ v ∷ []) ≡ 0 → ⊥
 nulls_stay vs v some none = let more = nulls_push vs v in some (omega (arith, more, none))
+
+-- ---- the nulls of a column
+
+-- they are the values that are null, where the layout has a bitmap
+pub marked_nulls : (layout : Layout) (vs : List Value) → has_validity layout ≡ true → column_nulls layout vs ≡ nulls vs
+marked_nulls l.Null vs some = absurd cc
+marked_nulls _ vs some = refl
+
+pub other_nulls : (layout : Layout) (vs : List Value) → (layout ≡ l.Null → ⊥) → column_nulls layout vs ≡ nulls vs
+other_nulls l.Null vs other = absurd (other refl)
+other_nulls _ vs other = refl
+
+-- without values there are none
+pub none_null : (layout : Layout) → column_nulls layout [] ≡ 0
+none_null l.Null = refl
+none_null _ = refl
+
+-- one value more
+pub one_null : (layout : Layout) (vs : List Value) (v : Value)
+    → column_nulls layout (vs ++ v ∷ []) ≡ column_nulls layout vs + cond (has_validity layout && is_set Valid v) 0 1
+one_null l.Null vs v = length-append vs (v ∷ [])
+one_null _ vs v = nulls_push vs v
 
 -- ---- layouts with a bitmap
 

@@ -20,6 +20,19 @@ use Rattle.ipc_encode.specs.Numbers.{Numbering, numbers_of}
 abbrev pub validity : ℕ → Piece
 validity count = if count == 0 then p.Absent else p.Flags Valid
 
+-- how many slots of a column of this layout are null; each slot of a column of nulls is
+-- (Arrow Columnar Format, "Null Layout")
+abbrev pub column_nulls : Layout → List Value → ℕ
+column_nulls l.Null values = length values
+column_nulls l.Bits values = nulls values
+column_nulls (l.Numbers bits signed) values = nulls values
+column_nulls (l.FixedBytes width) values = nulls values
+column_nulls (l.VariableBytes utf8) values = nulls values
+column_nulls l.Lists values = nulls values
+column_nulls l.Structs values = nulls values
+column_nulls (l.FixedLists size) values = nulls values
+column_nulls (l.Indices bits signed id) values = nulls values
+
 -- the content of the buffers of a column, in their order; `count` values are null
 -- (Arrow Columnar Format, "Buffer Listing for Each Layout")
 abbrev pub pieces : Layout → ℕ → List Piece
@@ -76,8 +89,8 @@ nulls_below _ = 0
 abbrev pub nodes_of : Shape → (ℕ → List Value) → List (ℤ × ℤ)
 nodes_of bare given = []
 nodes_of (field l children rest) given =
-    (pos (length (given 0)), pos (nulls (given 0))) ∷ (nodes_of children (child_values l (given 0))
-    ++ nodes_of rest (λ j. given (suc j)))
+    (pos (length (given 0)), pos (column_nulls l (given 0)))
+    ∷ (nodes_of children (child_values l (given 0)) ++ nodes_of rest (λ j. given (suc j)))
 
 -- the buffers of each field and each field below it, in pre-order; `given` has the values of each
 -- column

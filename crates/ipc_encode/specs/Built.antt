@@ -20,9 +20,9 @@ use Rattle.ipc_encode.specs.declared.column_builder.Purpose.{Purpose}
 use Rattle.ipc_encode.specs.declared.column_builder.Purpose.TheVariants as purpose
 use Rattle.ipc_column.specs.Shapes.{Shape, bare, field, shape_of}
 use Rattle.ipc_encode.specs.Buffers.{child_values, row_columns, padded_bytes, column_buffers}
-use Rattle.ipc_encode.specs.Buffers.{buffers_of}
+use Rattle.ipc_encode.specs.Buffers.{buffers_of, column_nulls}
 use Rattle.ipc_encode.specs.Bitmaps.{bitmap}
-use Rattle.ipc_encode.specs.Cells.{HasUtf8, flags, nulls, offsets, slots}
+use Rattle.ipc_encode.specs.Cells.{HasUtf8, flags, offsets, slots}
 use Rattle.ipc_encode.specs.Columns.{validity_in, data_in}
 use Rattle.ipc_encode.specs.Numbers.{Numbering, indices_of}
 use Rattle.ipc_encode.specs.Pieces.{Bytes, Content, Fixed, Items, Number, True}
@@ -35,7 +35,7 @@ use Rattle.ipc_encode.specs.Weights.{weight_of}
 pub record AreCountsOf (limits : Limits) (layout : Layout) (values : List Value)
     (counts : ColumnCounts) : Type 0 where
   pub slots_are : counts.slots ≡ length values
-  pub nulls_are : counts.nulls ≡ nulls values
+  pub nulls_are : counts.nulls ≡ column_nulls layout values
   pub amount_is : counts.amount ≡ data_in layout values
   pub few : ¬ (limits.slots < length values)
   pub short : ¬ HasExcessData layout values
@@ -87,10 +87,15 @@ pub record IsColumn (indices : Numbering) (limits : Limits) (layout : Layout) (v
     (column : ColumnBuilder) : Type 0 where
   pub laid : data_layout column.data ≡ layout
   pub slots_are : column.slots ≡ length values
-  pub nulls_are : column.nulls ≡ nulls values
+  pub nulls_are : column.nulls ≡ column_nulls layout values
   pub few : ¬ (limits.slots < length values)
   pub validity_are : column.validity.items ≡ validity_in layout values
   pub holds : HoldsValues indices values column.data
+
+-- a column of this layout with these values, and then perhaps others
+abbrev pub BeginsWith : Numbering → Limits → Layout → List Value → ColumnBuilder → Type 0
+BeginsWith indices limits layout values column =
+    (more : List Value) × IsColumn indices limits layout (values ++ more) column
 
 -- the column has this layout, and its counts with the next row are those of these values
 pub record IsNext (limits : Limits) (layout : Layout) (values : List Value)

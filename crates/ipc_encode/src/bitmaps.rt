@@ -1,7 +1,7 @@
 //! Packed bits, and the validity bitmaps of columns that were read.
 ghost use Rattle.std.specs.Prelude.{◌≡◌, ◌+◌, ◌++◌, Bool, true, List, [], ◌∷◌, length, replicate};
 ghost use Rattle.std.specs.Prelude.{OnOk, ◌≤◌, ◌<◌, take, IfOk, IsTrue, ℕ, ◌*◌};
-ghost use Rattle.ipc_scalar.specs.Bytes.{bit};
+ghost use Rattle.ipc_scalar.specs.Bytes.{bit, clear};
 ghost use Rattle.ipc_model.specs.declared.value.Value.{Value};
 ghost use Rattle.ipc_column.specs.Values.{is_valid};
 ghost use Rattle.ipc_encode.specs.Bitmaps.{bitmap};
@@ -37,6 +37,31 @@ pub(crate) fn set_bits(bytes: &mut Vec<u8>, bits: usize) -> Result<(), AllocErro
         bytes.push((1 << (bits % 8)) - 1)?;
     }
     Ok(())
+}
+
+/// Drops the bits after the first `bits` packed ones. Bits after the last are 0.
+pub(crate) fn cut_bits(bytes: &mut Vec<u8>, bits: usize)
+    ensures cut { (flags more : List Bool) → length flags ≡ bits
+        → bytes.old.items ≡ bitmap (flags ++ more) → bytes.new.items ≡ bitmap flags }
+    ensures none { bytes.old.items ≡ [] → bytes.new.items ≡ [] }
+{
+    bytes.truncate(bits.div_ceil(8));
+    let place = bits / 8;
+    if place < bytes.len() {
+        bytes[place] &= (1 << (bits % 8)) - 1;
+    }
+}
+
+/// Returns the number of clear bits from bit `from` to the one before bit `to`.
+pub(crate) fn clear_between(bytes: &[u8], from: usize, to: usize) -> usize
+    requires { to ≤ 8 * length bytes.now }
+    ensures { from ≤ to → clear bytes.now from + result ≡ clear bytes.now to }
+{
+    let mut count = 0;
+    for slot in from..to {
+        count += usize::from(!bit(bytes, slot));
+    }
+    count
 }
 
 /// Returns whether a slot is valid, by the bitmap of its column. Without a bitmap each slot is

@@ -10,6 +10,7 @@ ghost use Rattle.ipc_model.specs.declared.layout.Layout.TheVariants.{Lists, Vari
 ghost use Rattle.ipc_model.specs.declared.limits.Limits.{Limits};
 ghost use Rattle.ipc_model.specs.declared.value.Value.{Value};
 ghost use Rattle.ipc_column.specs.Shapes.{Shape, bare, field};
+ghost use Rattle.ipc_encode.specs.Buffers.{column_nulls};
 ghost use Rattle.ipc_encode.specs.Built.{AreContents, AreListEnds, HoldsValues, data_layout};
 ghost use Rattle.ipc_encode.specs.Built.{IsColumn, IsPushRefused, ArePushesRefused};
 ghost use Rattle.ipc_encode.specs.Cells.{nulls, slot_bytes, slots};
@@ -19,7 +20,9 @@ ghost use Rattle.ipc_encode.specs.Pieces.{Number, Fixed};
 
 use crate::bitmaps::{push_bit, set_bits};
 use crate::column::{ColumnBuilder, ColumnCounts, ColumnData, IndexData};
-use crate::counting::{check_amount, content, is_true, is_valid, items, null_count, number_bits};
+use crate::counting::{
+    check_amount, content, is_true, is_valid, items, null_count, null_slots, number_bits,
+};
 use crate::fault::PushFault;
 use crate::index::IndexOf;
 use ipc_model::{IntBits, Layout, Limits, Value};
@@ -63,7 +66,7 @@ fn push_validity(
     value: &Value,
 ) -> Result<(), AllocError>
     ensures { (layout : Layout) (values : List Value) → has_validity ≡ layouts.has_validity layout
-        → length values ≡ slots → nulls values ≡ null_count
+        → length values ≡ slots → column_nulls layout values ≡ null_count
         → validity.old.items ≡ validity_in layout values
         → OnOk result (validity.new.items ≡ validity_in layout (values ++ value.now ∷ [])) }
 {
@@ -454,7 +457,7 @@ impl ColumnBuilder {
         let has_validity = self.data.has_validity();
         push_validity(&mut self.validity, has_validity, slots, nulls, value)?;
         self.slots = slots + 1;
-        self.nulls = nulls + null_count(value);
+        self.nulls = nulls + null_slots(has_validity, value);
         Ok(())
     }
 }

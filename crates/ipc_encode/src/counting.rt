@@ -1,6 +1,6 @@
 //! What a value is for the buffers of a column, and the sizes of columns with more values.
 ghost use Rattle.std.specs.Prelude.{◌≤◌, ◌≡◌, ◌<◌, ◌^◌, ◌++◌, List, [], ◌∷◌, length, IfOk, IfErr};
-ghost use Rattle.std.specs.Prelude.{OnOk, ◌+◌, ◌*◌, if◌then◌else◌};
+ghost use Rattle.std.specs.Prelude.{OnOk, ◌+◌, ◌*◌, ◌&&◌, if◌then◌else◌};
 ghost use Rattle.ipc_model.specs.MaxLimits.{max_body, max_slots};
 ghost use Rattle.ipc_model.specs.declared.layout.Layout.{Layout};
 ghost use Rattle.ipc_model.specs.declared.limits.Limits.{Limits};
@@ -37,6 +37,16 @@ pub(crate) fn null_count(value: &Value) -> usize
     ensures few { result ≤ 1 }
 {
     usize::from(!is_valid(value))
+}
+
+/// Returns the number of null slots that a value adds to a column: 0 or 1. Each slot of a column
+/// of nulls, which has no validity bitmap, is null.
+#[inline(always)]
+pub(crate) fn null_slots(has_validity: bool, value: &Value) -> usize
+    ensures count { result ≡ (if has_validity && is_set Valid value.now then 0 else 1) }
+    ensures few { result ≤ 1 }
+{
+    usize::from(!(has_validity && is_valid(value)))
 }
 
 /// Returns whether a value is true.
@@ -155,7 +165,7 @@ impl ColumnCounts {
         check_amount(layout, amount, limits)?;
         Ok(ColumnCounts {
             slots: self.slots + 1,
-            nulls: self.nulls + null_count(value),
+            nulls: self.nulls + null_slots(layout.has_validity(), value),
             amount,
         })
     }

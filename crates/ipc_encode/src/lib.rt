@@ -11,6 +11,7 @@ mod column_sizes;
 mod conforming;
 mod copying;
 mod counting;
+mod cut;
 mod encoding;
 mod fault;
 mod fitting;

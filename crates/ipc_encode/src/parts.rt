@@ -6,9 +6,9 @@ ghost use Rattle.ipc_model.specs.declared.limits.Limits.{Limits};
 ghost use Rattle.ipc_model.specs.declared.value.Value.{Value};
 ghost use Rattle.ipc_column.specs.Shapes.{Shape, bare, field};
 ghost use Rattle.ipc_encode.specs.Buffers.{column_buffers, nodes_of, buffers_with, data_buffers};
-ghost use Rattle.ipc_encode.specs.Buffers.{written_values};
+ghost use Rattle.ipc_encode.specs.Buffers.{column_nulls, written_values};
 ghost use Rattle.ipc_encode.specs.Built.{HoldColumns, HoldsValues, IsColumn, IsNode, data_layout};
-ghost use Rattle.ipc_encode.specs.Cells.{nulls, slots};
+ghost use Rattle.ipc_encode.specs.Cells.{slots};
 ghost use Rattle.ipc_encode.specs.Numbers.{Numbering, as_number, new_index, new_indices};
 ghost use Rattle.ipc_encode.specs.Pieces.{Number};
 ghost use Rattle.ipc_encode.specs.Writing.{Adds};
@@ -207,7 +207,7 @@ fn add_column<N: Renumber>(
     ensures nodes { (known : Numbering) (limits : Limits) (layout : Layout) (values : List Value)
         → IsColumn known limits layout values column.now
         → OnOk result (draft.new.nodes.items
-        ≡ draft.old.nodes.items ++ (pos (length values), pos (nulls values)) ∷ []) }
+        ≡ draft.old.nodes.items ++ (pos (length values), pos (column_nulls layout values)) ∷ []) }
     ensures adds { (known : Numbering) (limits : Limits) (layout : Layout) (values : List Value)
         → IsColumn known limits layout values column.now
         → OnOk result (Adds draft.old draft.new

@@ -5,6 +5,7 @@ use Rattle.ipc_encode.specs.Bitmaps.{bitmap}
 use Rattle.ipc_encode.specs.Cells.{flags, nulls}
 use Rattle.ipc_encode.proofs.Bits.{flags_length}
 use Rattle.ipc_encode.proofs.Steps.{all_valid, has_bitmap, no_bitmap, some_null, no_nulls, still_none, bits_then, null_more, nulls_stay}
+use Rattle.ipc_encode.proofs.Steps.{marked_nulls}
 use Rattle.ipc_encode.proofs.column_builder.push_validity.Goals.{then-null_count-eq0+else-is_valid+in_ok-set_bits, else-null_count-eq0}
 use Rattle.ipc_encode.proofs.column_builder.push_validity.Goals as goal
 
@@ -14,14 +15,16 @@ returns-then-not-has_validity c = λ layout values has count none same.
     same ∙ (no_bitmap layout values without ∙ sym (no_bitmap layout (values ++ c.args.value.now ∷ []) without))
 
 pub returns-then-is_valid : goal.returns-then-is_valid
-returns-then-is_valid c = λ layout values has count none same.
+returns-then-is_valid c = λ layout values has count counted same.
     let some = sym has ∙ c.if-not-has_validity.false in
+    let none = sym (marked_nulls layout values some) ∙ (counted ∙ c.if-null_count-eq0.true) in
     same ∙ (has_bitmap layout values some ∙ sym (has_bitmap layout (values ++ c.args.value.now ∷ []) some
-    ∙ still_none values c.args.value.now (none ∙ c.if-null_count-eq0.true) (sym c.is_valid-is_valid.ensures ∙ c.if-is_valid.true)))
+    ∙ still_none values c.args.value.now none (sym c.is_valid-is_valid.ensures ∙ c.if-is_valid.true)))
 
 pub returns : goal.returns
-returns c = λ layout values has count none kept.
+returns c = λ layout values has count counted kept.
     let some_bitmap = sym has ∙ c.if-not-has_validity.false in
+    let none = sym (marked_nulls layout values some_bitmap) ∙ counted in
     let same = kept ∙ has_bitmap layout values some_bitmap in
     on_ok_weaker c.push_bit.result (λ h. h ∙ sym (has_bitmap layout (values ++ c.args.value.now ∷ []) some_bitmap))
     (elim c.if-null_count-eq0.branch [

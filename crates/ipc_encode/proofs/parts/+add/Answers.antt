@@ -7,8 +7,7 @@ use Rattle.ipc_model.specs.declared.limits.Limits.{Limits}
 use Rattle.ipc_model.specs.declared.value.Value.{Value}
 use Rattle.ipc_column.specs.Shapes.{Shape, bare, field}
 use Rattle.ipc_encode.specs.declared.tree.Node.{Node, out-Node}
-use Rattle.ipc_encode.specs.Cells.{nulls}
-use Rattle.ipc_encode.specs.Buffers.{child_values, column_buffers, nodes_of, buffers_with, written_values}
+use Rattle.ipc_encode.specs.Buffers.{column_nulls, child_values, column_buffers, nodes_of, buffers_with, written_values}
 use Rattle.ipc_encode.specs.Numbers.{Numbering, new_indices}
 use Rattle.ipc_encode.proofs.Indexed.{buffers_with_next}
 use Rattle.ipc_encode.specs.Writing.{Adds}
@@ -25,7 +24,7 @@ below known limits children layout values node lent same h =
 
 pub add_node-returns-clause-nodes : goal.add_node-returns-clause-nodes
 add_node-returns-clause-nodes g t c = λ known limits layout children values h.
-    let node : ℤ × ℤ = (pos (length values), pos (nulls values)) in
+    let node : ℤ × ℤ = (pos (length values), pos (column_nulls layout values)) in
     let inner = nodes_of children (child_values layout values) in
     on_ok_weaker c.add_nodes.result
     (λ e. e ∙ (ap (λ (ns : List (ℤ × ℤ)). ns ++ inner) (c.in_ok-add_column.ensures.nodes known limits layout values h.0)

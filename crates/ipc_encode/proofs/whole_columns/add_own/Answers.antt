@@ -2,10 +2,11 @@ use Rattle.std.proofs.Common.{◌∙◌, sym, ap, [], arith}
 use Rattle.std.proofs.lemmas.Result.{err_from_is_err_and}
 use Rattle.ipc_model.specs.declared.layout.Layout.{Layout}
 use Rattle.ipc_column.specs.Nested.{slot_values}
-use Rattle.ipc_encode.specs.Buffers.{column_buffers, data_buffers, written_values}
-use Rattle.ipc_encode.proofs.LentBuffers.{buffers_bits, null_slots, whole_marked, whole_nulls, slots_stored}
+use Rattle.ipc_encode.specs.Buffers.{column_buffers, column_nulls, data_buffers, written_values}
+use Rattle.ipc_encode.proofs.LentBuffers.{buffers_bits, whole_marked, whole_nulls, slots_stored}
 use Rattle.ipc_encode.proofs.ReadbackParts.{nulls_most}
 use Rattle.ipc_encode.proofs.SegmentColumns.{adds_both, begun, bitmap_and_data, bitmap_refused, data_refused, leaf_added}
+use Rattle.ipc_encode.proofs.Steps.{other_nulls}
 use Rattle.ipc_encode.proofs.whole_columns.add_own.Goals as goal
 
 pub returns-in-Null-clause-adds : goal.returns-in-Null-clause-adds
@@ -14,7 +15,7 @@ returns-in-Null-clause-adds c = λ known.
     let len = c.in_ok-add_counts.ensures.adds.len in
     leaf_added c.args.limits.now known c.args.layout vs [] c.len-count.result c.len-count.result
     c.args.draft.now c.add_counts.new.draft (sym c.len-count.ensures)
-    (null_slots c.args.view.now (c.requires.lies.laid ∙ c.in-Null.is) ∙ sym c.len-count.ensures)
+    (ap (λ (x : Layout). column_nulls x vs) c.in-Null.is ∙ sym c.len-count.ensures)
     (ap (λ (x : Layout). column_buffers x (written_values known x vs)) c.in-Null.is)
     c.in_ok-add_counts.ensures.nodes c.in_ok-add_counts.ensures.adds (omega (arith, c.if-count-limits.false))
     (rw c.in-Null.is (λ h. h)) (slots_stored c.args.view.now c.args.layout c.requires.lies.laid c.requires.lies.texts)
@@ -81,7 +82,7 @@ returns-clause-adds c = λ known.
     c.null_count-null_count.ensures.without_bitmap in
     let bitmap = c.in_ok-validity.ensures vs (sym c.len-count.ensures) (sym nulls) marks in
     leaf_added c.args.limits.now known c.args.layout vs _ c.len-count.result c.null_count-null_count.result d c.add_data.new.draft
-    (sym c.len-count.ensures) (sym nulls)
+    (sym c.len-count.ensures) (other_nulls c.args.layout vs c.in_default.not-Null ∙ sym nulls)
     (bitmap_and_data known c.args.layout vs c.requires.lies.whole c.in_default.not-Null)
     (c.in_ok-add_data.ensures.nodes ∙ (c.in_ok-add_buffer.ensures.nodes ∙ c.in_ok-add_counts-2.ensures.nodes))
     (adds_both d c.add_buffer.new.draft c.add_data.new.draft _ (data_buffers c.args.layout vs)

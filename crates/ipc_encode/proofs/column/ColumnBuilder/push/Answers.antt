@@ -1,18 +1,23 @@
-use Rattle.std.proofs.Common.{◌∙◌, sym, ap, [], ◌∷◌, length-append, arith}
+use Rattle.std.proofs.Common.{◌∙◌, sym, ap, ℕ, Bool, cond, [], ◌∷◌, length-append, arith}
+use Rattle.std.specs.Prelude.{◌&&◌}
 use Rattle.ipc_model.specs.Layouts.{has_validity}
-use Rattle.ipc_encode.proofs.Steps.{nulls_push}
+use Rattle.ipc_encode.specs.Cells.{is_set}
+use Rattle.ipc_encode.specs.Pieces.{Valid}
+use Rattle.ipc_encode.proofs.Steps.{one_null}
 use Rattle.ipc_encode.proofs.column.ColumnBuilder.push.Goals as goal
 
 pub returns-clause-pushed : goal.returns-clause-pushed
 returns-clause-pushed g c = λ layout values h.
     let size = length-append values (c.args.value.now ∷ []) in
     let laid = c.in_ok-push.ensures.layout ∙ h.laid in
+    let marked = c.has_validity-has_validity.ensures ∙ ap has_validity laid in
+    let null = c.null_slots.ensures.count
+    ∙ ap (λ (b : Bool). cond {A = ℕ} (b && is_set Valid c.args.value.now) 0 1) marked in
     record {
       laid = laid;
       slots_are = omega (arith, size, h.slots_are);
-      nulls_are = omega (arith, nulls_push values c.args.value.now, h.nulls_are, c.null_count.ensures.count);
+      nulls_are = omega (arith, one_null layout values c.args.value.now, h.nulls_are, null);
       few = λ many. omega (arith, size, h.slots_are, many, c.if-slots-limits.false);
-      validity_are = c.in_ok-push_validity.ensures layout values (c.has_validity-has_validity.ensures ∙ ap has_validity laid)
-          (sym h.slots_are) (sym h.nulls_are) h.validity_are;
+      validity_are = c.in_ok-push_validity.ensures layout values marked (sym h.slots_are) (sym h.nulls_are) h.validity_are;
       holds = c.in_ok-push.ensures.pushed values h.holds (sym h.slots_are);
     }

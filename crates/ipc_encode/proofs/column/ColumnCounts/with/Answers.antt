@@ -1,7 +1,10 @@
-use Rattle.std.proofs.Common.{sym, subst, ℕ, ◌++◌, [], ◌∷◌, length-append, arith}
+use Rattle.std.proofs.Common.{◌∙◌, sym, ap, subst, ℕ, Bool, cond, ◌++◌, [], ◌∷◌, length-append, arith}
+use Rattle.std.specs.Prelude.{◌&&◌}
 use Rattle.std.proofs.lemmas.Result.{err_from_is_err_and}
 use Rattle.ipc_encode.specs.Columns.{ExceedsOffsets}
-use Rattle.ipc_encode.proofs.Steps.{nulls_push, amount_more}
+use Rattle.ipc_encode.specs.Cells.{is_set}
+use Rattle.ipc_encode.specs.Pieces.{Valid}
+use Rattle.ipc_encode.proofs.Steps.{one_null, amount_more}
 use Rattle.ipc_encode.proofs.Sizes.{long_from}
 use Rattle.ipc_encode.proofs.column.ColumnCounts.with.Goals as goal
 
@@ -17,9 +20,11 @@ returns-clause-counted c = λ values h.
     let amount = amount_more c.args.layout values c.args.value.now c.args.self.amount c.value_len.result h.amount_is
     c.value_len.ensures.is in
     let size = length-append values (c.args.value.now ∷ []) in
+    let null = c.null_slots.ensures.count
+    ∙ ap (λ (b : Bool). cond {A = ℕ} (b && is_set Valid c.args.value.now) 0 1) c.has_validity.ensures in
     record {
       slots_are = omega (arith, size, h.slots_are);
-      nulls_are = omega (arith, nulls_push values c.args.value.now, h.nulls_are, c.null_count.ensures.count);
+      nulls_are = omega (arith, one_null c.args.layout values c.args.value.now, h.nulls_are, null);
       amount_is = amount;
       few = λ many. omega (arith, size, h.slots_are, many, c.if-self-limits.false);
       short = λ long. c.in_ok-check_amount.ensures.within
