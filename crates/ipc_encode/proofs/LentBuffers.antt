@@ -163,6 +163,16 @@ module _ (s : Nested) (b : Buffers) (h : AreBuffers s b) (layout : Layout) (laid
           let bytes = eqb-false (length s.column.validity) 0 e in
           with_bits (omega (arith, bytes)) ∙ clear_nulls s.column.validity (slot_values s) marks bytes
 
+-- a column of nulls has nothing but nulls
+pub nothing_stands : (s : Nested) → s.column.layout ≡ l.Null → (i : ℕ) → i < length (slot_values s) → get_or (slot_values s) i Null ≡ Null
+nothing_stands s e i m = slot_is s i m ∙ either (is_valid s.column.validity i)
+  where
+    either : (valid : Bool)
+        → cond valid (own_value s.column.layout s.column.dictionary (row (child_columns s)) s.column.offsets s.column.values i) v.Null
+        ≡ Null
+    either true = rw e refl
+    either false = refl
+
 -- ---- numbers
 
 -- a number stands in the values alone

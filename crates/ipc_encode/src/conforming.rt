@@ -131,7 +131,8 @@ fn is_own_number(field: &Field, value: &Slot<'_>) -> bool
     }
 }
 
-// Whether each slot is null or has a signed number of the field's type. Each is checked.
+// Whether each slot is null or has a signed number of the field's type. Each is checked, except
+// those of a column of nulls.
 fn are_own_numbers(field: &Field, view: &SlotView<'_>) -> bool
     ensures { IsTrue result → (i : ℕ) → i < length (slot_values view.now)
         → is_set Valid (slice_index_or (slot_values view.now) i Null) ≡ true
@@ -139,6 +140,9 @@ fn are_own_numbers(field: &Field, view: &SlotView<'_>) -> bool
         (length (out-Field field.now).children)
         (out-Value (slice_index_or (slot_values view.now) i Null)) }
 {
+    if are_equal_layouts(view.layout(), Layout::Null) {
+        return true;
+    }
     for slot in 0..view.len() {
         if !is_own_number(field, &view.at(slot)) {
             return false;
@@ -174,13 +178,10 @@ fn slots_fit(field: &Field, view: &SlotView<'_>, parent_validity: &[u8]) -> bool
         return false;
     }
     let fields = field.children.as_slice();
-    if fields.is_empty() {
-        return leaf_fits(field, view);
-    }
     match (&field.kind, view.layout()) {
         (DataType::List, Layout::Lists) => items_fit(fields, view),
         (DataType::Struct, Layout::Structs) => parts_fit(fields, view),
-        _ => false,
+        _ => fields.is_empty() && leaf_fits(field, view),
     }
 }
 
