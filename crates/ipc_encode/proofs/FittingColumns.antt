@@ -311,6 +311,27 @@ list_slot s f fs i laid kind those m may inner = either (is_valid s.column.valid
         (subst (λ (ws : List Value). InnerFit Fits t.List fs (o.List ws)) (ap items_in shows) (inner_at fs (slot_values s) i m inner))
     either false e = null_slot f (get_or (slot_values s) i Null) (slot_is s i m ∙ rw e refl) may
 
+-- a slot of lists of a fixed size that have no items
+pub empty_slot : (s : Nested) (f : Field) (i : ℕ) → s.column.layout ≡ l.FixedLists 0 → (out-Field f).kind ≡ t.FixedSizeList 0
+    → i < length (slot_values s) → (is_set Valid (get_or (slot_values s) i Null) ≡ false → MayBeNull f)
+    → Fits f (get_or (slot_values s) i Null)
+empty_slot s f i laid kind m may = either (is_valid s.column.validity i) refl
+  where
+    nothing : (fs : List Field) → InnerFit Fits t.List fs (o.List [])
+    nothing [] = tt
+    nothing (g ∷ gs) = tt
+
+    either : (valid : Bool) → is_valid s.column.validity i ≡ valid → Fits f (get_or (slot_values s) i Null)
+    either true e =
+        let value = get_or (slot_values s) i Null in
+        let is : value ≡ v.List [] = slot_is s i m ∙ rw (e, laid) refl in
+        let shows : out-Value value ≡ o.List [] = ap out-Value is ∙ list_out [] in
+        let own = subst (λ (w : Value-F Value). FitsOwnType (out-Field f).kind (out-Field f).nullable (length (out-Field f).children) w)
+        (sym shows)
+        (subst (λ (k : DataType). FitsOwnType k (out-Field f).nullable (length (out-Field f).children) (o.List [])) (sym kind) refl) in
+        list_fits f value (out-Field f).children [] [] refl refl is own (nothing (out-Field f).children)
+    either false e = null_slot f (get_or (slot_values s) i Null) (slot_is s i m ∙ rw e refl) may
+
 -- ---- structs
 
 row_length : (body : List ℕ) (ps : List ColumnRanges) (i : ℕ) → length (row (part_columns body ps) i) ≡ length ps

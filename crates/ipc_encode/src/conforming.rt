@@ -181,6 +181,9 @@ fn slots_fit(field: &Field, view: &SlotView<'_>, parent_validity: &[u8]) -> bool
     match (&field.kind, view.layout()) {
         (DataType::List, Layout::Lists) => items_fit(fields, view),
         (DataType::Struct, Layout::Structs) => parts_fit(fields, view),
+        (DataType::FixedSizeList(size), Layout::FixedLists(items)) if *size == 0 && items == 0 => {
+            true
+        }
         _ => fields.is_empty() && leaf_fits(field, view),
     }
 }

@@ -1,14 +1,15 @@
 use Rattle.std.proofs.Common.{◌≡◌, ◌∙◌, refl, sym, ap, subst, ℕ, ◌<◌, List, length, get_or, add-one, rules, arith, true}
 use Rattle.ipc_model.specs.Fits.{Fits}
 use Rattle.ipc_model.specs.declared.layout.Layout.TheVariants as l
-use Rattle.ipc_model.specs.declared.schema.Field.{Field}
+use Rattle.ipc_model.specs.declared.schema.DataType.TheVariants as kinds
+use Rattle.ipc_model.specs.declared.schema.Field.{Field, out-Field}
 use Rattle.ipc_model.specs.declared.schema.Field.TheViews.{the_lemmas}
 use Rattle.ipc_model.specs.declared.value.Value.{Value}
 use Rattle.ipc_model.specs.declared.value.Value.TheVariants.{Null}
 use Rattle.ipc_column.specs.Nested.{child_columns, slot_values}
 use Rattle.ipc_column.specs.Values.{is_valid, row}
 use Rattle.ipc_encode.specs.Cells.{all_items, cell}
-use Rattle.ipc_encode.proofs.FittingColumns.{inner_all, list_slot, part_slot, struct_slot}
+use Rattle.ipc_encode.proofs.FittingColumns.{empty_slot, inner_all, list_slot, part_slot, struct_slot}
 use Rattle.ipc_encode.proofs.LentBuffers.{buffers_bits}
 use Rattle.ipc_encode.proofs.Sizes.{first_fit_all, first_fit_next}
 use Rattle.ipc_encode.proofs.conforming.+slots.Goals as goal
@@ -31,6 +32,14 @@ slots_fit-returns-in-Struct-Structs t c = λ yes i m valid.
     struct_slot c.args.view.now c.args.field.now c.as_slice-fields.result.now i laid c.in-Struct-Structs.is-0
     c.as_slice-fields.ensures (c.parts_fit.ensures.size yes) m (c.nulls_fit.ensures c.if-not-nulls_fit.false i m valid)
     (c.parts_fit.ensures.fits yes i m)
+
+pub slots_fit-returns-in-FixedSizeList-FixedLists : goal.slots_fit-returns-in-FixedSizeList-FixedLists
+slots_fit-returns-in-FixedSizeList-FixedLists t c = λ yes i m valid.
+    let laid : c.args.view.now.column.layout ≡ l.FixedLists 0 =
+    sym c.layout.ensures.layout ∙ (c.in-FixedSizeList-FixedLists.is-1 ∙ ap (λ (n : ℕ). l.FixedLists n) c.if-items-eq0.true) in
+    let kind : (out-Field c.args.field.now).kind ≡ kinds.FixedSizeList 0 =
+    c.in-FixedSizeList-FixedLists.is-0 ∙ ap (λ (n : ℕ). kinds.FixedSizeList n) c.if-size-eq0.true in
+    empty_slot c.args.view.now c.args.field.now i laid kind m (c.nulls_fit.ensures c.if-not-nulls_fit.false i m valid)
 
 -- ---- lists
 
