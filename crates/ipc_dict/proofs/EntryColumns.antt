@@ -164,7 +164,7 @@ module _ (limits : Limits) (fields : List Field) where
   over_first t ps fault over (inr memory) (inr many) = absurd cc
 
 -- entries that were written back over as many are these entries
-pub written_back : (new old : List TallyEntry) (n : ℕ) → n ≡ length new → take n (new ++ drop (length new) old) ≡ new
+pub written_back : {X : Type 0} (new old : List X) (n : ℕ) → n ≡ length new → take n (new ++ drop (length new) old) ≡ new
 written_back new old n len =
     ap (λ (k : ℕ). take k (new ++ drop (length new) old)) len ∙ take-append_seam new (drop (length new) old)
 
@@ -183,6 +183,13 @@ module _ (fields : List Field) where
   up_to_marks ms t u columns is grows h =
       subst (λ (es : List TallyEntry). AreEntriesCounted fields es columns) (sym
       (ap (λ (ks : List ℕ). truncated_tally ks u) is ∙ cut_back t u grows)) h
+
+  -- the counts from before are kept in `next`
+  pub counts_before : (es : List TallyEntry) (old new : EntryColumns) → new.limits ≡ old.limits → new.next.items ≡ old.sizes.items
+      → AreEntriesCounted fields es old → AllCounted new.limits fields es new.next.items
+  counts_before es old new limits kept h =
+      subst (λ (l : Limits). AllCounted l fields es new.next.items) (sym limits)
+      (subst (λ (cs : List ColumnSizes). AllCounted old.limits fields es cs) (sym kept) h.counted)
 
   -- there are as many as entries, also where these grew
   pub many_columns : (t u : List TallyEntry) (columns : EntryColumns) → AllGrow t u → AreEntriesCounted fields t columns

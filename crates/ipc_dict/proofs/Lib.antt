@@ -6,6 +6,7 @@ pub mod ids
 pub mod Rows
 pub mod Places
 pub mod EntryColumns
+pub mod TallyParts
 pub mod DictionaryColumns
 pub mod Sending
 pub mod pairs

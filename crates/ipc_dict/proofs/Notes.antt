@@ -3,6 +3,7 @@ use Rattle.std.proofs.Common.{◌≡◌, ℕ, zero, suc, ◌<◌, ◌≤◌, inl
 use Rattle.std.proofs.Common.{refl, sym, ap, subst, ◌∙◌, arith, Result, Ok, Err, OnOk, IfOk}
 use Rattle.std.specs.Ordering.{int_eq}
 use Rattle.std.proofs.lemmas.List.{length-append, length-take, take-take}
+use Rattle.ipc_dict.specs.SchemaIds.{tally_bounds}
 use Rattle.std.proofs.Math.Seq.{take-length}
 use Rattle.ipc_model.specs.declared.value.Value.{Value}
 use Rattle.ipc_dict.specs.declared.entry.TallyEntry.{TallyEntry}
@@ -120,7 +121,7 @@ cut_back (e ∷ es) (f ∷ fs) h =
     let rest = cut_back es fs h.1 in
     λ i. record { id = h.0.id i; limit = h.0.limit i; values = h.0.front i } ∷ rest i
 
-cut_all : (t : List TallyEntry) → truncated_tally (tally_lengths t) t ≡ t
+pub cut_all : (t : List TallyEntry) → truncated_tally (tally_lengths t) t ≡ t
 cut_all [] = refl
 cut_all (e ∷ es) =
     let rest = cut_all es in
@@ -130,6 +131,36 @@ cut_all (e ∷ es) =
 -- what grew by nothing is as before
 pub grown_by_none : (t u : List TallyEntry) → AllGrow t u → tally_lengths u ≡ tally_lengths t → u ≡ t
 grown_by_none t u grows same = sym (cut_all u) ∙ ap (λ ns. truncated_tally ns u) same ∙ cut_back t u grows
+
+-- ---- entries that are cut
+
+-- a second cut changes nothing
+pub cut_twice : (ms : List ℕ) (t : List TallyEntry) → truncated_tally ms (truncated_tally ms t) ≡ truncated_tally ms t
+cut_twice [] t = refl
+cut_twice (m ∷ ms) [] = refl
+cut_twice (m ∷ ms) (e ∷ es) =
+    let rest = cut_twice ms es in
+    let again : take m (take m e.values) ≡ take m e.values = take-take m m e.values (omega arith) in
+    λ i. record { id = e.id; limit = e.limit; values = again i } ∷ rest i
+
+pub cut_bounds : (ms : List ℕ) (t : List TallyEntry) → tally_bounds (truncated_tally ms t) ≡ tally_bounds t
+cut_bounds [] t = refl
+cut_bounds (m ∷ ms) [] = refl
+cut_bounds (m ∷ ms) (e ∷ es) = ap (λ l. (e.id, e.limit) ∷ l) (cut_bounds ms es)
+
+pub cut_fits : (ms : List ℕ) (t : List TallyEntry) → AllFit t → AllFit (truncated_tally ms t)
+cut_fits [] t h = h
+cut_fits (m ∷ ms) [] h = tt
+cut_fits (m ∷ ms) (e ∷ es) h = (omega (arith, length-take m e.values, h.0), cut_fits ms es h.1)
+
+pub cut_length : (ms : List ℕ) (t : List TallyEntry) → length (truncated_tally ms t) ≡ length t
+cut_length [] t = refl
+cut_length (m ∷ ms) [] = refl
+cut_length (m ∷ ms) (e ∷ es) = ap (λ (n : ℕ). suc n) (cut_length ms es)
+
+pub cut_nothing : (ms : List ℕ) → truncated_tally ms [] ≡ []
+cut_nothing [] = refl
+cut_nothing (m ∷ ms) = refl
 
 -- ---- without entries
 

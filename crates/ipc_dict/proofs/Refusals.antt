@@ -1,5 +1,5 @@
 -- What a tally is after values were counted, or were not.
-use Rattle.std.proofs.Common.{◌≡◌, ◌∙◌, sym, ap, subst, inl, inr, true, false, true≢false, List, Ok, Err}
+use Rattle.std.proofs.Common.{◌≡◌, ◌∙◌, sym, ap, subst, inl, inr, true, false, true≢false, ℕ, List, [], Ok, Err}
 use Rattle.std.specs.Prelude.{◌⊎◌}
 use Rattle.ipc_model.specs.declared.fault.WriteFault.{WriteFault}
 use Rattle.ipc_model.specs.declared.fault.WriteFault.TheVariants as w
@@ -7,18 +7,30 @@ use Rattle.ipc_model.specs.declared.schema.Field.{Field}
 use Rattle.ipc_encode.specs.declared.fault.PushFault.{PushFault}
 use Rattle.ipc_encode.specs.Faults.{write_fault}
 use Rattle.ipc_dict.specs.declared.entry.TallyEntry.{TallyEntry}
-use Rattle.ipc_dict.specs.Noting.{note_all, AllFit, IsIndexOverflow}
+use Rattle.ipc_dict.specs.Noting.{note_all, truncated_tally, AllFit, IsIndexOverflow}
 use Rattle.ipc_dict.specs.NotesPairs.{NotesPairs}
 use Rattle.ipc_dict.specs.Pairs.{Pairs}
 use Rattle.ipc_dict.specs.SchemaIds.{tally_ids}
 use Rattle.ipc_dict.specs.TallyState.{TallyState}
 use Rattle.ipc_dict.specs.Within.{AllWithin, IsOfLimits, IsOverLimit}
+use Rattle.ipc_dict.proofs.Notes.{cut_nothing, none_noted}
 use Rattle.ipc_dict.proofs.Rows.{ids_note_all}
 
 -- a column past the limits is no full dictionary
 pub limits_not_full : (fault : WriteFault) → IsOfLimits fault → fault ≡ w.DictionaryFull → ⊥
 limits_not_full fault (inl e) full = absurd (let both = sym e ∙ full in cc)
 limits_not_full fault (inr e) full = absurd (let both = sym e ∙ full in cc)
+
+-- a tally without entries is as before with values noted
+pub none_counted : (inside t : TallyState) → inside ≡ t → (marks : List ℕ) (es : List TallyEntry) → inside.entries ≡ es
+    → inside.before ≡ truncated_tally marks es → (ps : Pairs) → t.entries ≡ []
+    → t ≡ record t { entries = note_all t.entries ps; before = t.entries }
+none_counted inside t view marks es held before ps none =
+    let empty : es ≡ [] = sym held ∙ ap (λ (s : TallyState). s.entries) view ∙ none in
+    let same : t.entries ≡ note_all t.entries ps = none ∙ sym (none_noted ps) ∙ ap (λ es. note_all es ps) (sym none) in
+    let nothing : t.before ≡ [] =
+    ap (λ (s : TallyState). s.before) (sym view) ∙ before ∙ ap (truncated_tally marks) empty ∙ cut_nothing marks in
+    λ i. record t { entries = same i; before = (nothing ∙ sym none) i }
 
 -- a call on a tally hands its entries and its fields to another
 module _ (tally old : TallyState) (view : old ≡ tally) (pairs : List Field → Pairs) (es : List TallyEntry) (fs : List Field)
@@ -28,14 +40,21 @@ module _ (tally old : TallyState) (view : old ≡ tally) (pairs : List Field →
 
   -- the tally works, and keeps its limits and fields
   module _ (new : TallyState) (works : old.failed ≡ false) (limits : new.limits ≡ old.limits) (fields : new.fields ≡ old.fields)
-      (within : AllWithin new.limits new.fields new.entries) where
+      (within : AllWithin new.limits new.fields new.entries) (before : new.before ≡ es) where
     -- all values were counted
     pub counted_pairs : new.failed ≡ false → new.entries ≡ note_all es (pairs fs) → AllFit new.entries
         → NotesPairs tally (pairs tally.fields) new (Ok tt)
     counted_pairs failed counted fits =
         let all = counted ∙ all_pairs in
         subst (λ (t : TallyState). NotesPairs t (pairs t.fields) new (Ok tt)) view (record {
-          noted = λ i. record { failed = (failed ∙ sym works) i; limits = limits i; fields = fields i; entries = all i };
+          noted = λ i.
+              record {
+                failed = (failed ∙ sym works) i;
+                limits = limits i;
+                fields = fields i;
+                entries = all i;
+                before = (before ∙ entries) i;
+              };
           fields = fields;
           limits = limits;
           ids = ap tally_ids all ∙ ids_note_all old.entries (pairs old.fields);
@@ -67,8 +86,8 @@ module _ (tally old : TallyState) (view : old ≡ tally) (pairs : List Field →
         → (write_fault fault ≡ w.Failed → ⊥) → NotesPairs tally (pairs tally.fields) new (Err fault)
     refused_pairs fault kept fits memory works_on full over cause not_failed =
         let same = kept ∙ entries in
-        let back : new.failed ≡ false → new ≡ old = λ failed i.
-        record { failed = (failed ∙ sym works) i; limits = limits i; fields = fields i; entries = same i } in
+        let back : new.failed ≡ false → new ≡ record old { before = old.entries } = λ failed i.
+        record { failed = (failed ∙ sym works) i; limits = limits i; fields = fields i; entries = same i; before = (before ∙ entries) i } in
         subst (λ (t : TallyState). NotesPairs t (pairs t.fields) new (Err fault)) view (record {
           noted = tt;
           fields = fields;

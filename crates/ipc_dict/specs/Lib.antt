@@ -10,6 +10,7 @@ pub mod Counted
 pub mod SchemaEntries
 pub mod Within
 pub mod EntryColumns
+pub mod TallyParts
 pub mod Sending
 pub mod Seeds
 pub mod ColumnNotes

@@ -15,7 +15,8 @@ use Rattle.ipc_dict.specs.Within.{AllWithin, IsOfLimits, IsOverLimit}
 pub record NotesPairs (old : TallyState) (pairs : Pairs) (new : TallyState)
     (result : Result Unit PushFault) : Type 0 where
   -- each distinct value has an entry, in order of first appearance
-  pub noted : OnOk result (new ≡ record old { entries = note_all old.entries pairs })
+  pub noted : OnOk result
+      (new ≡ record old { entries = note_all old.entries pairs; before = old.entries })
   -- the fields, the limits and the ids never change, whatever the result is
   pub fields : new.fields ≡ old.fields
   pub limits : new.limits ≡ old.limits
@@ -24,10 +25,12 @@ pub record NotesPairs (old : TallyState) (pairs : Pairs) (new : TallyState)
   pub fits : AllFit new.entries
   -- each dictionary is within the limits, as the one column of its message ("Dictionary Messages")
   pub within : AllWithin new.limits new.fields new.entries
-  -- after W7 the tally is as before the call
-  pub unchanged : IfErr result (λ fault. write_fault fault ≡ w.DictionaryFull → new ≡ old)
+  -- after W7 the tally is as before the call, and no value came with it
+  pub unchanged : IfErr result
+      (λ fault. write_fault fault ≡ w.DictionaryFull → new ≡ record old { before = old.entries })
   -- after W6 and W8 too
-  pub as_before : IfErr result (λ fault. IsOfLimits (write_fault fault) → new ≡ old)
+  pub as_before : IfErr result
+      (λ fault. IsOfLimits (write_fault fault) → new ≡ record old { before = old.entries })
   -- W7 comes only if a dictionary would have more values than an index type can address
   pub full : IfErr result (λ fault. write_fault fault ≡ w.DictionaryFull
       → IsIndexOverflow (note_all old.entries pairs))

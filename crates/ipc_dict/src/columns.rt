@@ -23,7 +23,8 @@ use std::mem;
 pub(crate) struct EntryColumns {
     pub(crate) limits: Limits,
     pub(crate) sizes: Vec<ColumnSizes>,
-    // The numbers with the values of the next row; what they are between two rows has no meaning.
+    // The sizes with the next row's values while they are counted, and after that the sizes from
+    // before that row. After an error they have no meaning.
     pub(crate) next: Vec<ColumnSizes>,
 }
 
@@ -81,11 +82,19 @@ impl EntryColumns {
         ensures kept { (fields : List Field) (others : List TallyEntry)
             → AreEntriesCounted fields others self.old
             → OnErr result (AreEntriesCounted fields others self.new) }
+        ensures before { OnOk result (self.new.next.items ≡ self.old.sizes.items) }
         ensures limits { self.new.limits ≡ self.old.limits }
     {
         count_next(&mut self.next, &self.sizes, entries, marks, &self.limits)?;
         mem::swap(&mut self.sizes, &mut self.next);
         Ok(())
+    }
+
+    /// Takes back the last call of `count`, which succeeded: the sizes are those from before it.
+    pub(crate) fn take_back(&mut self)
+        ensures { self.new ≡ record self.old { sizes = self.old.next; next = self.old.sizes } }
+    {
+        mem::swap(&mut self.sizes, &mut self.next);
     }
 }
 

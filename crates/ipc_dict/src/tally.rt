@@ -1,6 +1,6 @@
 //! The distinct values of a batch, counted row by row.
 ghost use Rattle.std.specs.Prelude.{◌↔◌, [], IsTrue, ◌≡◌, true, false, length, IfOk, IfErr, OnOk};
-ghost use Rattle.std.specs.Prelude.{OnErr, ◌⊎◌, Err};
+ghost use Rattle.std.specs.Prelude.{OnErr, ◌⊎◌, ◌≢◌, Err};
 ghost use Rattle.ipc_dict.specs.Noting.{note_all, AllFit, IsIndexOverflow, HoldsDistinct};
 ghost use Rattle.ipc_dict.specs.Noting.{tally_lengths, truncated_tally, AllGrow, KeepsPlaces};
 ghost use Rattle.ipc_dict.specs.Noting.{PlacesAll};
@@ -12,6 +12,7 @@ ghost use Rattle.ipc_dict.specs.Sending.{AreAddressed};
 ghost use Rattle.ipc_dict.specs.Planning.{AllSettled, FindsAll, FindsNoted, KnowsAll};
 ghost use Rattle.ipc_dict.specs.EntryColumns.{AreEntriesCounted};
 ghost use Rattle.ipc_encode.specs.Faults.{write_fault};
+ghost use Rattle.ipc_dict.specs.TallyParts.{CanBeCut};
 ghost use Rattle.ipc_dict.specs.Within.{AllWithin, IsOfLimits, IsOverLimit};
 
 use crate::column_notes::note_batch;
@@ -40,7 +41,7 @@ use std::marker::Model;
 pub struct Tally {
     fields: Items<Field>,
     entries: Vec<TallyEntry>,
-    // How many values each dictionary had before the row.
+    // How many values each dictionary had before the last row or batch was counted.
     marks: Vec<usize>,
     // The positions of values that were noted recently.
     recent: RecentValues,
@@ -50,15 +51,13 @@ pub struct Tally {
 }
 
 impl Model for Tally {
-    ghost use Rattle.std.specs.Prelude.{◌≡◌, length};
     ghost use Rattle.std.specs.Coded.{codes};
     ghost use Rattle.ipc_model.specs.contracts.limits.Limits as limits;
     ghost use Rattle.ipc_model.specs.contracts.schema.Field as field;
     ghost use Rattle.ipc_dict.specs.contracts.entry.TallyEntry as entry;
     ghost use Rattle.ipc_dict.specs.TallyState.{TallyState};
-    ghost use Rattle.ipc_dict.specs.Noting.{AllFit};
-    ghost use Rattle.ipc_dict.specs.SchemaIds.{tally_bounds, empty_entries};
-    ghost use Rattle.ipc_dict.specs.EntryColumns.{AreEntriesCounted};
+    ghost use Rattle.ipc_dict.specs.TallyParts.{AreOneTally};
+    ghost use Rattle.ipc_dict.specs.Noting.{truncated_tally};
 
     ghost Value = { TallyState };
 
@@ -70,11 +69,10 @@ impl Model for Tally {
       limits = t.columns.limits;
       fields = t.fields;
       entries = t.entries.items;
+      before = truncated_tally t.marks.items t.entries.items;
     } };
 
-    ghost invariant = { λ t. ((length t.marks.items ≡ length t.entries.items)
-        × (tally_bounds t.entries.items ≡ tally_bounds (empty_entries t.fields)))
-        × (AllFit t.entries.items × AreEntriesCounted t.fields t.entries.items t.columns) };
+    ghost invariant = { λ t. AreOneTally t.fields t.entries.items t.marks.items t.columns };
 }
 
 impl Tally {
@@ -98,6 +96,7 @@ impl Tally {
           limits = limits.now;
           fields = schema.now.fields;
           entries = empty_entries schema.now.fields;
+          before = empty_entries schema.now.fields;
         }) }
         ensures within { IfOk result
             (λ tally. AllWithin limits.now schema.now.fields tally.entries) }
@@ -109,7 +108,7 @@ impl Tally {
     {
         let fields = schema.fields.clone()?;
         let entries = empty_entries(alloc, seed, schema.fields.as_slice())?;
-        let marks = zeros_for(alloc, &entries)?;
+        let marks = lengths_of(alloc, &entries)?;
         let recent = RecentValues::new(alloc, entries.len())?;
         let columns = EntryColumns::new(alloc, limits, schema, &entries)?;
         Ok(Tally {
@@ -190,6 +189,20 @@ impl Tally {
 }
 
 impl Tally {
+    /// Drops the values that came with the last row or batch that was counted, so that the tally is
+    /// as before that call. If that call was refused, or its values were dropped already, the tally
+    /// is unchanged. So is one that has failed, and it stays failed. It takes no memory.
+    pub fn cut(&mut self)
+        ensures { self.new ≡ record self.old { entries = self.old.before } }
+    {
+        if have_new_values(&self.entries, &self.marks) {
+            restore(&mut self.entries, &self.marks);
+            self.columns.take_back();
+        }
+    }
+}
+
+impl Tally {
     /// Plans what a batch with these rows does with each dictionary.
     ///
     /// `kept` must be that of a writer of this schema. A dictionary is sent exactly if it was not
@@ -249,21 +262,22 @@ impl IndexOf for Tally {
 
     ghost index = { λ tally id value. place_of_value tally.entries id value };
 
-    // The position of the value among those of its dictionary so far. It does not change later.
+    // The position of the value among those of its dictionary so far. It does not change later,
+    // unless the value is cut.
     fn index_of(&self, id: i64, value: &Value) -> Option<u64> {
         place_in(&self.entries, &self.recent, id, value)
     }
 }
 
-// A zero for each entry.
-fn zeros_for(alloc: Global, entries: &[TallyEntry]) -> Result<Vec<usize>, AllocError>
-    ensures { IfOk result (λ zeros. length zeros.items ≡ length entries.now) }
+// How many values each dictionary has.
+fn lengths_of(alloc: Global, entries: &[TallyEntry]) -> Result<Vec<usize>, AllocError>
+    ensures { IfOk result (λ lengths. lengths.items ≡ tally_lengths entries.now) }
 {
-    let mut zeros = Vec::with_capacity(alloc, entries.len())?;
-    for _entry in entries {
-        zeros.push(0)?;
+    let mut lengths = Vec::with_capacity(alloc, entries.len())?;
+    for entry in entries {
+        lengths.push(entry.values.len())?;
     }
-    Ok(zeros)
+    Ok(lengths)
 }
 
 // One more row, or none of its values where it is refused.
@@ -288,6 +302,9 @@ fn note_row(
         (λ fault. write_fault fault ≡ WriteFault.DictionaryFull
         → IsIndexOverflow (note_all entries.old (row_pairs fields.now row.now))) }
     ensures counted { AreEntriesCounted fields.now entries.new columns.new }
+    ensures marked { marks.new ≡ tally_lengths entries.old }
+    ensures before { truncated_tally marks.new entries.new ≡ entries.old }
+    ensures can_be_cut { CanBeCut fields.now entries.new marks.new columns.new }
     ensures limits { columns.new.limits ≡ columns.old.limits }
     ensures over { IfErr result (λ fault. IsOfLimits (write_fault fault)
         → IsOverLimit columns.old.limits fields.now
@@ -322,6 +339,7 @@ fn note_and_count(
         (λ fault. write_fault fault ≡ WriteFault.DictionaryFull
         → IsIndexOverflow (note_all entries.old (row_pairs fields.now row.now))) }
     ensures counted { OnOk result (AreEntriesCounted fields.now entries.new columns.new) }
+    ensures can_be_cut { OnOk result (CanBeCut fields.now entries.new marks.now columns.new) }
     ensures kept { OnErr result (AreEntriesCounted fields.now entries.old columns.new) }
     ensures limits { columns.new.limits ≡ columns.old.limits }
     ensures over { IfErr result (λ fault. IsOfLimits (write_fault fault)
@@ -362,6 +380,9 @@ fn add_batch(
         (λ fault. write_fault fault ≡ WriteFault.DictionaryFull
         → IsIndexOverflow (note_all entries.old (rows_pairs fields.now batch.now.rows))) }
     ensures counted { AreEntriesCounted fields.now entries.new columns.new }
+    ensures marked { marks.new ≡ tally_lengths entries.old }
+    ensures before { truncated_tally marks.new entries.new ≡ entries.old }
+    ensures can_be_cut { CanBeCut fields.now entries.new marks.new columns.new }
     ensures limits { columns.new.limits ≡ columns.old.limits }
     ensures over { IfErr result (λ fault. IsOfLimits (write_fault fault)
         → IsOverLimit columns.old.limits fields.now
@@ -397,6 +418,7 @@ fn count_batch(
         (λ fault. write_fault fault ≡ WriteFault.DictionaryFull
         → IsIndexOverflow (note_all entries.old (rows_pairs fields.now batch.now.rows))) }
     ensures counted { OnOk result (AreEntriesCounted fields.now entries.new columns.new) }
+    ensures can_be_cut { OnOk result (CanBeCut fields.now entries.new marks.now columns.new) }
     ensures kept { OnErr result (AreEntriesCounted fields.now entries.old columns.new) }
     ensures limits { columns.new.limits ≡ columns.old.limits }
     ensures over { IfErr result (λ fault. IsOfLimits (write_fault fault)
@@ -417,7 +439,8 @@ fn count_batch(
 // Whether a dictionary has another number of values than it had.
 fn have_new_values(entries: &[TallyEntry], marks: &[usize]) -> bool
     requires { length marks.now ≡ length entries.now }
-    ensures { result ≡ false → tally_lengths entries.now ≡ marks.now }
+    ensures none { result ≡ false → tally_lengths entries.now ≡ marks.now }
+    ensures some { result ≡ true → tally_lengths entries.now ≢ marks.now }
 {
     for (i, entry) in entries.iter().enumerate() {
         if entry.values.len() != marks[i] {

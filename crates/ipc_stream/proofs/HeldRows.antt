@@ -19,14 +19,14 @@ use Rattle.ipc_encode.specs.Limits.{AreRowsRefused, IsWithin}
 use Rattle.ipc_encode.specs.Built.{StoresRows}
 use Rattle.ipc_encode.specs.Numbers.{index_or_zero}
 use Rattle.ipc_dict.specs.Noting.{AllFit, place_of_value}
-use Rattle.ipc_dict.specs.TallyState.{TallyState}
+use Rattle.ipc_dict.specs.declared.entry.TallyEntry.{TallyEntry}
+use Rattle.ipc_dict.specs.Sending.{tally_of_rows}
 use Rattle.ipc_dict.specs.Within.{AllWithin}
 use Rattle.ipc_stream.specs.declared.pending_batch.PendingBatch.{PendingBatch}
 use Rattle.ipc_stream.specs.Writing.{AcceptsBatch, AreMismatches, long_columns, long_metadata, many_slots, other_pairs}
 use Rattle.ipc_stream.specs.Writing.{RefusesBatch}
 use Rattle.ipc_stream.specs.Parts.{AcceptsPairs, RefusesPairs}
-use Rattle.ipc_stream.specs.PendingBatches.{HoldsBatch, RefusesPending, no_rows, with_row}
-use Rattle.ipc_stream.proofs.HeldTallies.{tally_of}
+use Rattle.ipc_stream.specs.PendingBatches.{HasCounted, HoldsBatch, RefusesPending, no_rows, with_row}
 use Rattle.ipc_stream.proofs.MessagesWritten.{all_last, misfit}
 
 -- a row behind those that fit, which doesn't, is the first of the batch that doesn't
@@ -53,22 +53,24 @@ refused_row limits s b row w.Failed h = absurd h
 -- a batch with a row more that fits and is within the limits, as its dictionaries are, is held
 pub held_row : (limits : Limits) (s : Schema) (b : BatchRows) (row : List Value) (old new : PendingBatch)
     → HoldsBatch limits s b old → RowFits s.fields row → IsWithin limits s.fields (b.rows ++ row ∷ [])
-    → new.tally ≡ tally_of limits s.fields (b.rows ++ row ∷ [])
+    → HasCounted limits s.fields (b.rows ++ row ∷ []) new.tally
     → AllFit new.tally.entries → AllWithin new.tally.limits new.tally.fields new.tally.entries
     → StoresRows (index_or_zero (place_of_value new.tally.entries)) limits s.fields (b.rows ++ row ∷ []) new.builder → new.pairs ≡ old.pairs
     → HoldsBatch limits s (with_row b row) new
 held_row limits s b row old new held fits within tally fit short rows same = record {
   tally = tally;
-  rows = subst (λ (t : TallyState). StoresRows (index_or_zero (place_of_value t.entries)) limits s.fields (b.rows ++ row ∷ []) new.builder)
-      tally rows;
+  rows = subst (λ (es : List TallyEntry). StoresRows (index_or_zero (place_of_value es)) limits s.fields (b.rows ++ row ∷ []) new.builder)
+      tally.counted rows;
   pairs = same ∙ held.pairs;
   accepted = record {
     fit = all_last (RowFits s.fields) b.rows row held.accepted.fit fits;
     within = record {
       lengths = within;
       dictionaries = record {
-        counted = subst (λ (t : TallyState). AllFit t.entries) tally fit;
-        lengths = subst (λ (t : TallyState). AllWithin t.limits t.fields t.entries) tally short;
+        counted = subst AllFit tally.counted fit;
+        lengths = subst (λ (l : Limits). AllWithin l s.fields (tally_of_rows s.fields (b.rows ++ row ∷ []))) tally.same_limits
+            (subst (λ (fs : List Field). AllWithin new.tally.limits fs (tally_of_rows s.fields (b.rows ++ row ∷ []))) tally.same_fields
+            (subst (AllWithin new.tally.limits new.tally.fields) tally.counted short));
         short_messages = held.accepted.within.dictionaries.short_messages;
       };
       short_metadata = held.accepted.within.short_metadata;

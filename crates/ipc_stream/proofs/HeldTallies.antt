@@ -34,7 +34,7 @@ use Rattle.ipc_dict.proofs.pairs.Covered.{covered}
 use Rattle.ipc_dict.proofs.pairs.CoveredIndices.{pair_placed}
 use Rattle.ipc_dict.proofs.Notes.{note_all-append}
 use Rattle.ipc_dict.proofs.Places.{keeps_places}
-use Rattle.ipc_stream.specs.PendingBatches.{RefusesPending, with_row}
+use Rattle.ipc_stream.specs.PendingBatches.{HasCounted, RefusesPending, with_row}
 use Rattle.ipc_stream.specs.Writing.{long_values, many_values}
 
 -- the pairs of rows and of one more
@@ -91,22 +91,22 @@ pub rows_kept : (limits : Limits) (fields : List Field) (rows : List (List Value
 rows_kept limits fields rows row builder =
     rows_behind limits fields rows (rows ++ row ∷ []) (row_pairs fields row) builder (tallied_next fields rows row)
 
--- the tally of rows
-abbrev pub tally_of : Limits → List Field → List (List Value) → TallyState
-tally_of limits fields rows = record { failed = false; limits = limits; fields = fields; entries = tally_of_rows fields rows }
-
--- a tally that noted a row is that of one row more
+-- a tally that noted a row has counted one row more
 pub tally_next : (limits : Limits) (fields : List Field) (rows : List (List Value)) (row : List Value) (old new : TallyState)
-    → old ≡ tally_of limits fields rows → new ≡ record old { entries = note_all old.entries (row_pairs old.fields row) }
-    → new ≡ tally_of limits fields (rows ++ row ∷ [])
-tally_next limits fields rows row old new same noted =
-    noted ∙ ap (λ (t : TallyState). record t { entries = note_all t.entries (row_pairs t.fields row) }) same
-    ∙ ap (λ (es : List TallyEntry). record { failed = false; limits = limits; fields = fields; entries = es })
-    (sym (tallied_next fields rows row))
+    → HasCounted limits fields rows old
+    → new ≡ record old { entries = note_all old.entries (row_pairs old.fields row); before = old.entries }
+    → HasCounted limits fields (rows ++ row ∷ []) new
+tally_next limits fields rows row old new held noted = record {
+  works = ap (λ (t : TallyState). t.failed) noted ∙ held.works;
+  same_limits = ap (λ (t : TallyState). t.limits) noted ∙ held.same_limits;
+  same_fields = ap (λ (t : TallyState). t.fields) noted ∙ held.same_fields;
+  counted = ap (λ (t : TallyState). t.entries) noted ∙ (λ i. note_all (held.counted i) (row_pairs (held.same_fields i) row))
+      ∙ sym (tallied_next fields rows row);
+}
 
 -- why a row isn't noted is why the batch with it is refused
 pub note_refused : (limits : Limits) (s : Schema) (b : BatchRows) (row : List Value) (old : TallyState) (fault : WriteFault)
-    → old ≡ tally_of limits s.fields b.rows
+    → HasCounted limits s.fields b.rows old
     → (fault ≡ w.DictionaryFull → IsIndexOverflow (note_all old.entries (row_pairs old.fields row)))
     → (IsOfLimits fault → IsOverLimit old.limits old.fields (note_all old.entries (row_pairs old.fields row)) fault)
     → (fault ≡ w.Failed → old.failed ≡ true)
@@ -117,7 +117,9 @@ note_refused limits s b row old fault same full over before only = by fault full
     now : (P : Limits → List Field → List TallyEntry → Type 0) → P old.limits old.fields (note_all old.entries (row_pairs old.fields row))
         → P limits s.fields (tally_of_rows s.fields (b.rows ++ row ∷ []))
     now P h = subst (λ es. P limits s.fields es) (sym (tallied_next s.fields b.rows row))
-        (subst (λ (t : TallyState). P t.limits t.fields (note_all t.entries (row_pairs t.fields row))) same h)
+        (subst (λ (l : Limits). P l s.fields (note_all (tally_of_rows s.fields b.rows) (row_pairs s.fields row))) same.same_limits
+        (subst (λ (fs : List Field). P old.limits fs (note_all (tally_of_rows s.fields b.rows) (row_pairs fs row))) same.same_fields
+        (subst (λ (es : List TallyEntry). P old.limits old.fields (note_all es (row_pairs old.fields row))) same.counted h)))
 
     by : (f : WriteFault) → (f ≡ w.DictionaryFull → IsIndexOverflow (note_all old.entries (row_pairs old.fields row)))
         → (IsOfLimits f → IsOverLimit old.limits old.fields (note_all old.entries (row_pairs old.fields row)) f)
@@ -128,7 +130,7 @@ note_refused limits s b row old fault same full over before only = by fault full
     by w.TooManyRows full over before only = many_values (now (λ l fs es. IsOverLimit l fs es w.TooManyRows) (over (inr refl)))
     by w.DictionaryFull full over before only = now (λ l fs es. IsIndexOverflow es) (full refl)
     by w.OutOfMemory full over before only = tt
-    by w.Failed full over before only = sym (ap (λ (t : TallyState). t.failed) same) ∙ before refl
+    by w.Failed full over before only = sym same.works ∙ before refl
     by w.Write full over before (inl (inl e)) = absurd cc
     by w.Write full over before (inl (inr (inl e))) = absurd cc
     by w.Write full over before (inl (inr (inr e))) = absurd cc
@@ -152,15 +154,26 @@ memory_is push.DictionaryFull e = absurd cc
 memory_is push.OutOfMemory e = refl
 memory_is push.Failed e = absurd cc
 
--- a tally that works is as it was, unless memory for a value ran out
+-- a tally that counted a row and one that refused it differ only in what was before
+counted_still : (limits : Limits) (fields : List Field) (rows : List (List Value)) (old new : TallyState)
+    → HasCounted limits fields rows old → new ≡ record old { before = old.entries } → HasCounted limits fields rows new
+counted_still limits fields rows old new held same = record {
+  works = ap (λ (t : TallyState). t.failed) same ∙ held.works;
+  same_limits = ap (λ (t : TallyState). t.limits) same ∙ held.same_limits;
+  same_fields = ap (λ (t : TallyState). t.fields) same ∙ held.same_fields;
+  counted = ap (λ (t : TallyState). t.entries) same ∙ held.counted;
+}
+
+-- a tally that works has counted the same rows, unless memory for a value ran out
 pub note_keeps : (limits : Limits) (fields : List Field) (rows : List (List Value)) (old new : TallyState) (fault : PushFault)
-    → old ≡ tally_of limits fields rows → (write_fault fault ≡ w.DictionaryFull → new ≡ old)
-    → (IsOfLimits (write_fault fault) → new ≡ old) → (write_fault fault ≡ w.Failed → old.failed ≡ true)
+    → HasCounted limits fields rows old → (write_fault fault ≡ w.DictionaryFull → new ≡ record old { before = old.entries })
+    → (IsOfLimits (write_fault fault) → new ≡ record old { before = old.entries }) → (write_fault fault ≡ w.Failed → old.failed ≡ true)
     → ((write_fault fault ≡ w.DictionaryFull) ⊎ IsOfLimits (write_fault fault))
     ⊎ ((write_fault fault ≡ w.OutOfMemory) ⊎ (write_fault fault ≡ w.Failed))
-    → (fault ≡ push.OutOfMemory → ⊥) → new ≡ old
-note_keeps limits fields rows old new fault same full over failed (inl (inl e)) other = full e
-note_keeps limits fields rows old new fault same full over failed (inl (inr e)) other = over e
-note_keeps limits fields rows old new fault same full over failed (inr (inl e)) other = absurd (other (memory_is fault e))
-note_keeps limits fields rows old new fault same full over failed (inr (inr e)) other =
-    absurd (true≢false (sym (failed e) ∙ ap (λ (t : TallyState). t.failed) same))
+    → (fault ≡ push.OutOfMemory → ⊥) → HasCounted limits fields rows new
+note_keeps limits fields rows old new fault held full over failed (inl (inl e)) other =
+    counted_still limits fields rows old new held (full e)
+note_keeps limits fields rows old new fault held full over failed (inl (inr e)) other =
+    counted_still limits fields rows old new held (over e)
+note_keeps limits fields rows old new fault held full over failed (inr (inl e)) other = absurd (other (memory_is fault e))
+note_keeps limits fields rows old new fault held full over failed (inr (inr e)) other = absurd (true≢false (sym (failed e) ∙ held.works))

@@ -15,6 +15,7 @@ use Rattle.ipc_encode.specs.Numbers.{index_or_zero}
 use Rattle.ipc_encode.specs.Faults.{write_fault}
 use Rattle.ipc_dict.specs.Noting.{place_of_value}
 use Rattle.ipc_dict.specs.Sending.{tally_of_rows}
+use Rattle.ipc_dict.specs.TallyState.{TallyState}
 use Rattle.ipc_stream.specs.declared.pending_batch.PendingBatch.{PendingBatch}
 use Rattle.ipc_stream.specs.declared.row_rejection.RowRejection.{RowRejection}
 use Rattle.ipc_stream.specs.declared.row_rejection.RowRejection.TheVariants as u
@@ -33,16 +34,20 @@ with_row b row = record { pairs = b.pairs; rows = b.rows ++ row ∷ [] }
 abbrev pub with_rows : List (List ℕ × List ℕ) → List (List Value) → BatchRows
 with_rows pairs rows = record { pairs = pairs; rows = rows }
 
+-- a tally with these limits and fields works, and has counted exactly these rows; the values from
+-- before the last of them do not matter
+pub record HasCounted (limits : Limits) (fields : List Field) (rows : List (List Value))
+    (tally : TallyState) : Type 0 where
+  pub works : tally.failed ≡ false
+  pub same_limits : tally.limits ≡ limits
+  pub same_fields : tally.fields ≡ fields
+  pub counted : tally.entries ≡ tally_of_rows fields rows
+
 -- the stored rows and pairs are exactly this batch, its distinct values are counted, and no
 -- argument is a cause for refusing it
 pub record HoldsBatch (limits : Limits) (s : Schema) (b : BatchRows)
     (held : PendingBatch) : Type 0 where
-  pub tally : held.tally ≡ record {
-    failed = false;
-    limits = limits;
-    fields = s.fields;
-    entries = tally_of_rows s.fields b.rows;
-  }
+  pub tally : HasCounted limits s.fields b.rows held.tally
   pub rows : StoresRows (index_or_zero (place_of_value (tally_of_rows s.fields b.rows))) limits
       s.fields b.rows
       held.builder

@@ -1,6 +1,7 @@
 //! Tests of the crates below the stream: bits, lists, FlatBuffers in place, rows, limits, printed
 //! words, messages whose bytes come one by one, batches of one column, rows taken one at a time,
-//! nested ones too, columns of lists and structs, dictionaries, and columns of their indices.
+//! nested ones too, columns of lists and structs, dictionaries, columns of their indices, and
+//! tallies that are cut.
 #![tactic(auto)]
 
 #[cfg(test)]
@@ -29,5 +30,7 @@ mod lists;
 mod model;
 #[cfg(test)]
 mod nested;
+#[cfg(test)]
+mod tally;
 #[cfg(test)]
 mod trees;

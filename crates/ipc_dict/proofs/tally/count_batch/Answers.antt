@@ -6,7 +6,7 @@ use Rattle.ipc_dict.specs.EntryColumns.{AreEntriesCounted}
 use Rattle.ipc_dict.specs.Within.{IsOverLimit}
 use Rattle.ipc_dict.proofs.Notes.{grown_by_none}
 use Rattle.ipc_dict.proofs.Refusals.{limits_not_full}
-use Rattle.ipc_dict.proofs.EntryColumns.{many_columns, says_limits, up_to_marks}
+use Rattle.ipc_dict.proofs.EntryColumns.{counts_before, many_columns, says_limits, up_to_marks}
 use Rattle.ipc_dict.proofs.tally.count_batch.Goals as goal
 
 pub count-requires-clause-columns : goal.count-requires-clause-columns
@@ -58,8 +58,17 @@ returns-in_ok-count-clause-counted c =
     c.requires.marks c.note_batch.ensures.grows c.requires.columns in
     c.in_ok-count.ensures.counted c.args.fields.now old
 
+pub returns-in_ok-count-clause-can_be_cut : goal.returns-in_ok-count-clause-can_be_cut
+returns-in_ok-count-clause-can_be_cut c =
+    let old = up_to_marks c.args.fields.now c.args.marks.now c.args.entries.now c.note_batch.new.entries c.args.columns.now
+    c.requires.marks c.note_batch.ensures.grows c.requires.columns in
+    inr (counts_before c.args.fields.now _ c.args.columns.now c.count.new.self c.count.ensures.limits c.in_ok-count.ensures.before old)
+
+pub returns-else-have_new_values-clause-can_be_cut : goal.returns-else-have_new_values-clause-can_be_cut
+returns-else-have_new_values-clause-can_be_cut c = inl (c.have_new_values.ensures.none c.if-have_new_values.false)
+
 pub returns-else-have_new_values-clause-counted : goal.returns-else-have_new_values-clause-counted
 returns-else-have_new_values-clause-counted c =
     let same = grown_by_none c.args.entries.now c.note_batch.new.entries c.note_batch.ensures.grows
-    (c.have_new_values.ensures c.if-have_new_values.false ∙ c.requires.marks) in
+    (c.have_new_values.ensures.none c.if-have_new_values.false ∙ c.requires.marks) in
     subst (λ (es : List TallyEntry). AreEntriesCounted c.args.fields.now es c.args.columns.now) (sym same) c.requires.columns

@@ -1,4 +1,4 @@
-use Rattle.std.proofs.Common.{◌≡◌, ◌∙◌, sym, ap, subst, List, length, ℤ, ℕ, Option, Result, Err, inl, inr, false, true≢false}
+use Rattle.std.proofs.Common.{◌≡◌, ◌∙◌, sym, ap, subst, List, length, ℤ, ℕ, Option, Result, Err, inl, inr, true≢false}
 use Rattle.std.specs.List.{AllByRecursion}
 use Rattle.std.specs.Prelude.{◌⊎◌}
 use Rattle.std.proofs.lemmas.Result.{err_from_is_err_and}
@@ -19,7 +19,6 @@ use Rattle.ipc_dict.specs.Noting.{place_of_value}
 use Rattle.ipc_dict.specs.Planning.{AllSettled, FindsNoted, after_all, number, sends_of}
 use Rattle.ipc_dict.specs.SchemaIds.{kept_ids, tally_ids}
 use Rattle.ipc_dict.specs.Sending.{tally_of_rows}
-use Rattle.ipc_dict.specs.TallyState.{TallyState}
 use Rattle.ipc_dict.proofs.Sending.{sent_is, tallied_ids}
 use Rattle.ipc_stream.specs.OpenStreams.{CanBeSent, IsGoingOn}
 use Rattle.ipc_stream.specs.Dictionaries.{SendsBatch}
@@ -30,12 +29,6 @@ use Rattle.ipc_stream.proofs.BatchSent.{batch_sent, bytes_end, laid_counts, plan
 use Rattle.ipc_stream.proofs.PlanFinds.{plan_finds}
 use Rattle.ipc_stream.proofs.HeldRows.{accepted_pairs}
 use Rattle.ipc_stream.proofs.batch_messages.pending_messages.Goals as goal
-
--- the entries of the tally that is pending are those of its batch
-entries_are : (limits : Limits) (s : Schema) (b : BatchRows) (t : TallyState)
-    → t ≡ record { failed = false; limits = limits; fields = s.fields; entries = tally_of_rows s.fields b.rows }
-    → t.entries ≡ tally_of_rows s.fields b.rows
-entries_are limits s b t same = ap (λ (x : TallyState). x.entries) same
 
 -- what was sent has their ids
 ids_are : (limits : Limits) (s : Schema) (b : BatchRows) (columns : DictionariesState) (kept : List KeptEntry) (es : List TallyEntry)
@@ -49,10 +42,10 @@ memory_of fault failed works (inr other) = absurd (works other.1)
 
 pub returns-in_err-plan-clause-only : goal.returns-in_err-plan-clause-only
 returns-in_err-plan-clause-only c = λ s b going h.
-    let same = entries_are c.args.limits.now s b c.args.pending.tally h.tally in
+    let same = h.tally.counted in
     let ids = ids_are c.args.limits.now s b c.args.columns.now c.args.kept.now c.args.pending.tally.entries going same in
     let p = err_from_is_err_and c.from_residual.result c.from_residual.ensures.1 in
-    rw (p.1, p.2) (memory_of _ _ (λ failed. true≢false (sym failed ∙ ap (λ (x : TallyState). x.failed) h.tally))
+    rw (p.1, p.2) (memory_of _ _ (λ failed. true≢false (sym failed ∙ h.tally.works))
     (c.in_err-plan.ensures.failed ids))
 
 -- each dictionary that is sent can be
@@ -67,7 +60,7 @@ cans limits s b columns kept sends es os going accepted is same =
 
 pub returns-in_err-messages-clause-only : goal.returns-in_err-messages-clause-only
 returns-in_err-messages-clause-only c = λ s b going h.
-    let same = c.in_ok-plan.ensures.entries ∙ entries_are c.args.limits.now s b c.args.pending.tally h.tally in
+    let same = c.in_ok-plan.ensures.entries ∙ h.tally.counted in
     let can = cans c.args.limits.now s b c.args.columns.now c.args.kept.now c.sends.result.now c.in_ok-plan.plan.entries
     c.in_ok-plan.plan.numbers going h.accepted c.sends.ensures same in
     let p = err_from_is_err_and c.from_residual-in_err-messages.result c.from_residual-in_err-messages.ensures.1 in
@@ -92,7 +85,7 @@ returns-clause-messages c = λ s b going h.
     let es = c.in_ok-plan.plan.entries in
     let os = c.in_ok-plan.plan.numbers in
     let known = index_or_zero (place_of_value (tally_of_rows s.fields b.rows)) in
-    let pending = entries_are limits s b c.args.pending.tally h.tally in
+    let pending = h.tally.counted in
     let same : es ≡ tally_of_rows s.fields b.rows = c.in_ok-plan.ensures.entries ∙ pending in
     let ids = ids_are limits s b c.args.columns.now c.args.kept.now c.args.pending.tally.entries going pending in
     let can = cans limits s b c.args.columns.now c.args.kept.now c.sends.result.now es os going h.accepted c.sends.ensures
@@ -122,7 +115,7 @@ pub returns-clause-sent : goal.returns-clause-sent
 returns-clause-sent c = λ s b going h.
     let limits = c.args.limits.now in
     let os = c.in_ok-plan.plan.numbers in
-    let pending = entries_are limits s b c.args.pending.tally h.tally in
+    let pending = h.tally.counted in
     let same : c.in_ok-plan.plan.entries ≡ tally_of_rows s.fields b.rows = c.in_ok-plan.ensures.entries ∙ pending in
     let settled = subst (λ (xs : List TallyEntry). AllSettled c.args.kept.now xs os) pending c.in_ok-plan.ensures.settled in
     record {

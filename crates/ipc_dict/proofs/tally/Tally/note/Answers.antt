@@ -1,22 +1,20 @@
-use Rattle.std.proofs.Common.{◌≡◌, ◌∙◌, refl, sym, ap, subst, arith, true, false, length, List, [], rules}
+use Rattle.std.proofs.Common.{◌≡◌, ◌∙◌, refl, sym, subst, arith, true, false, length, rules}
 use Rattle.std.specs.Prelude.{◌⊎◌}
 use Rattle.ipc_model.specs.declared.fault.WriteFault.TheVariants as w
-use Rattle.ipc_model.specs.declared.value.Value.{Value}
 use Rattle.ipc_encode.specs.Faults.{write_fault}
-use Rattle.ipc_dict.specs.Noting.{note_all, AllFit}
+use Rattle.ipc_dict.specs.Noting.{note_all, truncated_tally, AllFit}
 use Rattle.ipc_dict.specs.Pairs.{row_pairs}
-use Rattle.ipc_dict.proofs.Notes.{none_noted}
 use Rattle.ipc_dict.specs.TallyState.{TallyState}
 use Rattle.ipc_dict.specs.Within.{AllWithin, IsOfLimits}
 use Rattle.ipc_dict.proofs.EntryColumns.{counted_within, within_again, written_back}
-use Rattle.ipc_dict.proofs.Refusals.{counted_pairs, refused_pairs}
+use Rattle.ipc_dict.proofs.Refusals.{counted_pairs, none_counted, refused_pairs}
 use Rattle.ipc_dict.proofs.tally.Tally.note.Goals as goal
 
 pub returns-then-self : goal.returns-then-self
 returns-then-self c =
     let inside = c.self.inside in
     let within = subst (λ (t : TallyState). AllWithin t.limits t.fields t.entries) c.self.view_is
-    (counted_within inside.fields inside.entries.items inside.columns c.self.invariant.1.1) in
+    (counted_within inside.fields inside.entries.items inside.columns c.self.invariant.counted) in
     search rules
 
 pub returns-in-Err : goal.returns-in-Err
@@ -27,6 +25,11 @@ returns-in-Err c =
     let es = c.note_row.new.entries in
     let count : before.len ≡ length es = omega (arith, c.note_row.auto.entries, c.deref_mut.ensures.len) in
     let back = written_back es before.items before.len count in
+    let marks = inside.marks in
+    let ms = c.note_row.new.marks in
+    let many : marks.len ≡ length ms = omega (arith, c.note_row.auto.marks, c.deref_mut-2.ensures.len) in
+    let marked = written_back ms marks.items marks.len many in
+    let kept = (λ i. truncated_tally (marked i) (back i)) ∙ c.note_row.ensures.before in
     let works : inside.failed ≡ false = search rules in
     let within = within_again inside.fields fields es before.items before.len c.note_row.new.columns c.as_slice-fields.ensures count
     c.note_row.ensures.counted in
@@ -35,8 +38,8 @@ returns-in-Err c =
     let on : ((write_fault fault ≡ w.DictionaryFull) ⊎ IsOfLimits (write_fault fault)) → c.match-matches.self ≡ false = search rules in
     let not_failed : write_fault fault ≡ w.Failed → ⊥ = search rules in
     refused_pairs _ _ c.self.view_is (λ fs. row_pairs fs c.args.row.now) c.deref_mut.result.now fields c.deref_mut.ensures.value
-    c.as_slice-fields.ensures _ works c.note_row.ensures.limits refl within
-    fault (back ∙ c.in-Err.ensures.err) c.self.invariant.1.0 memory on c.in-Err.ensures.full c.in-Err.ensures.over
+    c.as_slice-fields.ensures _ works c.note_row.ensures.limits refl within kept
+    fault (back ∙ c.in-Err.ensures.err) c.self.invariant.fits memory on c.in-Err.ensures.full c.in-Err.ensures.over
     c.in-Err.ensures.memory not_failed
 
 pub returns : goal.returns
@@ -47,22 +50,21 @@ returns c =
     let es = c.note_row.new.entries in
     let count : before.len ≡ length es = omega (arith, c.note_row.auto.entries, c.deref_mut.ensures.len) in
     let back = written_back es before.items before.len count in
+    let marks = inside.marks in
+    let ms = c.note_row.new.marks in
+    let many : marks.len ≡ length ms = omega (arith, c.note_row.auto.marks, c.deref_mut-2.ensures.len) in
+    let marked = written_back ms marks.items marks.len many in
+    let kept = (λ i. truncated_tally (marked i) (back i)) ∙ c.note_row.ensures.before in
     let works : inside.failed ≡ false = search rules in
     let within = within_again inside.fields fields es before.items before.len c.note_row.new.columns c.as_slice-fields.ensures count
     c.note_row.ensures.counted in
     let counted : es ≡ note_all c.deref_mut.result.now (row_pairs fields c.args.row.now) = search rules in
-    let fits = c.note_row.ensures.fits (subst AllFit (sym c.deref_mut.ensures.value) c.self.invariant.1.0) in
+    let fits = c.note_row.ensures.fits (subst AllFit (sym c.deref_mut.ensures.value) c.self.invariant.fits) in
     counted_pairs _ _ c.self.view_is (λ fs. row_pairs fs c.args.row.now) c.deref_mut.result.now fields c.deref_mut.ensures.value
-    c.as_slice-fields.ensures _ works c.note_row.ensures.limits refl within works (back ∙ counted) (subst AllFit (sym back) fits)
-
--- a tally without entries is as before with a row noted
-as_before : (t : TallyState) (row : List Value) → t.entries ≡ [] → t ≡ record t { entries = note_all t.entries (row_pairs t.fields row) }
-as_before t row none =
-    let ps = row_pairs t.fields row in
-    let same : t.entries ≡ note_all t.entries ps = none ∙ sym (none_noted ps) ∙ ap (λ es. note_all es ps) (sym none) in
-    λ i. record t { entries = same i }
+    c.as_slice-fields.ensures _ works c.note_row.ensures.limits refl within kept works (back ∙ counted) (subst AllFit (sym back) fits)
 
 pub returns-then-is_empty : goal.returns-then-is_empty
 returns-then-is_empty c =
-    let noted = as_before c.args.self.now c.args.row.now (c.is_empty.ensures.0 c.if-is_empty.true) in
+    let noted = none_counted _ c.args.self.now c.self.view_is c.self.inside.marks.items c.self.inside.entries.items refl refl
+    (row_pairs c.args.self.now.fields c.args.row.now) (c.is_empty.ensures.0 c.if-is_empty.true) in
     search rules

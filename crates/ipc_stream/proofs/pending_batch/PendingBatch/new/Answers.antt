@@ -1,4 +1,4 @@
-use Rattle.std.proofs.Common.{refl, subst, [], List}
+use Rattle.std.proofs.Common.{ap, refl, subst, [], List}
 use Rattle.ipc_model.specs.declared.schema.Field.{Field}
 use Rattle.ipc_encode.specs.Built.{StoresRows}
 use Rattle.ipc_encode.specs.Numbers.{index_or_zero}
@@ -13,8 +13,14 @@ pub returns-clause-holds : goal.returns-clause-holds
 returns-clause-holds c =
     let limits = c.args.limits.now in
     let fields = c.args.schema.now.fields in
+    let fresh = c.in_ok-tally.ensures.fresh in
     record {
-      tally = c.in_ok-tally.ensures.fresh;
+      tally = record {
+        works = ap (λ (t : TallyState). t.failed) fresh;
+        same_limits = ap (λ (t : TallyState). t.limits) fresh;
+        same_fields = ap (λ (t : TallyState). t.fields) fresh;
+        counted = ap (λ (t : TallyState). t.entries) fresh;
+      };
       rows = subst (λ (fs : List Field). StoresRows (index_or_zero (place_of_value (tally_of_rows fields []))) limits fs []
           c.in_ok-with_pool.field-0)
           c.as_slice.ensures (c.in_ok-with_pool.ensures.rows (index_or_zero (place_of_value (tally_of_rows fields []))));
@@ -25,7 +31,7 @@ returns-clause-holds c =
           lengths = c.in_ok-check_pairs.ensures.judged.1;
           dictionaries = record {
             counted = fit-unused fields;
-            lengths = subst (λ (t : TallyState). AllWithin limits fields t.entries) c.in_ok-tally.ensures.fresh
+            lengths = subst (λ (t : TallyState). AllWithin limits fields t.entries) fresh
                 c.in_ok-tally.ensures.within;
             short_messages = c.requires.short;
           };

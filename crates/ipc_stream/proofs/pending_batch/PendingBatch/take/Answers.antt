@@ -11,7 +11,7 @@ use Rattle.ipc_encode.specs.Weights.{capped, row_weight}
 use Rattle.ipc_encode.proofs.Held.{only_memory}
 use Rattle.ipc_dict.specs.Noting.{place_of_value}
 use Rattle.ipc_dict.specs.Sending.{tally_of_rows}
-use Rattle.ipc_dict.specs.TallyState.{TallyState}
+use Rattle.ipc_dict.specs.declared.entry.TallyEntry.{TallyEntry}
 use Rattle.ipc_stream.specs.declared.row_rejection.RowRejection.TheVariants.{Refused}
 use Rattle.ipc_stream.proofs.HeldRows.{held_row, refused_row}
 use Rattle.ipc_stream.proofs.HeldTallies.{note_keeps, note_refused, rows_kept, tally_next}
@@ -49,11 +49,11 @@ returns-in_err-note-clause-kept c = λ limits b well h.
     let known = index_or_zero (place_of_value (tally_of_rows fields b.rows)) in
     let p = err_from_is_err_and c.from_residual-in_err-note.result c.from_residual-in_err-note.ensures.1 in
     rw (p.1, p.2) (λ other.
-    let same = note_keeps limits fields b.rows c.args.self.now.tally c.note.new.self c.in_err-note.field-0.0 h.tally
+    let still = note_keeps limits fields b.rows c.args.self.now.tally c.note.new.self c.in_err-note.field-0.0 h.tally
     c.in_err-note.ensures.unchanged c.in_err-note.ensures.as_before c.in_err-note.ensures.before c.in_err-note.ensures.only
     (λ memory. other (ap Refused memory)) in
     record {
-      tally = same ∙ h.tally;
+      tally = still;
       rows = c.fits.ensures.kept known limits fields b.rows h.rows;
       pairs = h.pairs;
       accepted = h.accepted;
@@ -66,7 +66,8 @@ returns-in_err-push-clause-refused c = λ limits b well h.
     let known = index_or_zero (place_of_value (tally_of_rows fields b.rows)) in
     let builder = c.fits.new.self in
     let next = tally_next limits fields b.rows c.args.row.now c.args.self.now.tally c.note.new.self h.tally c.in_ok-note.ensures.noted in
-    let rows = subst (λ (t : TallyState). StoresRows (index_or_zero (place_of_value t.entries)) limits fields b.rows builder) (sym next)
+    let rows =
+    subst (λ (es : List TallyEntry). StoresRows (index_or_zero (place_of_value es)) limits fields b.rows builder) (sym next.counted)
     (rows_kept limits fields b.rows c.args.row.now builder well.each (c.fits.ensures.kept known limits fields b.rows h.rows)) in
     let p = err_from_is_err_and c.from_residual-in_err-push.result c.from_residual-in_err-push.ensures.1 in
     rw (p.1, p.2) (refused_row limits schema b c.args.row.now _ (c.in_err-push.ensures.refused limits fields b.rows rows))
@@ -78,7 +79,8 @@ returns-in_err-push-clause-kept c = λ limits b well h.
     let known = index_or_zero (place_of_value (tally_of_rows fields b.rows)) in
     let builder = c.fits.new.self in
     let next = tally_next limits fields b.rows c.args.row.now c.args.self.now.tally c.note.new.self h.tally c.in_ok-note.ensures.noted in
-    let rows = subst (λ (t : TallyState). StoresRows (index_or_zero (place_of_value t.entries)) limits fields b.rows builder) (sym next)
+    let rows =
+    subst (λ (es : List TallyEntry). StoresRows (index_or_zero (place_of_value es)) limits fields b.rows builder) (sym next.counted)
     (rows_kept limits fields b.rows c.args.row.now builder well.each (c.fits.ensures.kept known limits fields b.rows h.rows)) in
     let fine = subst (λ (fs : List Field). AllByRecursion (IsFieldWellFormed limits) (entries fs)) (sym c.as_slice.ensures) well.each in
     let weight : c.in-Some.weight ≡ capped (row_weight fields c.args.row.now) =
@@ -96,7 +98,8 @@ returns-clause-holds c = λ limits b well h.
     let known = index_or_zero (place_of_value (tally_of_rows fields b.rows)) in
     let builder = c.fits.new.self in
     let next = tally_next limits fields b.rows c.args.row.now c.args.self.now.tally c.note.new.self h.tally c.in_ok-note.ensures.noted in
-    let rows = subst (λ (t : TallyState). StoresRows (index_or_zero (place_of_value t.entries)) limits fields b.rows builder) (sym next)
+    let rows =
+    subst (λ (es : List TallyEntry). StoresRows (index_or_zero (place_of_value es)) limits fields b.rows builder) (sym next.counted)
     (rows_kept limits fields b.rows c.args.row.now builder well.each (c.fits.ensures.kept known limits fields b.rows h.rows)) in
     let fine = subst (λ (fs : List Field). AllByRecursion (IsFieldWellFormed limits) (entries fs)) (sym c.as_slice.ensures) well.each in
     let weight : c.in-Some.weight ≡ capped (row_weight fields c.args.row.now) =
