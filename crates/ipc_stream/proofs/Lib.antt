@@ -1,5 +1,6 @@
 pub mod MessagesWritten
 pub mod SentBytes
+pub mod GatheredBytes
 pub mod HeldRows
 pub mod FirstRows
 pub mod TablesWritten

@@ -3,6 +3,8 @@ use Rattle.std.specs.Prelude.{◌≡◌, ℕ, ℤ, List, [], ◌∷◌, ◌++◌
 use Rattle.ipc_model.specs.declared.limits.Limits.{Limits}
 use Rattle.ipc_model.specs.declared.schema.Schema.{Schema}
 use Rattle.ipc_model.specs.declared.value.Value.{Value}
+use Rattle.ipc_encode.specs.Segments.{bytes_of_segments}
+use Rattle.ipc_stream.specs.declared.gathering.Gathered.{Gathered}
 use Rattle.ipc_stream.specs.declared.message.Message.{Message}
 use Rattle.ipc_stream.specs.Dictionaries.{IsDictionaryMessage}
 
@@ -14,6 +16,10 @@ message_bytes message = message.front.items ++ message.body.items
 abbrev pub all_bytes : List Message → List ℕ
 all_bytes [] = []
 all_bytes (message ∷ more) = message_bytes message ++ all_bytes more
+
+-- the bytes of the segments that are complete, and those that are joined after them
+abbrev pub gathered_bytes : Gathered → List ℕ
+gathered_bytes gathered = bytes_of_segments gathered.segments.items ++ gathered.joined.items
 
 -- a message sets the dictionary with the id to the values of these rows (Arrow Columnar Format,
 -- "Dictionary Messages")

@@ -13,7 +13,7 @@ use crate::batch_messages::pending_messages;
 use crate::column_messages::column_messages;
 use crate::messages::schema_message;
 use crate::pending_batch::PendingBatch;
-use crate::sending::{send, send_messages, send_segmented};
+use crate::sending::{send, send_messages};
 use ipc_column::Batch;
 use ipc_device::Sink;
 use ipc_dict::{Dictionaries, Kept, Seed, has_short_messages};
@@ -186,7 +186,7 @@ impl OpenStream {
             &self.kept,
             pending,
         )?;
-        send_messages(sink, messages.as_slice())?;
+        send_messages(self.alloc, sink, messages.as_slice(), &[], &[])?;
         plan.commit(&mut self.kept);
         self.row_buffers = messages.into_pool();
         Ok(())
@@ -249,7 +249,8 @@ impl OpenStream {
             batch,
             pairs,
         )?;
-        send_segmented(
+        send_messages(
+            self.alloc,
             sink,
             messages.dictionaries.as_slice(),
             messages.front.as_slice(),

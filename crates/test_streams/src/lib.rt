@@ -1,8 +1,10 @@
-//! Tests of streams that need Rust: devices that fail, limits of calls, bytes in pieces, refusals
-//! of the writer, dictionaries that it sends, and what comes after a refusal. What the library
-//! answers to streams is in `cases/`.
+//! Tests of streams that need Rust: devices that fail, limits of calls, how often a sink is called,
+//! bytes in pieces, refusals of the writer, dictionaries that it sends, and what comes after a
+//! refusal. What the library answers to streams is in `cases/`.
 #![tactic(auto)]
 
+#[cfg(test)]
+mod calls;
 #[cfg(test)]
 mod columns;
 #[cfg(test)]

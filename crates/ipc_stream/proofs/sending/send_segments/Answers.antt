@@ -12,3 +12,4 @@ pub loop-segment-preserved : goal.loop-segment-preserved
 loop-segment-preserved g c =
     segments_more _ _ _ _ _ _ c.args.segments.now c.loop-segment.segment-index c.segment-item.result c.loop-segment.invariant
     c.loop-segment-test.true c.segment-item.is (rw c.bytes_in.ensures at c.in_ok-send.ensures.ok) c.in_ok-send.ensures.failures
+    (rw c.bytes_in.ensures at c.in_ok-send.ensures.called)
