@@ -80,6 +80,7 @@ fn copy_batches<R: Source, W: Sink, P: Progress>(
                 batches = batches.saturating_add(1);
                 rows = rows.saturating_add(batch.rows() as u64);
                 progress.batch_done(stream.taken(), batches, rows);
+                stream.reuse(batch);
             }
             // `next` returned None, so `end` is Some: the default is never used.
             Ok(None) => match stream.end().unwrap_or(End::Closed).check_mark(require_mark) {

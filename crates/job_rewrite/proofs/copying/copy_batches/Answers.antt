@@ -36,11 +36,12 @@ loop-batch-init g c = record {
 
 pub loop-batch-preserved : goal.loop-batch-preserved
 loop-batch-preserved g c = record {
-  copied = search (rules, copied_more);
+  copied = rw c.reuse.ensures (search (rules, copied_more));
   reported = λ limits start o.
       let next = rw c.in-Ok-Some.field-0-is at c.in-Ok-Some.ensures.next in
-      progressed_more start _ _ _ _ _ (c.loop-batch.invariant.reported limits start o) _ c.loop-batch.invariant.copied.reading
-      (c.in-Ok-Some.batch, c.in-Ok-Some.pairs) _ _ _ next (omega arith) (omega arith) (rw c.taken.ensures at c.batch_done.ensures);
+      rw c.reuse.ensures (progressed_more start _ _ _ _ _ (c.loop-batch.invariant.reported limits start o) _
+      c.loop-batch.invariant.copied.reading (c.in-Ok-Some.batch, c.in-Ok-Some.pairs) _ _ _ next (omega arith) (omega arith)
+      (rw c.taken.ensures at c.batch_done.ensures));
 }
 
 pub returns-in_err-copy_batch-in-Ok-Some-clause-reports : goal.returns-in_err-copy_batch-in-Ok-Some-clause-reports
