@@ -18,6 +18,8 @@ mod nested_columns;
 #[cfg(test)]
 mod pieces;
 #[cfg(test)]
+mod refused_rows;
+#[cfg(test)]
 mod scripts;
 #[cfg(test)]
 mod streams;
