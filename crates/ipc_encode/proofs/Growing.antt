@@ -16,7 +16,7 @@ use Rattle.ipc_model.specs.declared.value.Value.{Value}
 use Rattle.ipc_column.specs.Shapes.{Shape, bare, field, shapes, field_shape, shape_of}
 use Rattle.ipc_encode.specs.Buffers.{padded_buffer, padded_bytes, ranges_from, child_values, row_columns, column_buffers, buffers_of}
 use Rattle.ipc_encode.specs.Buffers.{column_nulls, rows_body, nodes_of}
-use Rattle.ipc_encode.specs.Built.{AreNodes, IsNode, HasTaken, IsPushRefused, ArePushesRefused, data_layout}
+use Rattle.ipc_encode.specs.Built.{AreNodes, IsColumn, IsNode, IsPushRefused, ArePushesRefused}
 use Rattle.ipc_encode.specs.Cells.{nulls}
 use Rattle.ipc_encode.specs.Columns.{bits_length, padded_length, validity_length, offsets_length, values_length, data_in}
 use Rattle.ipc_encode.specs.Columns.{ExceedsOffsets}
@@ -24,8 +24,6 @@ use Rattle.ipc_encode.specs.Limits.{HasLongData, HasLongItems, HasLongNode, HasE
 use Rattle.ipc_encode.specs.Numbers.{Numbering}
 use Rattle.ipc_encode.specs.Writing.{Adds}
 use Rattle.ipc_encode.specs.declared.column.ColumnBuilder.{ColumnBuilder}
-use Rattle.ipc_encode.specs.declared.column_builder.Purpose.{Purpose}
-use Rattle.ipc_encode.specs.declared.column_builder.Purpose.TheVariants as purpose
 use Rattle.ipc_encode.specs.declared.fault.PushFault.{PushFault}
 use Rattle.ipc_encode.specs.declared.fault.PushFault.TheVariants as push
 use Rattle.ipc_encode.specs.declared.tree.Node.{Node, out-Node}
@@ -214,13 +212,6 @@ lent_node P l c vs ws node lent new e size h more = (
   lent_children P c (child_values l ws) node lent new e size (more (subst (λ (ns : List Node). AreNodes P c ns (child_values l vs)) (sym e)
       h.1)),
 )
-
--- the layout of a column that has taken values
-pub taken_laid : (known : Numbering) (p : Purpose) (limits : Limits) (l : Layout) (vs : List Value) (column : ColumnBuilder)
-    → HasTaken known p limits l vs column
-    → data_layout column.data ≡ l
-taken_laid known purpose.Keep limits l vs column h = h.laid
-taken_laid known purpose.Count limits l vs column h = h.laid
 
 -- ---- nodes that are made one after another
 
@@ -647,33 +638,25 @@ past_next i shape given l c bytes left at so more =
     let within = first_within (suc i) shape given in
     omega (arith, size, within, so, more)
 
--- ---- columns that have taken values are within the limits
+-- ---- columns are within the limits
 
-counted_of : (known : Numbering) (p : Purpose) (limits : Limits) (l : Layout) (vs : List Value) (column : ColumnBuilder)
-    → HasTaken known p limits l vs column
-    → (limits.slots < length vs → ⊥) × (HasExcessData l vs → ⊥)
-counted_of known purpose.Keep limits l vs column h = (h.few, column_short known limits l vs column h)
-counted_of known purpose.Count limits l vs column h = (h.counted.few, h.counted.short)
+pub held_few : (known : Numbering) (limits : Limits) (shape : Shape) (nodes : List Node) (given : ℕ → List Value)
+    → AreNodes (IsColumn known limits) shape nodes given → HasLongNode limits.slots shape given → ⊥
+held_few known limits bare nodes given h x = x
+held_few known limits (field l c rest) [] given h x = absurd h
+held_few known limits (field l c rest) (m ∷ ms) given h (inl own) = h.0.0.few own
+held_few known limits (field l c rest) (m ∷ ms) given h (inr (inl child)) = held_few known limits c _ (child_values l (given 0)) h.0.1 child
+held_few known limits (field l c rest) (m ∷ ms) given h (inr (inr later)) = held_few known limits rest ms (λ j. given (suc j)) h.1 later
 
-pub taken_few : (known : Numbering) (p : Purpose) (limits : Limits) (shape : Shape) (nodes : List Node) (given : ℕ → List Value)
-    → AreNodes (HasTaken known p limits) shape nodes given → HasLongNode limits.slots shape given → ⊥
-taken_few known p limits bare nodes given h x = x
-taken_few known p limits (field l c rest) [] given h x = absurd h
-taken_few known p limits (field l c rest) (m ∷ ms) given h (inl own) = (counted_of known p limits l (given 0) _ h.0.0).0 own
-taken_few known p limits (field l c rest) (m ∷ ms) given h (inr (inl child)) =
-    taken_few known p limits c _ (child_values l (given 0)) h.0.1 child
-taken_few known p limits (field l c rest) (m ∷ ms) given h (inr (inr later)) = taken_few known p limits rest ms (λ j. given (suc j))
-    h.1 later
-
-pub taken_short : (known : Numbering) (p : Purpose) (limits : Limits) (shape : Shape) (nodes : List Node) (given : ℕ → List Value)
-    → AreNodes (HasTaken known p limits) shape nodes given → SomeExcessData shape given → ⊥
-taken_short known p limits bare nodes given h x = x
-taken_short known p limits (field l c rest) [] given h x = absurd h
-taken_short known p limits (field l c rest) (m ∷ ms) given h (inl own) = (counted_of known p limits l (given 0) _ h.0.0).1 own
-taken_short known p limits (field l c rest) (m ∷ ms) given h (inr (inl child)) = taken_short known p limits c _ (child_values l (given 0))
-    h.0.1 child
-taken_short known p limits (field l c rest) (m ∷ ms) given h (inr (inr later)) = taken_short known p limits rest ms
-    (λ j. given (suc j)) h.1 later
+pub held_short : (known : Numbering) (limits : Limits) (shape : Shape) (nodes : List Node) (given : ℕ → List Value)
+    → AreNodes (IsColumn known limits) shape nodes given → SomeExcessData shape given → ⊥
+held_short known limits bare nodes given h x = x
+held_short known limits (field l c rest) [] given h x = absurd h
+held_short known limits (field l c rest) (m ∷ ms) given h (inl own) = column_short known limits l (given 0) _ h.0.0 own
+held_short known limits (field l c rest) (m ∷ ms) given h (inr (inl child)) =
+    held_short known limits c _ (child_values l (given 0)) h.0.1 child
+held_short known limits (field l c rest) (m ∷ ms) given h (inr (inr later)) =
+    held_short known limits rest ms (λ j. given (suc j)) h.1 later
 
 -- ---- a column without children
 

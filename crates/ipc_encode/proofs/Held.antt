@@ -10,19 +10,19 @@ use Rattle.ipc_model.specs.declared.schema.Field.{Field}
 use Rattle.ipc_model.specs.declared.value.Value.{Value}
 use Rattle.ipc_column.specs.Shapes.{Shape, bare, field, shape_of}
 use Rattle.ipc_encode.specs.Buffers.{child_values, row_columns, rows_body, column_buffers, padded_bytes}
-use Rattle.ipc_encode.specs.Built.{HoldColumns, AreColumnsWithin, ArePushesRefused, AreCountsOf, IsPushRefused}
+use Rattle.ipc_encode.specs.Built.{HoldColumns, HoldsRows, StoresRows, AreColumnsWithin, ArePushesRefused, AreCountsOf, IsPushRefused}
 use Rattle.ipc_encode.specs.Cells.{cell, cells}
 use Rattle.ipc_encode.specs.ColumnSizes.{as_rows}
 use Rattle.ipc_encode.specs.Faults.{write_fault}
 use Rattle.ipc_encode.specs.Limits.{IsTooMany, AreColumnsTooLong, IsWithin, AreRowsRefused}
 use Rattle.ipc_encode.specs.Numbers.{Numbering}
 use Rattle.ipc_encode.specs.Writing.{AllStored, AreStored}
-use Rattle.ipc_encode.specs.declared.column_builder.Purpose.TheVariants as purpose
+use Rattle.ipc_encode.specs.declared.builder.Builder.{Builder}
 use Rattle.ipc_encode.specs.declared.column.ColumnCounts.{ColumnCounts}
 use Rattle.ipc_encode.specs.declared.fault.PushFault.{PushFault}
 use Rattle.ipc_encode.specs.declared.fault.PushFault.TheVariants as push
 use Rattle.ipc_encode.specs.declared.tree.Node.{Node, out-Node}
-use Rattle.ipc_encode.proofs.Growing.{refused_grow, taken_few, taken_short, all_refused, first_refused, own_refused, parts_length}
+use Rattle.ipc_encode.proofs.Growing.{refused_grow, held_few, held_short, all_refused, first_refused, own_refused, parts_length}
 use Rattle.ipc_encode.proofs.Growing.{few_leaf, short_leaf}
 use Rattle.ipc_encode.proofs.Sizes.{data_some, held_stored, items_some}
 use Rattle.ipc_encode.proofs.Steps.{cells_append, cells_length}
@@ -33,6 +33,12 @@ use Rattle.ipc_encode.proofs.Steps.{cells_append, cells_length}
 pub columns_push : (rows : List (List Value)) (row : List Value)
     → ◌≡◌ {A = ℕ → List Value} (λ j. row_columns rows j ++ cell j row ∷ []) (row_columns (rows ++ row ∷ []))
 columns_push rows row = λ d j. sym (cells_append j rows (row ∷ [])) d
+
+-- the columns of a builder that stores rows hold them
+pub stored_held : (known : Numbering) (limits : Limits) (fields : List Field) (rows : List (List Value)) (builder : Builder)
+    → StoresRows known limits fields rows builder → HoldsRows known limits fields rows builder
+stored_held known limits fields rows builder h =
+    record { limits_are = h.limits_are; works = h.works; count = h.count; columns_are = h.columns_are }
 
 -- the texts of all columns are UTF-8
 pub all_stored : (known : Numbering) (limits : Limits) (shape : Shape) (nodes : List Node) (given : ℕ → List Value)
@@ -68,15 +74,15 @@ built_within known limits fields rows nodes few h short = record { few = not_man
   where
     not_many : IsTooMany limits fields rows → ⊥
     not_many (inl many) = omega (arith, few, many)
-    not_many (inr (inl long)) = taken_few known purpose.Keep limits (shape_of fields) nodes (row_columns rows) h long
-    not_many (inr (inr items)) = taken_short known purpose.Keep limits (shape_of fields) nodes (row_columns rows) h
+    not_many (inr (inl long)) = held_few known limits (shape_of fields) nodes (row_columns rows) h long
+    not_many (inr (inr items)) = held_short known limits (shape_of fields) nodes (row_columns rows) h
         (items_some (shape_of fields) (row_columns rows) items)
 
 -- columns that are built leave so much of a body
 pub not_too_long : (known : Numbering) (limits : Limits) (fields : List Field) (rows : List (List Value)) (nodes : List Node) (left : ℕ)
     → HoldColumns known limits (shape_of fields) nodes (row_columns rows) → length (rows_body fields rows) + left ≡ limits.body
     → AreColumnsTooLong limits fields rows → ⊥
-not_too_long known limits fields rows nodes left h e (inl long) = taken_short known purpose.Keep limits (shape_of fields) nodes
+not_too_long known limits fields rows nodes left h e (inl long) = held_short known limits (shape_of fields) nodes
     (row_columns rows) h (data_some (shape_of fields) (row_columns rows) long)
 not_too_long known limits fields rows nodes left h e (inr more) = omega (arith, e, more)
 

@@ -3,6 +3,7 @@ pub mod Steps
 pub mod Weights
 pub mod Sizes
 pub mod Growing
+pub mod Beginnings
 pub mod Held
 pub mod NumberSlots
 pub mod LentBuffers

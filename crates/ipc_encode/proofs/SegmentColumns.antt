@@ -27,14 +27,13 @@ use Rattle.ipc_encode.specs.Segments.{AddsBuffers, IsBodyRefused, bytes_of_segme
 use Rattle.ipc_encode.specs.Segments.{IsDataRefused}
 use Rattle.ipc_encode.specs.WholeColumns.{AreFullColumns, is_taken_whole}
 use Rattle.ipc_encode.specs.Writing.{AllStored, AreStored}
-use Rattle.ipc_encode.specs.declared.column_builder.Purpose.TheVariants as purpose
 use Rattle.ipc_encode.specs.declared.fault.PushFault.{PushFault}
 use Rattle.ipc_encode.specs.declared.fault.PushFault.TheVariants as push
 use Rattle.ipc_encode.specs.declared.tree.Node.{Node}
 use Rattle.ipc_encode.specs.declared.segments.Segment.{Segment}
 use Rattle.ipc_encode.specs.declared.segments.SegmentedDraft.{SegmentedDraft}
 use Rattle.ipc_encode.proofs.Growing.{joined_append, ranges_append, parts_length, IsAt, bytes_next, few_next, first, first_within}
-use Rattle.ipc_encode.proofs.Growing.{long_node_at, nodes_next, short_next, some_at, few_leaf, short_leaf, taken_few, taken_short}
+use Rattle.ipc_encode.proofs.Growing.{long_node_at, nodes_next, short_next, some_at, few_leaf, short_leaf, held_few, held_short}
 use Rattle.ipc_encode.proofs.Held.{all_stored, rows_within}
 use Rattle.ipc_encode.proofs.Indexed.{buffers_size, buffers_with_next}
 use Rattle.ipc_encode.proofs.Ranges.{ranges_length}
@@ -366,8 +365,8 @@ pub node_added : (limits : Limits) (known other : Numbering) (lay : Layout) (ch 
 node_added limits known other lay ch vs node d e h nodes adds within = record {
   nodes = nodes;
   buffers = adds;
-  few = taken_few known purpose.Keep limits (field lay ch bare) (node ∷ []) (λ j. vs) (h, tt);
-  short = taken_short known purpose.Keep limits (field lay ch bare) (node ∷ []) (λ j. vs) (h, tt);
+  few = held_few known limits (field lay ch bare) (node ∷ []) (λ j. vs) (h, tt);
+  short = held_short known limits (field lay ch bare) (node ∷ []) (λ j. vs) (h, tt);
   stores = all_stored known limits (field lay ch bare) (node ∷ []) (λ j. vs) (h, tt);
   body = within;
 }

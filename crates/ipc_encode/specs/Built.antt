@@ -16,8 +16,6 @@ use Rattle.ipc_encode.specs.declared.column.ColumnData.TheVariants as kind
 use Rattle.ipc_encode.specs.declared.fault.PushFault.{PushFault}
 use Rattle.ipc_encode.specs.declared.fault.PushFault.TheVariants as fault
 use Rattle.ipc_encode.specs.declared.tree.Node.{Node, out-Node}
-use Rattle.ipc_encode.specs.declared.column_builder.Purpose.{Purpose}
-use Rattle.ipc_encode.specs.declared.column_builder.Purpose.TheVariants as purpose
 use Rattle.ipc_column.specs.Shapes.{Shape, bare, field, shape_of}
 use Rattle.ipc_encode.specs.Buffers.{child_values, row_columns, padded_bytes, column_buffers}
 use Rattle.ipc_encode.specs.Buffers.{buffers_of, column_nulls}
@@ -97,12 +95,6 @@ abbrev pub BeginsWith : Numbering → Limits → Layout → List Value → Colum
 BeginsWith indices limits layout values column =
     (more : List Value) × IsColumn indices limits layout (values ++ more) column
 
--- the column has this layout, and its counts with the next row are those of these values
-pub record IsNext (limits : Limits) (layout : Layout) (values : List Value)
-    (column : ColumnBuilder) : Type 0 where
-  pub laid : data_layout column.data ≡ layout
-  pub counted : AreCountsOf limits layout values column.next
-
 -- the nodes have this shape, and the property holds for each column with its values, at every
 -- level; `given` has the values of each column by its number
 abbrev pub AreNodes : (Layout → List Value → ColumnBuilder → Type 0) → Shape → List Node
@@ -127,11 +119,6 @@ IsNode Property l children node values = Property l values (out-Node node).colum
 abbrev pub HoldColumns : Numbering → Limits → Shape → List Node → (ℕ → List Value) → Type 0
 HoldColumns indices limits = AreNodes (IsColumn indices limits)
 
--- what a column has taken: the values into its buffers, or only their counts
-abbrev pub HasTaken : Numbering → Purpose → Limits → Layout → List Value → ColumnBuilder → Type 0
-HasTaken indices purpose.Keep limits = IsColumn indices limits
-HasTaken indices purpose.Count limits = IsNext limits
-
 -- columns of this shape with these values are within the limits
 pub record AreColumnsWithin (limits : Limits) (shape : Shape) (given : ℕ → List Value) : Type
     0 where
@@ -145,6 +132,27 @@ abbrev pub HasHeadroom : Limits → List Field → List (List Value) → ℕ →
 HasHeadroom limits fields rows headroom = (added : ℕ → List Value)
     → weight_of 0 (shape_of fields) added < headroom
     → AreColumnsWithin limits (shape_of fields) (λ j. row_columns rows j ++ added j)
+
+-- the columns of the builder hold exactly these rows of these fields; `indices` gives the index of
+-- each dictionary value
+pub record HoldsRows (indices : Numbering) (limits : Limits) (fields : List Field) (rows : List
+    (List Value))
+    (builder : Builder) : Type 0 where
+  pub limits_are : builder.limits ≡ limits
+  pub works : builder.failed ≡ false
+  pub count : builder.rows ≡ length rows
+  pub columns_are : HoldColumns indices limits (shape_of fields) builder.nodes.items
+      (row_columns rows)
+
+-- the columns of the builder begin with these rows of these fields, and then perhaps have some of
+-- another row
+pub record BeginsWithRows (indices : Numbering) (limits : Limits) (fields : List Field) (rows : List
+    (List Value))
+    (builder : Builder) : Type 0 where
+  pub limits_are : builder.limits ≡ limits
+  pub count : builder.rows ≡ length rows
+  pub columns_begin : AreNodes (BeginsWith indices limits) (shape_of fields) builder.nodes.items
+      (row_columns rows)
 
 -- the builder stores exactly these rows of these fields, which are within the limits; `indices`
 -- gives the index of each dictionary value

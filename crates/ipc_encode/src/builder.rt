@@ -12,8 +12,8 @@ ghost use Rattle.ipc_column.specs.Dictionaries.{Dictionaries};
 ghost use Rattle.ipc_column.specs.Rows.{Rows};
 ghost use Rattle.ipc_column.specs.Shapes.{Shape, shape_of};
 ghost use Rattle.ipc_encode.specs.Buffers.{AreLaidOut, row_columns};
-ghost use Rattle.ipc_encode.specs.Built.{HoldColumns, ArePushesRefused, HasFailed, StoresRows};
-ghost use Rattle.ipc_encode.specs.Built.{HoldsAgreeing};
+ghost use Rattle.ipc_encode.specs.Built.{HoldColumns, ArePushesRefused, HasFailed, HoldsRows};
+ghost use Rattle.ipc_encode.specs.Built.{BeginsWithRows, HoldsAgreeing, StoresRows};
 ghost use Rattle.ipc_encode.specs.Faults.{write_fault};
 ghost use Rattle.ipc_encode.specs.Indices.{FindsRows};
 ghost use Rattle.ipc_encode.specs.Limits.{AreRowsRefused, AreColumnsTooLong, IsWithin};
@@ -21,12 +21,12 @@ ghost use Rattle.ipc_encode.specs.Numbers.{Numbering, new_indices, index_or_zero
 ghost use Rattle.ipc_encode.specs.Weights.{capped, row_weight};
 ghost use Rattle.ipc_encode.specs.Writing.{IsDrafted};
 
-use crate::column_builder::Purpose;
+use crate::cut::cut_nodes;
 use crate::fault::PushFault;
-use crate::fitting::{check_fit, headroom, remaining_all};
+use crate::fitting::{headroom, remaining_all};
 use crate::index::{IndexOf, Renumber, SameNumbers};
 use crate::parts::{BufferPool, Draft, Parts, add_nodes};
-use crate::tree::{Node, new_nodes, take_parts};
+use crate::tree::{Node, append_parts, new_nodes};
 use ipc_model::{Field, Items, Limits, Row, Value, WriteFault};
 use std::alloc::{AllocError, Global};
 use std::mem;
@@ -58,7 +58,7 @@ fn check_len(nodes: &[Node], limits: &Limits) -> Result<(), WriteFault>
         → IfErr result (λ fault. (fault ≡ WriteFault.TooLong)
         × AreColumnsTooLong limits.now fields rows) }
 {
-    match remaining_all(nodes, Purpose::Keep, limits.body) {
+    match remaining_all(nodes, limits.body) {
         Some(_) => Ok(()),
         None => Err(WriteFault::TooLong),
     }
@@ -83,7 +83,7 @@ fn push_rows<I: IndexOf>(
         → IfErr result (ArePushesRefused limits.now shape (row_columns rows.now)) }
 {
     for row in rows {
-        take_parts(row.as_slice(), nodes, Purpose::Keep, limits, indices)?;
+        append_parts(row.as_slice(), nodes, limits, indices)?;
     }
     Ok(())
 }
@@ -196,84 +196,104 @@ impl Builder {
         self.rows >= self.limits.slots as usize
     }
 
-    /// Checks that the rows that are held and this row are together within the limits. `weight` is
-    /// the weight of the row, as `row_weight` returns it, or more. It takes no memory, and the rows
-    /// are unchanged.
+    // Appends a row to the columns. After any error but `OutOfMemory` nothing of it is left.
+    #[inline(always)]
+    fn append<I: IndexOf>(&mut self, row: &[Value], indices: &I) -> Result<(), PushFault>
+        requires { self.old.rows < self.old.limits.slots }
+        ensures appended { (limits : Limits) (fields : List Field) (rows : List (List Value))
+            → HoldsRows (index_or_zero (I.IndexOf.index indices.now)) limits fields rows self.old
+            → OnOk result (HoldsRows (index_or_zero (I.IndexOf.index indices.now)) limits fields
+            (rows ++ row.now ∷ []) self.new) }
+        ensures refused { (limits : Limits) (fields : List Field) (rows : List (List Value))
+            → HoldsRows (index_or_zero (I.IndexOf.index indices.now)) limits fields rows self.old
+            → IfErr result (λ fault. AreRowsRefused limits fields (rows ++ row.now ∷ [])
+            (write_fault fault)) }
+        ensures kept { (limits : Limits) (fields : List Field) (rows : List (List Value))
+            → HoldsRows (index_or_zero (I.IndexOf.index indices.now)) limits fields rows self.old
+            → IfErr result (λ fault. ¬ (fault ≡ PushFault.OutOfMemory)
+            → HoldsRows (index_or_zero (I.IndexOf.index indices.now)) limits fields rows self.new) }
+        ensures fails { IfErr result
+            (λ fault. fault ≡ PushFault.OutOfMemory → HasFailed self.new) }
+        ensures headroom { self.new.headroom ≡ self.old.headroom }
+    {
+        self.failed = true;
+        match append_parts(row, &mut self.nodes, &self.limits, indices) {
+            Ok(()) => {
+                self.rows += 1;
+                self.failed = false;
+                Ok(())
+            }
+            Err(PushFault::OutOfMemory) => Err(PushFault::OutOfMemory),
+            Err(fault) => {
+                self.cut_row();
+                Err(fault)
+            }
+        }
+    }
+
+    // Drops what columns have of a row that was refused.
+    #[cold]
+    #[inline(never)]
+    fn cut_row(&mut self)
+        ensures rows { (known : Numbering) (limits : Limits) (fields : List Field)
+            (rows : List (List Value))
+            → BeginsWithRows known limits fields rows self.old
+            → HoldsRows known limits fields rows self.new }
+        ensures headroom { self.new.headroom ≡ self.old.headroom }
+    {
+        cut_nodes(&mut self.nodes, self.rows);
+        self.failed = false;
+    }
+
+    // Appends a row for which there may be no headroom: the sizes of the buffers decide.
+    #[cold]
+    #[inline(never)]
+    fn push_exactly<I: IndexOf>(&mut self, row: &[Value], indices: &I) -> Result<(), PushFault>
+        requires { self.old.rows < self.old.limits.slots }
+        ensures pushed { (limits : Limits) (fields : List Field) (rows : List (List Value))
+            → StoresRows (index_or_zero (I.IndexOf.index indices.now)) limits fields rows self.old
+            → OnOk result (StoresRows (index_or_zero (I.IndexOf.index indices.now)) limits fields
+            (rows ++ row.now ∷ []) self.new) }
+        ensures refused { (limits : Limits) (fields : List Field) (rows : List (List Value))
+            → StoresRows (index_or_zero (I.IndexOf.index indices.now)) limits fields rows self.old
+            → IfErr result (λ fault. AreRowsRefused limits fields (rows ++ row.now ∷ [])
+            (write_fault fault)) }
+        ensures kept { (limits : Limits) (fields : List Field) (rows : List (List Value))
+            → StoresRows (index_or_zero (I.IndexOf.index indices.now)) limits fields rows self.old
+            → IfErr result (λ fault. ¬ (fault ≡ PushFault.OutOfMemory)
+            → StoresRows (index_or_zero (I.IndexOf.index indices.now)) limits fields rows
+            self.new) }
+        ensures fails { IfErr result
+            (λ fault. fault ≡ PushFault.OutOfMemory → HasFailed self.new) }
+    {
+        let rows = self.rows;
+        self.append(row, indices)?;
+        match check_len(&self.nodes, &self.limits) {
+            Ok(()) => {
+                self.headroom = headroom(&self.nodes, &self.limits);
+                Ok(())
+            }
+            Err(_) => {
+                self.rows = rows;
+                self.cut_row();
+                Err(PushFault::TooLong)
+            }
+        }
+    }
+
+    /// Appends one row. For each value other than null in a field with a dictionary it looks up the
+    /// index, or writes 0 if it has none. `weight` is the weight of the row, as `row_weight`
+    /// returns it, or more. The row must conform to the fields, and each index must fit the field's
+    /// index type.
     ///
-    /// Errors:
+    /// Errors, where after W6 and W8 the rows are as before the call:
     ///
     /// - W8 `TooMany`: there would be more than `limits.slots` rows, or more than `limits.slots`
     ///   items in all lists of a column.
     /// - W6 `TooLong`: a binary or UTF-8 column would have more than 2^31 - 1 bytes of data,
     ///   whatever the limits, or the body more than `limits.body` bytes.
+    /// - W11 `OutOfMemory`: memory for a list ran out. The builder has failed.
     /// - W10 `Failed`: the call comes after W11.
-    #[inline(always)]
-    pub fn fits(&mut self, row: &[Value], weight: u64) -> Result<(), PushFault>
-        ensures within { (known : Numbering) (limits : Limits) (fields : List Field)
-            (rows : List (List Value))
-            → StoresRows known limits fields rows self.old
-            → capped (row_weight fields row.now) ≤ weight
-            → OnOk result (IsWithin limits fields (rows ++ row.now ∷ [])) }
-        ensures refused { (known : Numbering) (limits : Limits) (fields : List Field)
-            (rows : List (List Value))
-            → StoresRows known limits fields rows self.old
-            → IfErr result (λ fault. AreRowsRefused limits fields (rows ++ row.now ∷ [])
-            (write_fault fault) × ¬ (fault ≡ PushFault.OutOfMemory)) }
-        ensures kept { (known : Numbering) (limits : Limits) (fields : List Field)
-            (rows : List (List Value))
-            → StoresRows known limits fields rows self.old
-            → StoresRows known limits fields rows self.new }
-        ensures room { OnOk result (self.new.rows < self.new.limits.slots) }
-        ensures failed { HasFailed self.old → result ≡ Err PushFault.Failed }
-        ensures still_failed { HasFailed self.old → HasFailed self.new }
-    {
-        if self.failed {
-            return Err(PushFault::Failed);
-        }
-        if self.is_full() {
-            return Err(PushFault::TooMany);
-        }
-        let headroom = self.headroom;
-        if weight < headroom {
-            return Ok(());
-        }
-        self.fits_exactly(row)
-    }
-
-    // Computes the headroom, and checks one more row by the sizes of the buffers.
-    #[cold]
-    #[inline(never)]
-    fn fits_exactly(&mut self, row: &[Value]) -> Result<(), PushFault>
-        requires { self.old.rows < self.old.limits.slots }
-        ensures within { (known : Numbering) (limits : Limits) (fields : List Field)
-            (rows : List (List Value))
-            → StoresRows known limits fields rows self.old
-            → OnOk result (IsWithin limits fields (rows ++ row.now ∷ [])) }
-        ensures refused { (known : Numbering) (limits : Limits) (fields : List Field)
-            (rows : List (List Value))
-            → StoresRows known limits fields rows self.old
-            → IfErr result (λ fault. AreRowsRefused limits fields (rows ++ row.now ∷ [])
-            (write_fault fault) × ¬ (fault ≡ PushFault.OutOfMemory)) }
-        ensures kept { (known : Numbering) (limits : Limits) (fields : List Field)
-            (rows : List (List Value))
-            → StoresRows known limits fields rows self.old
-            → StoresRows known limits fields rows self.new }
-        ensures rows { self.new.rows ≡ self.old.rows }
-        ensures limits { self.new.limits ≡ self.old.limits }
-        ensures failed { self.new.failed ≡ self.old.failed }
-    {
-        self.headroom = headroom(&self.nodes, &self.limits);
-        check_fit(&mut self.nodes, row, &self.limits)
-    }
-
-    /// Adds one row. For each value other than null in a field with a dictionary it looks up the
-    /// index, or writes 0 if it has none. `weight` is the weight of the row, as `row_weight`
-    /// returns it, or more. The row must conform to the fields, and each index must fit the field's
-    /// index type.
-    ///
-    /// Errors: those of `fits`, after which the rows are unchanged, and W11 `OutOfMemory` if memory
-    /// for a list ran out. After W11 the builder has failed, and each later call returns W10
-    /// `Failed`.
     #[inline(always)]
     pub fn push<I: IndexOf>(
         &mut self,
@@ -292,22 +312,25 @@ impl Builder {
             (write_fault fault)) }
         ensures kept { (limits : Limits) (fields : List Field) (rows : List (List Value))
             → StoresRows (index_or_zero (I.IndexOf.index indices.now)) limits fields rows self.old
-            → capped (row_weight fields row.now) ≤ weight
             → IfErr result (λ fault. ¬ (fault ≡ PushFault.OutOfMemory)
             → StoresRows (index_or_zero (I.IndexOf.index indices.now)) limits fields rows
             self.new) }
-        ensures fails { (limits : Limits) (fields : List Field) (rows : List (List Value))
-            → StoresRows (index_or_zero (I.IndexOf.index indices.now)) limits fields rows self.old
-            → IfErr result (λ fault. fault ≡ PushFault.OutOfMemory → HasFailed self.new) }
+        ensures fails { IfErr result
+            (λ fault. fault ≡ PushFault.OutOfMemory → HasFailed self.new) }
         ensures failed { HasFailed self.old → result ≡ Err PushFault.Failed }
     {
-        self.fits(row, weight)?;
+        if self.failed {
+            return Err(PushFault::Failed);
+        }
+        if self.is_full() {
+            return Err(PushFault::TooMany);
+        }
         let headroom = self.headroom;
-        self.failed = true;
-        take_parts(row, &mut self.nodes, Purpose::Keep, &self.limits, indices)?;
-        self.rows += 1;
-        self.headroom = headroom.saturating_sub(weight);
-        self.failed = false;
+        if weight >= headroom {
+            return self.push_exactly(row, indices);
+        }
+        self.append(row, indices)?;
+        self.headroom = headroom - weight;
         Ok(())
     }
 
@@ -370,9 +393,9 @@ pub fn holds_agreeing()
 /// Encodes rows as the parts of one record batch (Message.fbs, RecordBatch; Arrow Columnar Format,
 /// "RecordBatch message").
 ///
-/// The fields must be those of a schema that passes `Schema::check`, and the rows must fit them.
 /// For each value other than null in a field with a dictionary, the index from `indices` is
-/// written, or 0 if it has none. The index must fit the field's index type.
+/// written, or 0 if it has none. The parts give the rows back if the fields are those of a schema
+/// that passes `Schema::check`, the rows fit them, and each index fits the field's index type.
 ///
 /// Buffers are in the order of the fields, those of a field's children directly after its own. Each
 /// is padded with zeros to a multiple of 8 bytes, and its length is without the padding. There is a
@@ -393,10 +416,10 @@ pub fn encode<I: IndexOf>(
     rows: &[Row],
     indices: &I,
 ) -> Result<Parts, WriteFault>
-    requires fine { AllByRecursion (IsFieldWellFormed limits.now) (entries fields.now) }
-    requires conform { AllByRecursion (RowFits fields.now) rows.now }
     // The parts give these rows back under each map in which the indices find their values.
     ensures rows { (m : Dictionaries)
+        → AllByRecursion (IsFieldWellFormed limits.now) (entries fields.now)
+        → AllByRecursion (RowFits fields.now) rows.now
         → FindsRows m (index_or_zero (I.IndexOf.index indices.now)) fields.now rows.now
         → IfOk result (λ parts. Rows limits.now m fields.now (record {
           length = pos (length rows.now);

@@ -70,8 +70,6 @@ pub(crate) struct IndexData {
 pub(crate) struct ColumnBuilder {
     pub(crate) slots: usize,
     pub(crate) nulls: usize,
-    /// The sizes with a row that is being checked.
-    pub(crate) next: ColumnCounts,
     /// The validity bitmap. It is empty while no value is null.
     pub(crate) validity: Vec<u8>,
     pub(crate) data: ColumnData,

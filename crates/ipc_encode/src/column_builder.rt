@@ -12,14 +12,15 @@ ghost use Rattle.ipc_model.specs.declared.value.Value.{Value};
 ghost use Rattle.ipc_column.specs.Shapes.{Shape, bare, field};
 ghost use Rattle.ipc_encode.specs.Buffers.{column_nulls};
 ghost use Rattle.ipc_encode.specs.Built.{AreContents, AreListEnds, HoldsValues, data_layout};
-ghost use Rattle.ipc_encode.specs.Built.{IsColumn, IsPushRefused, ArePushesRefused};
+ghost use Rattle.ipc_encode.specs.Built.{BeginsWith, IsColumn, IsPushRefused};
+ghost use Rattle.ipc_encode.specs.Built.{ArePushesRefused};
 ghost use Rattle.ipc_encode.specs.Cells.{nulls, slot_bytes, slots};
 ghost use Rattle.ipc_encode.specs.Columns.{validity_in, data_in};
 ghost use Rattle.ipc_encode.specs.Numbers.{Numbering, index_of, index_or_zero, indices_of};
 ghost use Rattle.ipc_encode.specs.Pieces.{Number, Fixed};
 
 use crate::bitmaps::{push_bit, set_bits};
-use crate::column::{ColumnBuilder, ColumnCounts, ColumnData, IndexData};
+use crate::column::{ColumnBuilder, ColumnData, IndexData};
 use crate::counting::{
     check_amount, content, is_true, is_valid, items, null_count, null_slots, number_bits,
 };
@@ -30,30 +31,6 @@ use std::alloc::{AllocError, Global};
 
 /// The maximum number of bytes or items that offsets of 32 bits reach.
 pub(crate) const MAX_DATA: usize = ipc_model::MAX_DATA as usize;
-
-/// What a column does with a value.
-#[derive(Clone, Copy, Debug, PartialEq, Eq, Drop)]
-pub(crate) enum Purpose {
-    /// Append the value to its buffers.
-    Keep,
-    /// Count the value in the sizes with the next row.
-    Count,
-}
-
-impl Purpose {
-    ghost use Rattle.std.specs.Prelude.{◌≡◌, ◌↔◌, IsTrue};
-
-    /// Returns whether values are kept.
-    #[inline(always)]
-    pub(crate) fn keeps(self) -> bool
-        ensures { IsTrue result ↔ (self ≡ Purpose.Keep) }
-    {
-        match self {
-            Purpose::Keep => true,
-            Purpose::Count => false,
-        }
-    }
-}
 
 // Appends whether one more slot is valid, after `slots` slots with `null_count` nulls, if the
 // column has a validity bitmap.
@@ -162,6 +139,9 @@ fn push_content(
         (AreContents (vs ++ value.now ∷ []) offsets.new.items values.new.items) }
     ensures refused { (vs : List Value) → AreContents vs offsets.old.items values.old.items
         → IfErr result (IsPushRefused limits.now (VariableBytes utf8) (vs ++ value.now ∷ [])) }
+    ensures kept { (vs : List Value) → AreContents vs offsets.old.items values.old.items
+        → IfErr result (λ fault. ¬ (fault ≡ PushFault.OutOfMemory)
+        → AreContents vs offsets.new.items values.new.items) }
 {
     let bytes = content(value);
     let end = values.len() + bytes.len();
@@ -182,6 +162,9 @@ fn push_items(
         → OnOk result (AreListEnds (vs ++ value.now ∷ []) offsets.new.items count.new) }
     ensures refused { (vs : List Value) → AreListEnds vs offsets.old.items count.old
         → IfErr result (IsPushRefused limits.now Lists (vs ++ value.now ∷ [])) }
+    ensures kept { (vs : List Value) → AreListEnds vs offsets.old.items count.old
+        → IfErr result (λ fault. ¬ (fault ≡ PushFault.OutOfMemory)
+        → AreListEnds vs offsets.new.items count.new) }
 {
     let end = *count as usize + items(value).len();
     check_amount(Layout::Lists, end, limits)?;
@@ -366,6 +349,10 @@ impl ColumnData {
             → length vs ≡ slots
             → IfErr result
             (IsPushRefused limits.now (data_layout self.old) (vs ++ value.now ∷ [])) }
+        ensures kept { (vs : List Value)
+            → HoldsValues (index_or_zero (I.IndexOf.index indices.now)) vs self.old
+            → IfErr result (λ fault. ¬ (fault ≡ PushFault.OutOfMemory)
+            → HoldsValues (index_or_zero (I.IndexOf.index indices.now)) vs self.new) }
     {
         match self {
             ColumnData::Null | ColumnData::FixedLists(_) | ColumnData::Structs => Ok(()),
@@ -423,15 +410,15 @@ impl ColumnBuilder {
         Ok(ColumnBuilder {
             slots: 0,
             nulls: 0,
-            next: ColumnCounts::none(),
             validity,
             data,
         })
     }
 
-    /// Adds one value. After an error the column is unusable.
+    /// Appends one value, with its index in a column of indices.
     ///
-    /// Errors: those of `ColumnCounts::with`, and `OutOfMemory` if memory for a buffer ran out.
+    /// Errors: those of `ColumnCounts::with`, after which the column is unchanged, and
+    /// `OutOfMemory` if memory for a buffer ran out, after which it is unusable.
     #[inline(always)]
     pub(crate) fn push<I: IndexOf>(
         &mut self,
@@ -448,6 +435,12 @@ impl ColumnBuilder {
             → IsColumn (index_or_zero (I.IndexOf.index indices.now)) limits.now layout values
             self.old
             → IfErr result (IsPushRefused limits.now layout (values ++ value.now ∷ [])) }
+        ensures kept { (layout : Layout) (values : List Value)
+            → IsColumn (index_or_zero (I.IndexOf.index indices.now)) limits.now layout values
+            self.old
+            → IfErr result (λ fault. ¬ (fault ≡ PushFault.OutOfMemory)
+            → IsColumn (index_or_zero (I.IndexOf.index indices.now)) limits.now layout values
+            self.new) }
     {
         let ColumnBuilder { slots, nulls, .. } = *self;
         if slots >= limits.slots as usize {
@@ -512,8 +505,8 @@ impl ColumnBuilder {
         Ok(true)
     }
 
-    /// Adds several values. After an error the column is unusable. The errors are those of
-    /// `ColumnBuilder::push`.
+    /// Appends several values. The errors are those of `ColumnBuilder::push`. After any error but
+    /// `OutOfMemory` the column begins with what it held.
     pub(crate) fn push_all<I: IndexOf>(
         &mut self,
         values: &[Value],
@@ -530,6 +523,12 @@ impl ColumnBuilder {
             self.old
             → IfErr result (ArePushesRefused limits.now (field layout children bare)
             (λ j. before ++ values.now)) }
+        ensures begun { (layout : Layout) (before : List Value)
+            → IsColumn (index_or_zero (I.IndexOf.index indices.now)) limits.now layout before
+            self.old
+            → IfErr result (λ fault. ¬ (fault ≡ PushFault.OutOfMemory)
+            → BeginsWith (index_or_zero (I.IndexOf.index indices.now)) limits.now layout before
+            self.new) }
     {
         if self.push_valid(values, limits)? {
             return Ok(());

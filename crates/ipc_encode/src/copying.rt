@@ -15,10 +15,10 @@ ghost use Rattle.ipc_encode.specs.Numbers.{indices_of, index_or_zero};
 
 use crate::bitmaps::push_bit;
 use crate::column::{ColumnBuilder, ColumnData, IndexData};
-use crate::column_builder::{Purpose, known_index};
+use crate::column_builder::known_index;
 use crate::fault::PushFault;
 use crate::index::IndexOf;
-use crate::tree::{Node, take};
+use crate::tree::{Node, append};
 use ipc_column::{Batch, SlotView};
 use ipc_model::{IntBits, Layout, Limits, Value};
 use std::alloc::{AllocError, Global};
@@ -211,7 +211,7 @@ fn push_validities(
 impl ColumnBuilder {
     /// Takes the values of a column of a batch into a column of these indices, which has no values.
     /// The index of each value of a dictionary that was read is looked up once. The errors are
-    /// those of `ColumnBuilder::take`.
+    /// those of `ColumnBuilder::push`.
     pub(crate) fn take_indices<I: IndexOf>(
         &mut self,
         batch: &Batch,
@@ -291,14 +291,14 @@ fn take_each<I: IndexOf>(
     let alloc = *node.children.allocator();
     for row in 0..batch.rows() {
         let value = cell_at(alloc, batch, row, column)?;
-        take(&value, node, Purpose::Keep, limits, indices)?;
+        append(&value, node, limits, indices)?;
     }
     Ok(())
 }
 
 /// Takes the values of a column of a batch into a node without values, or nulls if the batch has no
 /// such column. For a column of indices each value of its dictionary is looked up once. Other
-/// columns are read value by value. The errors are those of `take`.
+/// columns are read value by value. The errors are those of `append`.
 pub(crate) fn take_column<I: IndexOf>(
     node: &mut Node,
     batch: &Batch,

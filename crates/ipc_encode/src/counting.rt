@@ -6,19 +6,17 @@ ghost use Rattle.ipc_model.specs.declared.layout.Layout.{Layout};
 ghost use Rattle.ipc_model.specs.declared.limits.Limits.{Limits};
 ghost use Rattle.ipc_model.specs.declared.value.Value.{Value};
 ghost use Rattle.ipc_encode.specs.Buffers.{column_buffers, padded_bytes};
-ghost use Rattle.ipc_encode.specs.Built.{HasTaken, IsColumn, AreCountsOf, IsNext, IsPushRefused};
+ghost use Rattle.ipc_encode.specs.Built.{IsColumn, AreCountsOf, IsPushRefused};
 ghost use Rattle.ipc_encode.specs.Cells.{nulls, is_set, number_bits, content, items};
 ghost use Rattle.ipc_encode.specs.Cells.{HasUtf8};
 ghost use Rattle.ipc_encode.specs.Columns.{data_in, value_len, ExceedsOffsets, offsets_length};
 ghost use Rattle.ipc_encode.specs.Columns.{validity_length, values_length};
-ghost use Rattle.ipc_encode.specs.Numbers.{Numbering, index_or_zero};
-ghost use Rattle.ipc_encode.specs.declared.column_builder.Purpose.TheVariants.{Count};
+ghost use Rattle.ipc_encode.specs.Numbers.{Numbering};
 ghost use Rattle.ipc_encode.specs.Pieces.{Valid, True};
 
 use crate::column::{ColumnBuilder, ColumnCounts};
-use crate::column_builder::{MAX_DATA, Purpose};
+use crate::column_builder::MAX_DATA;
 use crate::fault::PushFault;
-use crate::index::IndexOf;
 use ipc_model::{Layout, Limits, Value};
 use ipc_scalar::pad8;
 
@@ -173,7 +171,7 @@ impl ColumnCounts {
 
 impl ColumnBuilder {
     /// Returns the sizes of the values that the column has.
-    pub(crate) fn held_counts(&self) -> ColumnCounts
+    pub(crate) fn counts(&self) -> ColumnCounts
         ensures { (known : Numbering) (limits : Limits) (layout : Layout) (values : List Value)
             → IsColumn known limits layout values self.now
             → AreCountsOf limits layout values result }
@@ -182,87 +180,6 @@ impl ColumnBuilder {
             slots: self.slots,
             nulls: self.nulls,
             amount: self.data.amount(self.slots),
-        }
-    }
-
-    /// Returns the sizes of the values that the column has, or those with the next row.
-    pub(crate) fn counts(&self, purpose: Purpose) -> ColumnCounts
-        ensures { (known : Numbering) (limits : Limits) (layout : Layout) (values : List Value)
-            → HasTaken known purpose limits layout values self.now
-            → AreCountsOf limits layout values result }
-    {
-        match purpose {
-            Purpose::Keep => self.held_counts(),
-            Purpose::Count => self.next,
-        }
-    }
-
-    /// Begins to count the next row from the sizes of the values.
-    pub(crate) fn start(&mut self)
-        ensures started { (known : Numbering) (limits : Limits) (layout : Layout)
-            (values : List Value)
-            → IsColumn known limits layout values self.old → IsNext limits layout values self.new }
-        ensures kept { (known : Numbering) (limits : Limits) (layout : Layout)
-            (values : List Value)
-            → IsColumn known limits layout values self.old
-            → IsColumn known limits layout values self.new }
-    {
-        self.next = self.held_counts();
-    }
-
-    // Counts one value of the next row.
-    fn count(&mut self, value: &Value, limits: &Limits) -> Result<(), PushFault>
-        ensures counted { (layout : Layout) (values : List Value)
-            → IsNext limits.now layout values self.old
-            → OnOk result (IsNext limits.now layout (values ++ value.now ∷ []) self.new) }
-        ensures refused { (layout : Layout) (values : List Value)
-            → IsNext limits.now layout values self.old
-            → IfErr result (IsPushRefused limits.now layout (values ++ value.now ∷ [])) }
-        ensures kept { (known : Numbering) (limits : Limits) (layout : Layout)
-            (values : List Value)
-            → IsColumn known limits layout values self.old
-            → IsColumn known limits layout values self.new }
-        ensures memory { IfErr result (λ fault. ¬ (fault ≡ PushFault.OutOfMemory)) }
-    {
-        self.next = self.next.with(self.data.layout(), value, limits)?;
-        Ok(())
-    }
-
-    /// Adds one value, with its index in a column of indices, or counts it in the sizes with the
-    /// next row. After an error the buffers or these sizes are unusable.
-    ///
-    /// Errors: those of `ColumnCounts::with`, and `OutOfMemory` if memory for a buffer ran out.
-    #[inline(always)]
-    pub(crate) fn take<I: IndexOf>(
-        &mut self,
-        value: &Value,
-        purpose: Purpose,
-        limits: &Limits,
-        indices: &I,
-    ) -> Result<(), PushFault>
-        ensures taken { (layout : Layout) (values : List Value)
-            → HasTaken (index_or_zero (I.IndexOf.index indices.now)) purpose limits.now layout
-            values
-            self.old
-            → OnOk result
-            (HasTaken (index_or_zero (I.IndexOf.index indices.now)) purpose limits.now layout
-            (values ++ value.now ∷ []) self.new) }
-        ensures refused { (layout : Layout) (values : List Value)
-            → HasTaken (index_or_zero (I.IndexOf.index indices.now)) purpose limits.now layout
-            values
-            self.old
-            → IfErr result (IsPushRefused limits.now layout (values ++ value.now ∷ [])) }
-        ensures kept { (known : Numbering) (limits : Limits) (layout : Layout)
-            (values : List Value)
-            → purpose ≡ Count
-            → IsColumn known limits layout values self.old
-            → IsColumn known limits layout values self.new }
-        ensures memory { purpose ≡ Count
-            → IfErr result (λ fault. ¬ (fault ≡ PushFault.OutOfMemory)) }
-    {
-        match purpose {
-            Purpose::Keep => self.push(value, limits, indices),
-            Purpose::Count => self.count(value, limits),
         }
     }
 }

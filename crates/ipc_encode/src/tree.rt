@@ -7,15 +7,13 @@ ghost use Rattle.ipc_model.specs.declared.value.Value.{Value};
 ghost use Rattle.ipc_model.specs.declared.value.Value.TheVariants.{Null};
 ghost use Rattle.ipc_column.specs.Shapes.{field_shape, shape_of, Shape, bare, field};
 ghost use Rattle.ipc_encode.specs.Buffers.{child_values, nulls_below};
-ghost use Rattle.ipc_encode.specs.Built.{HoldColumns, IsColumn, IsNode, AreNodes, HasTaken};
-ghost use Rattle.ipc_encode.specs.Built.{ArePushesRefused};
+ghost use Rattle.ipc_encode.specs.Built.{HoldColumns, IsColumn, IsNode, AreNodes};
+ghost use Rattle.ipc_encode.specs.Built.{ArePushesRefused, BeginsWith};
 ghost use Rattle.ipc_encode.specs.Cells.{cell};
 ghost use Rattle.ipc_encode.specs.Numbers.{Numbering, index_or_zero};
-ghost use Rattle.ipc_encode.specs.declared.column_builder.Purpose.TheVariants.{Count};
 ghost use Rattle.ipc_encode.specs.declared.tree.Node.{out-Node};
 
 use crate::column::ColumnBuilder;
-use crate::column_builder::Purpose;
 use crate::counting::items;
 use crate::fault::PushFault;
 use crate::index::IndexOf;
@@ -92,333 +90,316 @@ pub(crate) fn nulls_below(layout: Layout) -> u64
     }
 }
 
-// Adds or counts this number of nulls in a column.
-fn take_own_nulls<I: IndexOf>(
+// Appends this number of nulls to a column.
+fn append_own_nulls<I: IndexOf>(
     column: &mut ColumnBuilder,
     count: u64,
-    purpose: Purpose,
     limits: &Limits,
     indices: &I,
 ) -> Result<(), PushFault>
-    ensures taken { (layout : Layout) (values : List Value)
-        → HasTaken (index_or_zero (I.IndexOf.index indices.now)) purpose limits.now layout values
+    ensures appended { (layout : Layout) (values : List Value)
+        → IsColumn (index_or_zero (I.IndexOf.index indices.now)) limits.now layout values
         column.old
         → OnOk result
-        (HasTaken (index_or_zero (I.IndexOf.index indices.now)) purpose limits.now layout
+        (IsColumn (index_or_zero (I.IndexOf.index indices.now)) limits.now layout
         (values ++ replicate count Null) column.new) }
     ensures refused { (layout : Layout) (children : Shape) (values : List Value)
-        → HasTaken (index_or_zero (I.IndexOf.index indices.now)) purpose limits.now layout values
+        → IsColumn (index_or_zero (I.IndexOf.index indices.now)) limits.now layout values
         column.old
         → IfErr result (ArePushesRefused limits.now (field layout children bare)
         (λ j. values ++ replicate count Null)) }
-    ensures kept { (known : Numbering) (limits : Limits) (layout : Layout) (values : List Value)
-        → purpose ≡ Count → IsColumn known limits layout values column.old
-        → IsColumn known limits layout values column.new }
-    ensures memory { purpose ≡ Count
-        → IfErr result (λ fault. ¬ (fault ≡ PushFault.OutOfMemory)) }
+    ensures begun { (layout : Layout) (values : List Value)
+        → IsColumn (index_or_zero (I.IndexOf.index indices.now)) limits.now layout values
+        column.old
+        → IfErr result (λ fault. ¬ (fault ≡ PushFault.OutOfMemory)
+        → BeginsWith (index_or_zero (I.IndexOf.index indices.now)) limits.now layout values
+        column.new) }
 {
     for _ in 0..count {
-        column.take(&Value::Null, purpose, limits, indices)?;
+        column.push(&Value::Null, limits, indices)?;
     }
     Ok(())
 }
 
-// Adds or counts this number of nulls in a column, and those that they add to its children.
-#[cycle(take_null)]
-fn take_null<I: IndexOf>(
+// Appends this number of nulls to a column, and those that they add to its children.
+#[cycle(append_null)]
+fn append_null<I: IndexOf>(
     node: &mut Node,
     count: u64,
-    purpose: Purpose,
     limits: &Limits,
     indices: &I,
 ) -> Result<(), PushFault>
-    ensures taken { (layout : Layout) (children : Shape) (values : List Value)
-        → IsNode (HasTaken (index_or_zero (I.IndexOf.index indices.now)) purpose limits.now)
+    ensures appended { (layout : Layout) (children : Shape) (values : List Value)
+        → IsNode (IsColumn (index_or_zero (I.IndexOf.index indices.now)) limits.now)
         layout children node.old values
-        → OnOk result (IsNode (HasTaken (index_or_zero (I.IndexOf.index indices.now)) purpose
-        limits.now)
+        → OnOk result (IsNode (IsColumn (index_or_zero (I.IndexOf.index indices.now)) limits.now)
         layout children node.new
         (values ++ replicate count Null)) }
     ensures refused { (layout : Layout) (children : Shape) (values : List Value)
-        → IsNode (HasTaken (index_or_zero (I.IndexOf.index indices.now)) purpose limits.now)
+        → IsNode (IsColumn (index_or_zero (I.IndexOf.index indices.now)) limits.now)
         layout children node.old values
         → IfErr result (ArePushesRefused limits.now (field layout children bare)
         (λ j. values ++ replicate count Null)) }
-    ensures kept { (known : Numbering) (limits : Limits) (layout : Layout)
-        (children : Shape) (values : List Value)
-        → purpose ≡ Count → IsNode (IsColumn known limits) layout children node.old values
-        → IsNode (IsColumn known limits) layout children node.new values }
-    ensures memory { purpose ≡ Count
-        → IfErr result (λ fault. ¬ (fault ≡ PushFault.OutOfMemory)) }
+    ensures begun { (layout : Layout) (children : Shape) (values : List Value)
+        → IsNode (IsColumn (index_or_zero (I.IndexOf.index indices.now)) limits.now)
+        layout children node.old values
+        → IfErr result (λ fault. ¬ (fault ≡ PushFault.OutOfMemory)
+        → IsNode (BeginsWith (index_or_zero (I.IndexOf.index indices.now)) limits.now)
+        layout children node.new values) }
 {
     if count > limits.slots {
         return Err(PushFault::TooMany);
     }
     let below = count * nulls_below(node.column.data.layout());
-    take_nulls(&mut node.children, below, purpose, limits, indices)?;
-    take_own_nulls(&mut node.column, count, purpose, limits, indices)
+    append_nulls(&mut node.children, below, limits, indices)?;
+    append_own_nulls(&mut node.column, count, limits, indices)
 }
 
-// Adds or counts this number of nulls in each column.
-#[cycle(take_null)]
-fn take_nulls<I: IndexOf>(
+// Appends this number of nulls to each column.
+#[cycle(append_null)]
+fn append_nulls<I: IndexOf>(
     nodes: &mut [Node],
     count: u64,
-    purpose: Purpose,
     limits: &Limits,
     indices: &I,
 ) -> Result<(), PushFault>
-    ensures taken { (shape : Shape) (given : ℕ → List Value)
-        → AreNodes (HasTaken (index_or_zero (I.IndexOf.index indices.now)) purpose limits.now)
+    ensures appended { (shape : Shape) (given : ℕ → List Value)
+        → AreNodes (IsColumn (index_or_zero (I.IndexOf.index indices.now)) limits.now)
         shape nodes.old given
-        → OnOk result (AreNodes (HasTaken (index_or_zero (I.IndexOf.index indices.now)) purpose
-        limits.now)
+        → OnOk result (AreNodes (IsColumn (index_or_zero (I.IndexOf.index indices.now)) limits.now)
         shape nodes.new
         (λ j. given j ++ replicate count Null)) }
     ensures refused { (shape : Shape) (given : ℕ → List Value)
-        → AreNodes (HasTaken (index_or_zero (I.IndexOf.index indices.now)) purpose limits.now)
+        → AreNodes (IsColumn (index_or_zero (I.IndexOf.index indices.now)) limits.now)
         shape nodes.old given
         → IfErr result
         (ArePushesRefused limits.now shape (λ j. given j ++ replicate count Null)) }
-    ensures kept { (known : Numbering) (limits : Limits) (shape : Shape)
-        (given : ℕ → List Value) → purpose ≡ Count
-        → AreNodes (IsColumn known limits) shape nodes.old given
-        → AreNodes (IsColumn known limits) shape nodes.new given }
-    ensures memory { purpose ≡ Count
-        → IfErr result (λ fault. ¬ (fault ≡ PushFault.OutOfMemory)) }
+    ensures begun { (shape : Shape) (given : ℕ → List Value)
+        → AreNodes (IsColumn (index_or_zero (I.IndexOf.index indices.now)) limits.now)
+        shape nodes.old given
+        → IfErr result (λ fault. ¬ (fault ≡ PushFault.OutOfMemory)
+        → AreNodes (BeginsWith (index_or_zero (I.IndexOf.index indices.now)) limits.now)
+        shape nodes.new given) }
 {
     for i in 0..nodes.len() {
-        take_null(&mut nodes[i], count, purpose, limits, indices)?;
+        append_null(&mut nodes[i], count, limits, indices)?;
     }
     Ok(())
 }
 
-/// Adds or counts a value in a column, and in its children the items of a list or the values of a
-/// struct. The errors are those of `ColumnBuilder::take`, from any of these columns.
-#[cycle(take)]
+/// Appends a value to a column, and to its children the items of a list or the values of a struct.
+///
+/// The errors are those of `ColumnBuilder::push`, from any of these columns. After any error but
+/// `OutOfMemory` each column begins with what it held.
+#[cycle(append)]
 #[inline(always)]
-pub(crate) fn take<I: IndexOf>(
+pub(crate) fn append<I: IndexOf>(
     value: &Value,
     node: &mut Node,
-    purpose: Purpose,
     limits: &Limits,
     indices: &I,
 ) -> Result<(), PushFault>
-    ensures taken { (layout : Layout) (children : Shape) (values : List Value)
-        → IsNode (HasTaken (index_or_zero (I.IndexOf.index indices.now)) purpose limits.now)
+    ensures appended { (layout : Layout) (children : Shape) (values : List Value)
+        → IsNode (IsColumn (index_or_zero (I.IndexOf.index indices.now)) limits.now)
         layout children node.old values
-        → OnOk result (IsNode (HasTaken (index_or_zero (I.IndexOf.index indices.now)) purpose
-        limits.now)
+        → OnOk result (IsNode (IsColumn (index_or_zero (I.IndexOf.index indices.now)) limits.now)
         layout children node.new
         (values ++ value.now ∷ [])) }
     ensures refused { (layout : Layout) (children : Shape) (values : List Value)
-        → IsNode (HasTaken (index_or_zero (I.IndexOf.index indices.now)) purpose limits.now)
+        → IsNode (IsColumn (index_or_zero (I.IndexOf.index indices.now)) limits.now)
         layout children node.old values
         → IfErr result (ArePushesRefused limits.now (field layout children bare)
         (λ j. values ++ value.now ∷ [])) }
-    ensures kept { (known : Numbering) (limits : Limits) (layout : Layout)
-        (children : Shape) (values : List Value)
-        → purpose ≡ Count → IsNode (IsColumn known limits) layout children node.old values
-        → IsNode (IsColumn known limits) layout children node.new values }
-    ensures memory { purpose ≡ Count
-        → IfErr result (λ fault. ¬ (fault ≡ PushFault.OutOfMemory)) }
+    ensures begun { (layout : Layout) (children : Shape) (values : List Value)
+        → IsNode (IsColumn (index_or_zero (I.IndexOf.index indices.now)) limits.now)
+        layout children node.old values
+        → IfErr result (λ fault. ¬ (fault ≡ PushFault.OutOfMemory)
+        → IsNode (BeginsWith (index_or_zero (I.IndexOf.index indices.now)) limits.now)
+        layout children node.new values) }
 {
     if node.is_leaf() {
-        return node.column.take(value, purpose, limits, indices);
+        return node.column.push(value, limits, indices);
     }
-    take_deep(value, node, purpose, limits, indices)
+    append_deep(value, node, limits, indices)
 }
 
-// Adds or counts a value in a column with children: first in the children.
-#[cycle(take)]
-fn take_deep<I: IndexOf>(
+// Appends a value to a column with children: first to the children.
+#[cycle(append)]
+fn append_deep<I: IndexOf>(
     value: &Value,
     node: &mut Node,
-    purpose: Purpose,
     limits: &Limits,
     indices: &I,
 ) -> Result<(), PushFault>
-    ensures taken { (layout : Layout) (children : Shape) (values : List Value)
-        → IsNode (HasTaken (index_or_zero (I.IndexOf.index indices.now)) purpose limits.now)
+    ensures appended { (layout : Layout) (children : Shape) (values : List Value)
+        → IsNode (IsColumn (index_or_zero (I.IndexOf.index indices.now)) limits.now)
         layout children node.old values
-        → OnOk result (IsNode (HasTaken (index_or_zero (I.IndexOf.index indices.now)) purpose
-        limits.now)
+        → OnOk result (IsNode (IsColumn (index_or_zero (I.IndexOf.index indices.now)) limits.now)
         layout children node.new
         (values ++ value.now ∷ [])) }
     ensures refused { (layout : Layout) (children : Shape) (values : List Value)
-        → IsNode (HasTaken (index_or_zero (I.IndexOf.index indices.now)) purpose limits.now)
+        → IsNode (IsColumn (index_or_zero (I.IndexOf.index indices.now)) limits.now)
         layout children node.old values
         → IfErr result (ArePushesRefused limits.now (field layout children bare)
         (λ j. values ++ value.now ∷ [])) }
-    ensures kept { (known : Numbering) (limits : Limits) (layout : Layout)
-        (children : Shape) (values : List Value)
-        → purpose ≡ Count → IsNode (IsColumn known limits) layout children node.old values
-        → IsNode (IsColumn known limits) layout children node.new values }
-    ensures memory { purpose ≡ Count
-        → IfErr result (λ fault. ¬ (fault ≡ PushFault.OutOfMemory)) }
+    ensures begun { (layout : Layout) (children : Shape) (values : List Value)
+        → IsNode (IsColumn (index_or_zero (I.IndexOf.index indices.now)) limits.now)
+        layout children node.old values
+        → IfErr result (λ fault. ¬ (fault ≡ PushFault.OutOfMemory)
+        → IsNode (BeginsWith (index_or_zero (I.IndexOf.index indices.now)) limits.now)
+        layout children node.new values) }
 {
-    take_below(
+    append_below(
         value,
         node.column.data.layout(),
         &mut node.children,
-        purpose,
         limits,
         indices,
     )?;
-    node.column.take(value, purpose, limits, indices)
+    node.column.push(value, limits, indices)
 }
 
-// What a value of a column of this layout gives to the columns below it.
-#[cycle(take)]
+// Appends what a value of a column of this layout gives to the columns below it.
+#[cycle(append)]
 #[inline(always)]
-fn take_below<I: IndexOf>(
+fn append_below<I: IndexOf>(
     value: &Value,
     layout: Layout,
     nodes: &mut [Node],
-    purpose: Purpose,
     limits: &Limits,
     indices: &I,
 ) -> Result<(), PushFault>
-    ensures taken { (shape : Shape) (values : List Value)
-        → AreNodes (HasTaken (index_or_zero (I.IndexOf.index indices.now)) purpose limits.now)
+    ensures appended { (shape : Shape) (values : List Value)
+        → AreNodes (IsColumn (index_or_zero (I.IndexOf.index indices.now)) limits.now)
         shape nodes.old (child_values layout values)
-        → OnOk result (AreNodes (HasTaken (index_or_zero (I.IndexOf.index indices.now)) purpose
-        limits.now)
+        → OnOk result (AreNodes (IsColumn (index_or_zero (I.IndexOf.index indices.now)) limits.now)
         shape nodes.new
         (child_values layout (values ++ value.now ∷ []))) }
     ensures refused { (shape : Shape) (values : List Value)
-        → AreNodes (HasTaken (index_or_zero (I.IndexOf.index indices.now)) purpose limits.now)
+        → AreNodes (IsColumn (index_or_zero (I.IndexOf.index indices.now)) limits.now)
         shape nodes.old (child_values layout values)
         → IfErr result
         (ArePushesRefused limits.now shape (child_values layout (values ++ value.now ∷ []))) }
-    ensures kept { (known : Numbering) (limits : Limits) (shape : Shape)
-        (given : ℕ → List Value) → purpose ≡ Count
-        → AreNodes (IsColumn known limits) shape nodes.old given
-        → AreNodes (IsColumn known limits) shape nodes.new given }
-    ensures memory { purpose ≡ Count
-        → IfErr result (λ fault. ¬ (fault ≡ PushFault.OutOfMemory)) }
+    ensures begun { (shape : Shape) (values : List Value)
+        → AreNodes (IsColumn (index_or_zero (I.IndexOf.index indices.now)) limits.now)
+        shape nodes.old (child_values layout values)
+        → IfErr result (λ fault. ¬ (fault ≡ PushFault.OutOfMemory)
+        → AreNodes (BeginsWith (index_or_zero (I.IndexOf.index indices.now)) limits.now)
+        shape nodes.new (child_values layout values)) }
 {
     match layout {
-        Layout::Lists => take_items(items(value), nodes, purpose, limits, indices),
+        Layout::Lists => append_items(items(value), nodes, limits, indices),
         Layout::FixedLists(size) => match value {
             Value::List(items) if items.as_slice().len() == size as usize => {
-                take_items(items.as_slice(), nodes, purpose, limits, indices)
+                append_items(items.as_slice(), nodes, limits, indices)
             }
-            _ => take_nulls(nodes, nulls_below(layout), purpose, limits, indices),
+            _ => append_nulls(nodes, nulls_below(layout), limits, indices),
         },
         Layout::Structs => match value {
-            Value::Struct(parts) => take_parts(parts.as_slice(), nodes, purpose, limits, indices),
-            _ => take_nulls(nodes, nulls_below(layout), purpose, limits, indices),
+            Value::Struct(parts) => append_parts(parts.as_slice(), nodes, limits, indices),
+            _ => append_nulls(nodes, nulls_below(layout), limits, indices),
         },
         _ => Ok(()),
     }
 }
 
-// Takes or counts all items in each column: a list has one child.
-#[cycle(take)]
+// Appends all items to each column: a list has one child.
+#[cycle(append)]
 #[inline(always)]
-fn take_items<I: IndexOf>(
+fn append_items<I: IndexOf>(
     items: &[Value],
     nodes: &mut [Node],
-    purpose: Purpose,
     limits: &Limits,
     indices: &I,
 ) -> Result<(), PushFault>
-    ensures taken { (shape : Shape) (given : ℕ → List Value)
-        → AreNodes (HasTaken (index_or_zero (I.IndexOf.index indices.now)) purpose limits.now)
+    ensures appended { (shape : Shape) (given : ℕ → List Value)
+        → AreNodes (IsColumn (index_or_zero (I.IndexOf.index indices.now)) limits.now)
         shape nodes.old given
-        → OnOk result (AreNodes (HasTaken (index_or_zero (I.IndexOf.index indices.now)) purpose
-        limits.now)
+        → OnOk result (AreNodes (IsColumn (index_or_zero (I.IndexOf.index indices.now)) limits.now)
         shape nodes.new
         (λ j. given j ++ items.now)) }
     ensures refused { (shape : Shape) (given : ℕ → List Value)
-        → AreNodes (HasTaken (index_or_zero (I.IndexOf.index indices.now)) purpose limits.now)
+        → AreNodes (IsColumn (index_or_zero (I.IndexOf.index indices.now)) limits.now)
         shape nodes.old given
         → IfErr result (ArePushesRefused limits.now shape (λ j. given j ++ items.now)) }
-    ensures kept { (known : Numbering) (limits : Limits) (shape : Shape)
-        (given : ℕ → List Value) → purpose ≡ Count
-        → AreNodes (IsColumn known limits) shape nodes.old given
-        → AreNodes (IsColumn known limits) shape nodes.new given }
-    ensures memory { purpose ≡ Count
-        → IfErr result (λ fault. ¬ (fault ≡ PushFault.OutOfMemory)) }
+    ensures begun { (shape : Shape) (given : ℕ → List Value)
+        → AreNodes (IsColumn (index_or_zero (I.IndexOf.index indices.now)) limits.now)
+        shape nodes.old given
+        → IfErr result (λ fault. ¬ (fault ≡ PushFault.OutOfMemory)
+        → AreNodes (BeginsWith (index_or_zero (I.IndexOf.index indices.now)) limits.now)
+        shape nodes.new given) }
 {
     for i in 0..nodes.len() {
-        take_all(items, &mut nodes[i], purpose, limits, indices)?;
+        append_all(items, &mut nodes[i], limits, indices)?;
     }
     Ok(())
 }
 
-// Takes or counts values, one after another, in one column. One without columns below it takes many
-// at once.
-#[cycle(take)]
-fn take_all<I: IndexOf>(
+// Appends values, one after another, to one column. A column without children takes many at once.
+#[cycle(append)]
+fn append_all<I: IndexOf>(
     values: &[Value],
     node: &mut Node,
-    purpose: Purpose,
     limits: &Limits,
     indices: &I,
 ) -> Result<(), PushFault>
-    ensures taken { (layout : Layout) (children : Shape) (before : List Value)
-        → IsNode (HasTaken (index_or_zero (I.IndexOf.index indices.now)) purpose limits.now)
+    ensures appended { (layout : Layout) (children : Shape) (before : List Value)
+        → IsNode (IsColumn (index_or_zero (I.IndexOf.index indices.now)) limits.now)
         layout children node.old before
-        → OnOk result (IsNode (HasTaken (index_or_zero (I.IndexOf.index indices.now)) purpose
-        limits.now)
+        → OnOk result (IsNode (IsColumn (index_or_zero (I.IndexOf.index indices.now)) limits.now)
         layout children node.new
         (before ++ values.now)) }
     ensures refused { (layout : Layout) (children : Shape) (before : List Value)
-        → IsNode (HasTaken (index_or_zero (I.IndexOf.index indices.now)) purpose limits.now)
+        → IsNode (IsColumn (index_or_zero (I.IndexOf.index indices.now)) limits.now)
         layout children node.old before
         → IfErr result (ArePushesRefused limits.now (field layout children bare)
         (λ j. before ++ values.now)) }
-    ensures kept { (known : Numbering) (limits : Limits) (layout : Layout)
-        (children : Shape) (before : List Value)
-        → purpose ≡ Count → IsNode (IsColumn known limits) layout children node.old before
-        → IsNode (IsColumn known limits) layout children node.new before }
-    ensures memory { purpose ≡ Count
-        → IfErr result (λ fault. ¬ (fault ≡ PushFault.OutOfMemory)) }
+    ensures begun { (layout : Layout) (children : Shape) (before : List Value)
+        → IsNode (IsColumn (index_or_zero (I.IndexOf.index indices.now)) limits.now)
+        layout children node.old before
+        → IfErr result (λ fault. ¬ (fault ≡ PushFault.OutOfMemory)
+        → IsNode (BeginsWith (index_or_zero (I.IndexOf.index indices.now)) limits.now)
+        layout children node.new before) }
 {
-    if node.is_leaf() && values.len() >= BULK_MINIMUM && purpose.keeps() {
+    if node.is_leaf() && values.len() >= BULK_MINIMUM {
         return node.column.push_all(values, limits, indices);
     }
     for value in values {
-        take(value, node, purpose, limits, indices)?;
+        append(value, node, limits, indices)?;
     }
     Ok(())
 }
 
-/// Adds or counts the value of each column, or null if there is none. The errors are those of
-/// `take`.
-#[cycle(take)]
-pub(crate) fn take_parts<I: IndexOf>(
+/// Appends the value of each column, or null if there is none. The errors are those of `append`.
+#[cycle(append)]
+pub(crate) fn append_parts<I: IndexOf>(
     parts: &[Value],
     nodes: &mut [Node],
-    purpose: Purpose,
     limits: &Limits,
     indices: &I,
 ) -> Result<(), PushFault>
-    ensures taken { (shape : Shape) (given : ℕ → List Value)
-        → AreNodes (HasTaken (index_or_zero (I.IndexOf.index indices.now)) purpose limits.now)
+    ensures appended { (shape : Shape) (given : ℕ → List Value)
+        → AreNodes (IsColumn (index_or_zero (I.IndexOf.index indices.now)) limits.now)
         shape nodes.old given
-        → OnOk result (AreNodes (HasTaken (index_or_zero (I.IndexOf.index indices.now)) purpose
-        limits.now)
+        → OnOk result (AreNodes (IsColumn (index_or_zero (I.IndexOf.index indices.now)) limits.now)
         shape nodes.new
         (λ j. given j ++ cell j parts.now ∷ [])) }
     ensures refused { (shape : Shape) (given : ℕ → List Value)
-        → AreNodes (HasTaken (index_or_zero (I.IndexOf.index indices.now)) purpose limits.now)
+        → AreNodes (IsColumn (index_or_zero (I.IndexOf.index indices.now)) limits.now)
         shape nodes.old given
         → IfErr result
         (ArePushesRefused limits.now shape (λ j. given j ++ cell j parts.now ∷ [])) }
-    ensures kept { (known : Numbering) (limits : Limits) (shape : Shape)
-        (given : ℕ → List Value) → purpose ≡ Count
-        → AreNodes (IsColumn known limits) shape nodes.old given
-        → AreNodes (IsColumn known limits) shape nodes.new given }
-    ensures memory { purpose ≡ Count
-        → IfErr result (λ fault. ¬ (fault ≡ PushFault.OutOfMemory)) }
+    ensures begun { (shape : Shape) (given : ℕ → List Value)
+        → AreNodes (IsColumn (index_or_zero (I.IndexOf.index indices.now)) limits.now)
+        shape nodes.old given
+        → IfErr result (λ fault. ¬ (fault ≡ PushFault.OutOfMemory)
+        → AreNodes (BeginsWith (index_or_zero (I.IndexOf.index indices.now)) limits.now)
+        shape nodes.new given) }
 {
     for i in 0..nodes.len() {
         match parts.get(i) {
-            Some(part) => take(part, &mut nodes[i], purpose, limits, indices)?,
-            None => take_null(&mut nodes[i], 1, purpose, limits, indices)?,
+            Some(part) => append(part, &mut nodes[i], limits, indices)?,
+            None => append_null(&mut nodes[i], 1, limits, indices)?,
         }
     }
     Ok(())

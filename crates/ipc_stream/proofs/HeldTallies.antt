@@ -2,7 +2,7 @@
 use Rattle.std.proofs.Common.{◌≡◌, ◌∙◌, refl, sym, ap, subst, ℕ, false, true, List, []}
 use Rattle.std.proofs.Common.{◌∷◌, ◌++◌, append_assoc, Option, Some, None, IsSome, inl, inr}
 use Rattle.std.proofs.Common.{true≢false}
-use Rattle.std.specs.Prelude.{◌⊎◌}
+use Rattle.std.specs.Prelude.{ℤ, ◌⊎◌}
 use Rattle.std.specs.List.{AllByRecursion}
 use Rattle.std.proofs.lemmas.List.{append-nil}
 use Rattle.ipc_model.specs.Entries.{entries}
@@ -52,7 +52,17 @@ tallied_next fields rows row =
     ap (note_all (empty_entries fields)) (pairs_end fields rows row)
     ∙ note_all-append (empty_entries fields) (rows_pairs fields rows) (row_pairs fields row)
 
--- each value of the rows keeps the index that it was told, whatever is noted behind them
+-- each value of the rows keeps the index that it got, whatever is noted after them
+same_place : (fields : List Field) (rows all : List (List Value)) (ps : Pairs)
+    → tally_of_rows fields all ≡ note_all (tally_of_rows fields rows) ps
+    → (id : ℤ) (v : Value) (o : Option ℕ) → place_of_value (tally_of_rows fields rows) id v ≡ o → IsSome o
+    → index_or_zero (place_of_value (tally_of_rows fields rows)) id v ≡ index_or_zero (place_of_value (tally_of_rows fields all)) id v
+same_place fields rows all ps next id v None e some = absurd (true≢false (sym some))
+same_place fields rows all ps next id v (Some i) e some =
+    let now : place_of_value (tally_of_rows fields all) id v ≡ Some i =
+    ap (λ t. place_of_value t id v) next ∙ keeps_places (tally_of_rows fields rows) ps id v i e in
+    ap (λ o. number_or o 0) (e ∙ sym now)
+
 places_agree : (limits : Limits) (fields : List Field) (rows all : List (List Value)) (ps : Pairs)
     → tally_of_rows fields all ≡ note_all (tally_of_rows fields rows) ps → AllByRecursion (IsFieldWellFormed limits) (entries fields)
     → AgreeOn (index_or_zero (place_of_value (tally_of_rows fields rows))) (index_or_zero (place_of_value (tally_of_rows fields all)))
@@ -61,17 +71,20 @@ places_agree limits fields rows all ps next fine =
     covered (λ bits signed id value. index_or_zero (place_of_value (tally_of_rows fields rows)) id value
     ≡ index_or_zero (place_of_value (tally_of_rows fields all)) id value)
     limits fields rows fine
-    (λ d v named pair. by d v (place_of_value (tally_of_rows fields rows) d.id v) refl
+    (λ d v named pair. same_place fields rows all ps next d.id v (place_of_value (tally_of_rows fields rows) d.id v) refl
     (pair_placed fields (rows_pairs fields rows) d v named pair))
-  where
-    by : (d : Dictionary) (v : Value) (o : Option ℕ) → place_of_value (tally_of_rows fields rows) d.id v ≡ o → IsSome o
-        → index_or_zero (place_of_value (tally_of_rows fields rows)) d.id v ≡ index_or_zero (place_of_value (tally_of_rows fields all)) d.id
-        v
-    by d v None e some = absurd (true≢false (sym some))
-    by d v (Some i) e some =
-        let now : place_of_value (tally_of_rows fields all) d.id v ≡ Some i =
-        ap (λ t. place_of_value t d.id v) next ∙ keeps_places (tally_of_rows fields rows) ps d.id v i e in
-        ap (λ o. number_or o 0) (e ∙ sym now)
+
+-- and had it before
+places_agreed : (limits : Limits) (fields : List Field) (rows all : List (List Value)) (ps : Pairs)
+    → tally_of_rows fields all ≡ note_all (tally_of_rows fields rows) ps → AllByRecursion (IsFieldWellFormed limits) (entries fields)
+    → AgreeOn (index_or_zero (place_of_value (tally_of_rows fields all))) (index_or_zero (place_of_value (tally_of_rows fields rows)))
+    fields rows
+places_agreed limits fields rows all ps next fine =
+    covered (λ bits signed id value. index_or_zero (place_of_value (tally_of_rows fields all)) id value
+    ≡ index_or_zero (place_of_value (tally_of_rows fields rows)) id value)
+    limits fields rows fine
+    (λ d v named pair. sym (same_place fields rows all ps next d.id v (place_of_value (tally_of_rows fields rows) d.id v) refl
+    (pair_placed fields (rows_pairs fields rows) d v named pair)))
 
 -- so that a builder holds the same rows under the indices with what is noted behind them
 rows_behind : (limits : Limits) (fields : List Field) (rows all : List (List Value)) (ps : Pairs) (builder : Builder)
@@ -91,6 +104,16 @@ pub rows_kept : (limits : Limits) (fields : List Field) (rows : List (List Value
 rows_kept limits fields rows row builder =
     rows_behind limits fields rows (rows ++ row ∷ []) (row_pairs fields row) builder (tallied_next fields rows row)
 
+-- and without it
+pub rows_cut : (limits : Limits) (fields : List Field) (rows : List (List Value)) (row : List Value) (builder : Builder)
+    → AllByRecursion (IsFieldWellFormed limits) (entries fields)
+    → StoresRows (index_or_zero (place_of_value (tally_of_rows fields (rows ++ row ∷ [])))) limits fields rows builder
+    → StoresRows (index_or_zero (place_of_value (tally_of_rows fields rows))) limits fields rows builder
+rows_cut limits fields rows row builder fine =
+    holds_agreeing (index_or_zero (place_of_value (tally_of_rows fields (rows ++ row ∷ []))))
+    (index_or_zero (place_of_value (tally_of_rows fields rows))) limits fields rows builder
+    (places_agreed limits fields rows (rows ++ row ∷ []) (row_pairs fields row) (tallied_next fields rows row) fine)
+
 -- a tally that noted a row has counted one row more
 pub tally_next : (limits : Limits) (fields : List Field) (rows : List (List Value)) (row : List Value) (old new : TallyState)
     → HasCounted limits fields rows old
@@ -102,6 +125,18 @@ tally_next limits fields rows row old new held noted = record {
   same_fields = ap (λ (t : TallyState). t.fields) noted ∙ held.same_fields;
   counted = ap (λ (t : TallyState). t.entries) noted ∙ (λ i. note_all (held.counted i) (row_pairs (held.same_fields i) row))
       ∙ sym (tallied_next fields rows row);
+}
+
+-- and is as before once the row is cut
+pub tally_cut : (limits : Limits) (fields : List Field) (rows : List (List Value)) (row : List Value) (old noted new : TallyState)
+    → HasCounted limits fields rows old
+    → noted ≡ record old { entries = note_all old.entries (row_pairs old.fields row); before = old.entries }
+    → new ≡ record noted { entries = noted.before } → HasCounted limits fields rows new
+tally_cut limits fields rows row old noted new held is cut = record {
+  works = ap (λ (t : TallyState). t.failed) cut ∙ (ap (λ (t : TallyState). t.failed) is ∙ held.works);
+  same_limits = ap (λ (t : TallyState). t.limits) cut ∙ (ap (λ (t : TallyState). t.limits) is ∙ held.same_limits);
+  same_fields = ap (λ (t : TallyState). t.fields) cut ∙ (ap (λ (t : TallyState). t.fields) is ∙ held.same_fields);
+  counted = ap (λ (t : TallyState). t.entries) cut ∙ (ap (λ (t : TallyState). t.before) is ∙ held.counted);
 }
 
 -- why a row isn't noted is why the batch with it is refused

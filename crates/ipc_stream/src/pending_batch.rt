@@ -111,10 +111,14 @@ impl PendingBatch {
         let Some(weight) = row_weight(schema.fields.as_slice(), row) else {
             return Err(RowRejection::DoesNotConform);
         };
-        self.builder.fits(row, weight)?;
         self.tally.note(row)?;
-        self.builder.push(row, weight, &self.tally)?;
-        Ok(())
+        match self.builder.push(row, weight, &self.tally) {
+            Ok(()) => Ok(()),
+            Err(fault) => {
+                self.tally.cut();
+                Err(RowRejection::Refused(fault))
+            }
+        }
     }
 
     // Returns the full fault for a row that was refused.

@@ -119,9 +119,8 @@ pub(crate) fn row_of(alloc: Global, text: &[u8]) -> Result<Row, AllocError> {
     Ok(close(alloc, &mut open))
 }
 
-// Adds a row if it is within the limits, by the sizes of the buffers alone.
+// Appends a row if it is within the limits, by the sizes of the buffers alone.
 fn push(builder: &mut Builder, row: &[Value]) -> Result<(), WriteFault> {
-    builder.fits(row, u64::MAX)?;
     builder.push(row, u64::MAX, &NoIndices)?;
     Ok(())
 }

@@ -13,18 +13,18 @@ rows_next : (rows : List (List Value)) (i : ℕ) (row item : List Value) → tak
     → take i rows ++ row ∷ [] ≡ take (i + 1) rows
 rows_next rows i row item more same = ap (λ (r : List Value). take i rows ++ r ∷ []) same ∙ sym more
 
-pub returns-in_err-take_parts-clause-refused : goal.returns-in_err-take_parts-clause-refused
-returns-in_err-take_parts-clause-refused g c = λ shape fresh.
+pub returns-in_err-append_parts-clause-refused : goal.returns-in_err-append_parts-clause-refused
+returns-in_err-append_parts-clause-refused g c = λ shape fresh.
     let limits = c.args.limits.now in
     let so_far = take c.loop-row.row-index c.args.rows.now in
-    let fault = c.in_err-take_parts.field-0.0 in
+    let fault = c.in_err-append_parts.field-0.0 in
     let next = columns_push so_far c.as_slice.result.now ∙ ap (λ (rs : List (List Value)). row_columns rs)
     (rows_next c.args.rows.now c.loop-row.row-index c.as_slice.result.now _
     (take_more c.args.rows.now c.loop-row.row-index c.row-item.result c.loop-row-test.true) (c.as_slice.ensures ∙ c.row-item.is)) in
-    let index_or_zero = c.in_err-take_parts.ensures.refused shape (row_columns so_far) (c.loop-row.invariant shape fresh) in
+    let refusal = c.in_err-append_parts.ensures.refused shape (row_columns so_far) (c.loop-row.invariant shape fresh) in
     let p = err_from_is_err_and c.from_residual.result c.from_residual.ensures.1 in
     rw (p.1, p.2) (first_rows_refused limits shape c.args.rows.now (c.loop-row.row-index + 1) fault
-    (subst (λ (given : ℕ → List Value). ArePushesRefused limits shape given fault) next index_or_zero))
+    (subst (λ (given : ℕ → List Value). ArePushesRefused limits shape given fault) next refusal))
 
 pub loop-row-preserved : goal.loop-row-preserved
 loop-row-preserved g c = λ shape fresh.
@@ -34,5 +34,5 @@ loop-row-preserved g c = λ shape fresh.
     (rows_next c.args.rows.now c.loop-row.row-index c.as_slice.result.now _
     (take_more c.args.rows.now c.loop-row.row-index c.row-item.result c.loop-row-test.true) (c.as_slice.ensures ∙ c.row-item.is)) in
     subst (λ (given : ℕ → List Value). HoldColumns (index_or_zero (g.I.IndexOf.index c.args.indices.now)) limits shape
-    c.take_parts.new.nodes given) next
-    (c.in_ok-take_parts.ensures.taken shape (row_columns so_far) (c.loop-row.invariant shape fresh))
+    c.append_parts.new.nodes given) next
+    (c.in_ok-append_parts.ensures.appended shape (row_columns so_far) (c.loop-row.invariant shape fresh))

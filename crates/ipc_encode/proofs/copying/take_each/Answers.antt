@@ -11,8 +11,8 @@ use Rattle.ipc_encode.proofs.Growing.{all_refused}
 use Rattle.ipc_encode.proofs.Steps.{cells_length}
 use Rattle.ipc_encode.proofs.copying.take_each.Goals as goal
 
-pub returns-in_err-take-clause-refused : goal.returns-in_err-take-clause-refused
-returns-in_err-take-clause-refused g c = λ layout children h.
+pub returns-in_err-append-clause-refused : goal.returns-in_err-append-clause-refused
+returns-in_err-append-clause-refused g c = λ layout children h.
     let limits = c.args.limits.now in
     let rows = c.args.batch.now.rows in
     let column = c.args.column in
@@ -20,9 +20,9 @@ returns-in_err-take-clause-refused g c = λ layout children h.
     let inside : row < length rows = omega (arith, c.loop-row-test.true, c.rows-row-end.ensures) in
     let is : c.in_ok-value.value ≡ cell column (get_or rows row []) = c.in_ok-value.ensures.value in
     let so_far = take row (cells column rows) in
-    let fault = c.in_err-take.field-0.0 in
-    let refused = c.in_err-take.ensures.refused layout children so_far (c.loop-row.invariant layout children h) in
-    let p = err_from_is_err_and c.from_residual-in_err-take.result c.from_residual-in_err-take.ensures.1 in
+    let fault = c.in_err-append.field-0.0 in
+    let refused = c.in_err-append.ensures.refused layout children so_far (c.loop-row.invariant layout children h) in
+    let p = err_from_is_err_and c.from_residual-in_err-append.result c.from_residual-in_err-append.ensures.1 in
     rw (p.1, p.2) (all_refused limits layout children [] (cells column rows) (row + 1) fault
     (subst (λ (vs : List Value). ArePushesRefused limits (field layout children bare) (λ j. vs) fault)
     (ap (λ (v : Value). so_far ++ v ∷ []) is ∙ cells_next column rows row inside) refused))
@@ -36,8 +36,8 @@ loop-row-preserved g c = λ layout children h.
     let is : c.in_ok-value.value ≡ cell column (get_or rows row []) = c.in_ok-value.ensures.value in
     let so_far = take row (cells column rows) in
     subst (λ (vs : List Value). IsNode (IsColumn (index_or_zero (g.I.IndexOf.index c.args.indices.now)) c.args.limits.now) layout children
-    c.take.new.node vs) (ap (λ (v : Value). so_far ++ v ∷ []) is ∙ cells_next column rows row inside)
-    (c.in_ok-take.ensures.taken layout children so_far (c.loop-row.invariant layout children h))
+    c.append.new.node vs) (ap (λ (v : Value). so_far ++ v ∷ []) is ∙ cells_next column rows row inside)
+    (c.in_ok-append.ensures.appended layout children so_far (c.loop-row.invariant layout children h))
 
 pub returns-clause-taken : goal.returns-clause-taken
 returns-clause-taken g c = λ layout children h.

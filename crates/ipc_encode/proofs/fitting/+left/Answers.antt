@@ -5,10 +5,10 @@ use Rattle.ipc_column.specs.Shapes.{Shape, bare}
 use Rattle.ipc_encode.specs.declared.tree.Node.{Node, out-Node}
 use Rattle.ipc_encode.specs.Buffers.{child_values, padded_bytes, buffers_of, column_buffers}
 use Rattle.ipc_encode.specs.declared.column.ColumnCounts.{ColumnCounts}
-use Rattle.ipc_encode.specs.Built.{AreNodes, IsNode, HasTaken, AreCountsOf}
+use Rattle.ipc_encode.specs.Built.{AreNodes, IsNode, IsColumn, AreCountsOf}
 use Rattle.ipc_model.specs.declared.limits.Limits.{Limits}
 use Rattle.ipc_model.specs.declared.value.Value.{Value}
-use Rattle.ipc_encode.proofs.Growing.{taken_laid, parts_length, at_node, first_all, bytes_next, past_next}
+use Rattle.ipc_encode.proofs.Growing.{parts_length, at_node, first_all, bytes_next, past_next}
 use Rattle.ipc_encode.proofs.fitting.+left.Goals as goal
 
 -- what a column's own buffers take
@@ -21,7 +21,7 @@ own_bytes limits own layout values counts len same counted is =
 
 pub remaining-returns-then-len-bytes-clause-none : goal.remaining-returns-then-len-bytes-clause-none
 remaining-returns-then-len-bytes-clause-none t c = λ known limits layout children values h e.
-    let laid = c.layout.ensures ∙ taken_laid known c.args.purpose limits layout values (out-Node c.args.node.now).column h.0 in
+    let laid = c.layout.ensures ∙ h.0.laid in
     let own = own_bytes limits _ layout values _ c.len-len.result laid (c.counts.ensures known limits layout values h.0)
     (c.len-len.ensures limits values) in
     let size = parts_length layout children bare (λ j. values) in
@@ -29,29 +29,29 @@ remaining-returns-then-len-bytes-clause-none t c = λ known limits layout childr
 
 pub remaining-returns-clause-left : goal.remaining-returns-clause-left
 remaining-returns-clause-left t c = λ known limits layout children values h.
-    let laid = c.layout.ensures ∙ taken_laid known c.args.purpose limits layout values (out-Node c.args.node.now).column h.0 in
+    let laid = c.layout.ensures ∙ h.0.laid in
     let own = own_bytes limits _ layout values _ c.len-len.result laid (c.counts.ensures known limits layout values h.0)
     (c.len-len.ensures limits values) in
     let size = parts_length layout children bare (λ j. values) in
-    let held = subst (λ (ns : List Node). AreNodes (HasTaken known c.args.purpose limits) children ns (child_values layout values))
+    let held = subst (λ (ns : List Node). AreNodes (IsColumn known limits) children ns (child_values layout values))
     (sym c.deref.ensures.value) h.1 in
     IfSome_then c.remaining_all.result (c.remaining_all.ensures.left known limits children (child_values layout values) held)
     (λ n e. omega (arith, own, size, e, c.if-len-bytes.false))
 
 pub remaining-returns-clause-none : goal.remaining-returns-clause-none
 remaining-returns-clause-none t c = λ known limits layout children values h e.
-    let laid = c.layout.ensures ∙ taken_laid known c.args.purpose limits layout values (out-Node c.args.node.now).column h.0 in
+    let laid = c.layout.ensures ∙ h.0.laid in
     let own = own_bytes limits _ layout values _ c.len-len.result laid (c.counts.ensures known limits layout values h.0)
     (c.len-len.ensures limits values) in
     let size = parts_length layout children bare (λ j. values) in
-    let held = subst (λ (ns : List Node). AreNodes (HasTaken known c.args.purpose limits) children ns (child_values layout values))
+    let held = subst (λ (ns : List Node). AreNodes (IsColumn known limits) children ns (child_values layout values))
     (sym c.deref.ensures.value) h.1 in
     let more = c.remaining_all.ensures.none known limits children (child_values layout values) held e in
     omega (arith, own, size, more, c.if-len-bytes.false)
 
 pub remaining_all-returns-in_err-left-clause-none : goal.remaining_all-returns-in_err-left-clause-none
 remaining_all-returns-in_err-left-clause-none t c = λ known limits shape given h e.
-    let P = HasTaken known c.args.purpose limits in
+    let P = IsColumn known limits in
     let at = at_node P c.loop-node.node-index shape c.args.nodes.now given c.node-item.result c.loop-node-test.true h in
     let held = subst (λ (n : Node). IsNode P at.0 at.1 n (given c.loop-node.node-index)) (sym c.node-item.is) at.3 in
     past_next c.loop-node.node-index shape given at.0 at.1 c.args.bytes c.loop-node.left at.2
@@ -61,7 +61,7 @@ remaining_all-returns-in_err-left-clause-none t c = λ known limits shape given 
 pub remaining_all-loop-node-preserved : goal.remaining_all-loop-node-preserved
 remaining_all-loop-node-preserved t c = record {
   left = λ known limits shape given h.
-      let P = HasTaken known c.args.purpose limits in
+      let P = IsColumn known limits in
       let at = at_node P c.loop-node.node-index shape c.args.nodes.now given c.node-item.result c.loop-node-test.true h in
       let held = subst (λ (n : Node). IsNode P at.0 at.1 n (given c.loop-node.node-index)) (sym c.node-item.is) at.3 in
       let size = bytes_next c.loop-node.node-index shape given at.0 at.1 at.2 in
@@ -72,7 +72,7 @@ remaining_all-loop-node-preserved t c = record {
 
 pub remaining_all-returns-clause-left : goal.remaining_all-returns-clause-left
 remaining_all-returns-clause-left t c = λ known limits shape given h.
-    let all = first_all (HasTaken known c.args.purpose limits) c.loop-node.node-index shape c.args.nodes.now given
+    let all = first_all (IsColumn known limits) c.loop-node.node-index shape c.args.nodes.now given
     (omega (arith, c.loop-node-test.false, c.loop-node.auto.node-index-end)) h in
     subst (λ (s : Shape). length (padded_bytes (buffers_of s given)) + c.loop-node.left ≡ c.args.bytes) all
     (c.loop-node.invariant.left known limits shape given h)

@@ -15,7 +15,7 @@ loop-node-preserved t c = λ known limits shape before h.
     let at = at_node P i shape c.args.nodes.now before c.node-item.result c.loop-node-test.true h in
     let held = subst (λ (n : Node). IsNode P at.0 at.1 n (before i)) (sym c.node-item.is) at.3 in
     let inside = subst (λ (ns : List Node). AreNodes P at.1 ns (child_values at.0 (before i))) (sym c.deref.ensures.value) held.1 in
-    let counts = c.held_counts-counts.ensures known limits at.0 (before i) held.0 in
+    let counts = c.counts-counts.ensures known limits at.0 (before i) held.0 in
     let size = weight_next 25 i shape before at.0 at.1 at.2 in
     rw add-one (omega (
       arith,

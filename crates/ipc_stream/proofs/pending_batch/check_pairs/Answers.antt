@@ -21,7 +21,7 @@ returns-in_err-parts_message c =
     let found = subst (λ (fields : List Field). Rows c.args.limits.now [] fields (batch_head 0 c.in_ok-parts.parts)
     c.in_ok-parts.parts.body.items [])
     c.as_slice.ensures
-    (c.in_ok-parts.ensures.rows [] (covered (FindsIndex [] no_indices) c.args.limits.now c.as_slice.result.now [] fine
+    (c.in_ok-parts.ensures.rows [] fine tt (covered (FindsIndex [] no_indices) c.args.limits.now c.as_slice.result.now [] fine
     (λ d v named pair. absurd (omega (arith, pair.1))))) in
     let p = err_from_is_err_and c.from_residual-in_err-parts_message.result c.from_residual-in_err-parts_message.ensures.1 in
     record {
@@ -38,7 +38,7 @@ returns c =
     let found = subst (λ (fields : List Field). Rows c.args.limits.now [] fields (batch_head 0 c.in_ok-parts.parts)
     c.in_ok-parts.parts.body.items [])
     c.as_slice.ensures
-    (c.in_ok-parts.ensures.rows [] (covered (FindsIndex [] no_indices) c.args.limits.now c.as_slice.result.now [] fine
+    (c.in_ok-parts.ensures.rows [] fine tt (covered (FindsIndex [] no_indices) c.args.limits.now c.as_slice.result.now [] fine
     (λ d v named pair. absurd (omega (arith, pair.1))))) in
     record {
       judged = (

@@ -19,9 +19,9 @@ returns-in_err-push_rows-clause-refused g c =
     let fields = c.args.fields.now in
     let fresh = subst (λ (ns : List Node). HoldColumns known limits (shape_of fields) ns (λ j. [])) (sym c.deref_mut.ensures.value)
     (c.in_ok-nodes.ensures known limits) in
-    let index_or_zero = c.in_err-push_rows.ensures.refused (shape_of fields) fresh in
+    let refusal = c.in_err-push_rows.ensures.refused (shape_of fields) fresh in
     let p = err_from_is_err_and c.from_residual-in_err-push_rows.result c.from_residual-in_err-push_rows.ensures.1 in
-    rw (p.1, p.2) (rows_refused limits fields c.args.rows.now c.in_err-push_rows.field-0.0 index_or_zero)
+    rw (p.1, p.2) (rows_refused limits fields c.args.rows.now c.in_err-push_rows.field-0.0 refusal)
 
 pub returns-in_err-check_len-clause-refused : goal.returns-in_err-check_len-clause-refused
 returns-in_err-check_len-clause-refused g c =
@@ -35,9 +35,9 @@ returns-in_err-check_len-clause-refused g c =
     let held = subst (λ (ns : List Node). HoldColumns known limits (shape_of fields) ns (row_columns rows))
     (sym (c.deref.ensures.value ∙ with_items_is c.in_ok-nodes.nodes c.push_rows.new.nodes size))
     (c.in_ok-push_rows.ensures.pushed (shape_of fields) fresh) in
-    let index_or_zero = c.in_err-check_len.ensures.refused known fields rows held in
+    let refusal = c.in_err-check_len.ensures.refused known fields rows held in
     let p = err_from_is_err_and c.from_residual-in_err-check_len.result c.from_residual-in_err-check_len.ensures.1 in
-    rw (p.1, p.2) (subst (λ (fault : WriteFault). AreRowsRefused limits fields rows fault) (sym index_or_zero.0) index_or_zero.1)
+    rw (p.1, p.2) (subst (λ (fault : WriteFault). AreRowsRefused limits fields rows fault) (sym refusal.0) refusal.1)
 
 pub returns-clause-rows : goal.returns-clause-rows
 returns-clause-rows g c =

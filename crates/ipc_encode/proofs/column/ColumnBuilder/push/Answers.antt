@@ -1,4 +1,5 @@
 use Rattle.std.proofs.Common.{◌∙◌, sym, ap, ℕ, Bool, cond, [], ◌∷◌, length-append, arith}
+use Rattle.std.proofs.lemmas.Result.{err_from_is_err_and}
 use Rattle.std.specs.Prelude.{◌&&◌}
 use Rattle.ipc_model.specs.Layouts.{has_validity}
 use Rattle.ipc_encode.specs.Cells.{is_set}
@@ -21,3 +22,15 @@ returns-clause-pushed g c = λ layout values h.
       validity_are = c.in_ok-push_validity.ensures layout values marked (sym h.slots_are) (sym h.nulls_are) h.validity_are;
       holds = c.in_ok-push.ensures.pushed values h.holds (sym h.slots_are);
     }
+
+pub returns-in_err-push-clause-kept : goal.returns-in_err-push-clause-kept
+returns-in_err-push-clause-kept g c = λ layout values h.
+    let p = err_from_is_err_and c.from_residual.result c.from_residual.ensures.1 in
+    rw (p.1, p.2) (λ other. record {
+      laid = c.in_err-push.ensures.layout ∙ h.laid;
+      slots_are = h.slots_are;
+      nulls_are = h.nulls_are;
+      few = h.few;
+      validity_are = h.validity_are;
+      holds = c.in_err-push.ensures.kept values h.holds other;
+    })

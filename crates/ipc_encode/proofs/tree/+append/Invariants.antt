@@ -1,0 +1,34 @@
+use Rattle.std.proofs.Common.{◌++◌, ℕ, List, [], ◌∷◌, take}
+use Rattle.ipc_model.specs.declared.layout.Layout.{Layout}
+use Rattle.ipc_model.specs.declared.value.Value.{Value}
+use Rattle.ipc_column.specs.Shapes.{Shape}
+use Rattle.ipc_encode.specs.Cells.{cell}
+use Rattle.ipc_encode.specs.Built.{AreNodes, IsNode, IsColumn}
+use Rattle.ipc_encode.specs.Numbers.{index_or_zero}
+use Rattle.ipc_encode.proofs.Growing.{AreMixed}
+use Rattle.ipc_encode.proofs.tree.+append.Given as goal
+
+abbrev pub invariant-append_items-loop-i : goal.invariant-append_items-loop-i
+invariant-append_items-loop-i g l = record {
+  unvisited : goal.unvisited-append_items-loop-i g l;
+  appended : (shape : Shape) (given : ℕ → List Value) → AreNodes (IsColumn (index_or_zero (g.I.IndexOf.index l.indices)) l.limits)
+      shape l.fn.nodes given
+      → AreMixed (IsColumn (index_or_zero (g.I.IndexOf.index l.indices)) l.limits)
+      (IsColumn (index_or_zero (g.I.IndexOf.index l.indices)) l.limits) l.i shape l.nodes given (λ j. given j ++ l.items);
+}
+
+abbrev pub invariant-append_parts-loop-i : goal.invariant-append_parts-loop-i
+invariant-append_parts-loop-i g l = record {
+  unvisited : goal.unvisited-append_parts-loop-i g l;
+  appended : (shape : Shape) (given : ℕ → List Value) → AreNodes (IsColumn (index_or_zero (g.I.IndexOf.index l.indices)) l.limits)
+      shape l.fn.nodes given
+      → AreMixed (IsColumn (index_or_zero (g.I.IndexOf.index l.indices)) l.limits)
+      (IsColumn (index_or_zero (g.I.IndexOf.index l.indices)) l.limits) l.i shape l.nodes given
+      (λ j. given j ++ cell j l.parts ∷ []);
+}
+
+abbrev pub invariant-append_all-loop-value : goal.invariant-append_all-loop-value
+invariant-append_all-loop-value g l = (layout : Layout) (children : Shape) (before : List Value) → IsNode
+    (IsColumn (index_or_zero (g.I.IndexOf.index l.indices)) l.limits) layout children l.fn.node before
+    → IsNode (IsColumn (index_or_zero (g.I.IndexOf.index l.indices)) l.limits) layout children l.node
+    (before ++ take l.value-index l.values)
