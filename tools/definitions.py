@@ -22,7 +22,7 @@ HEAD = """# The definitions
 
 Made by `tools/definitions.py` from the comments above the definitions. The gate compares.
 
-Contracts cite these definitions: who believes a contract believes them. They relate whole values to
+Contracts cite these definitions: to trust a contract is to trust these. They relate whole values to
 whole lists of bytes, without reading order, buffers or passes. If a function that follows the code
 exists beside a relation, its comment says so, and a proved law joins the two.
 

@@ -15,7 +15,8 @@ HEAD = """# Refused streams
 
 Each refusal that a stream can have, with the cases in which it is the only cause at the byte that
 decides. `tools/refusals.py` makes this list of the cases, and `tests/refusals` compares. F35 to
-F37 are not refusals of bytes: they follow an earlier refusal, a failed source, or want of memory.
+F37 are not refusals of bytes: they follow an earlier refusal, a failed source, or a refused
+allocation.
 
 A null count above the length of its column is also F31 in every column that has a bitmap. So the
 case of F28 for it is a null column.
