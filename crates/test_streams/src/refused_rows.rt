@@ -93,7 +93,7 @@ fn row_of(alloc: Global, row: usize) -> Result<Row, AllocError> {
     values.push(unless(row % 3 == 0, Value::List(Items::from_vec(truths))))?;
     let width = if row % 10 == 9 { 2 } else { 3 };
     values.push(unless(row % 5 == 0, bytes(alloc, width)?))?;
-    values.push(unless(row % 11 == 0, bytes(alloc, row * 7 % 23)?))?;
+    values.push(unless(row % 11 == 0, bytes(alloc, row % 23 * 7 % 23)?))?;
     Ok(Items::from_vec(values))
 }
 
@@ -138,31 +138,30 @@ fn is_refused_with(
     fault: &WriteFault,
 ) -> Result<bool, WriteFault> {
     match written(alloc, body, rows) {
-        Ok(_) => Ok(false),
-        Err(WriteFault::OutOfMemory) => Err(WriteFault::OutOfMemory),
-        Err(other) => Ok(other == *fault),
+        Ok(_stream) => Ok(false),
+        Err(other) => {
+            if other == WriteFault::OutOfMemory {
+                return Err(other);
+            }
+            Ok(other == *fault)
+        }
     }
 }
 
-// The rows of a batch that was pushed, and its stream.
-#[derive(Drop)]
-struct Pushed {
-    rows: Vec<Row>,
-    stream: Vec<u8>,
-}
-
-// Pushes all rows. Returns None if a row is refused with another fault than a batch of the rows
-// before it and of this one.
-fn push_rows(alloc: Global, body: u64) -> Result<Option<Pushed>, WriteFault> {
-    let mut writer = start(alloc, body)?;
+// Pushes all rows into a batch, and sends it. Returns the rows that were taken, or None if a row is
+// refused with another fault than a batch of the rows before it and of this one.
+fn push_rows(
+    alloc: Global,
+    body: u64,
+    writer: &mut StreamWriter<Memory>,
+) -> Result<Option<Vec<Row>>, WriteFault> {
     let mut rows = Vec::new(alloc);
     let mut batch = writer.batch(Items::new(alloc))?;
     for number in 0..ROWS {
-        rows.push(row_of(alloc, number)?)?;
-        let Some(row) = rows.last() else {
-            return Ok(None);
-        };
-        if let Err(fault) = batch.push(row.as_slice()) {
+        let row = row_of(alloc, number)?;
+        let answer = batch.push(row.as_slice());
+        rows.push(row)?;
+        if let Err(fault) = answer {
             if !is_refused_with(alloc, body, &rows, &fault)? {
                 return Ok(None);
             }
@@ -170,25 +169,34 @@ fn push_rows(alloc: Global, body: u64) -> Result<Option<Pushed>, WriteFault> {
         }
     }
     batch.send()?;
-    let stream = writer.finish()?.into_bytes();
-    Ok(Some(Pushed { rows, stream }))
+    Ok(Some(rows))
 }
 
 // The number of rows that a writer takes whose body may have this number of bytes. None if its
-// refusals or its stream are not those of these rows alone. No row is taken by a writer whose
-// limits refuse a batch without rows.
+// refusals or its stream are not those of these rows alone.
+fn count_taken(alloc: Global, body: u64) -> Result<Option<usize>, WriteFault> {
+    let mut writer = start(alloc, body)?;
+    let Some(rows) = push_rows(alloc, body, &mut writer)? else {
+        return Ok(None);
+    };
+    let stream = writer.finish()?.into_bytes();
+    let alone = written(alloc, body, &rows)?;
+    if stream.as_slice() != alone.as_slice() {
+        return Ok(None);
+    }
+    Ok(Some(rows.len()))
+}
+
+// The same number. No row is taken by a writer whose limits refuse a batch without rows.
 fn rows_taken(alloc: Global, body: u64) -> Result<Option<usize>, WriteFault> {
-    match push_rows(alloc, body) {
-        Ok(Some(Pushed { rows, stream })) => {
-            let alone = written(alloc, body, &rows)?;
-            if stream.as_slice() != alone.as_slice() {
-                return Ok(None);
+    match count_taken(alloc, body) {
+        Ok(count) => Ok(count),
+        Err(fault) => {
+            if fault == WriteFault::TooLong {
+                return Ok(Some(0));
             }
-            Ok(Some(rows.len()))
+            Err(fault)
         }
-        Ok(None) => Ok(None),
-        Err(WriteFault::TooLong) => Ok(Some(0)),
-        Err(fault) => Err(fault),
     }
 }
 
