@@ -129,6 +129,44 @@ uint32_t arrowstream_reader_close(arrowstream_reader *reader, arrowstream_progre
 uint32_t arrowstream_reader_schema(const arrowstream_reader *reader, uint8_t *text, size_t length,
                                    size_t *wanted);
 
+typedef struct {
+    uint32_t is_nullable; /* 1 if values may be null, else 0 */
+    uint32_t index_bits;  /* 8, 16, 32 or 64 for the indices of a dictionary, else 0 */
+    uint32_t is_signed;   /* 1 for indices in two's complement, else 0 */
+    uint32_t is_ordered;  /* 1 if the order of the dictionary's values is meaningful, else 0 */
+    int64_t dictionary;   /* the id of the dictionary, or 0 without one */
+    size_t children;      /* fields below it */
+    size_t pairs;         /* pairs of key and value */
+} arrowstream_field;
+
+/* Describes a field of the schema. The first of the `steps` numbers of `path` is the number of a
+ * field, from 0. Each further number leads to the child of that number. An empty path leads to the
+ * schema as a whole, which is described as a struct of its fields.
+ *
+ * Returns ARROWSTREAM_OK, or ARROWSTREAM_ABSENT before the schema came, or if the path leads to no
+ * field; then `out` is left as it is. The reader stays as it is. */
+uint32_t arrowstream_reader_field(const arrowstream_reader *reader, const uint64_t *path,
+                                  size_t steps, arrowstream_field *out);
+
+/* The texts of a field. A format string states a type as the Arrow C data interface does ("Data
+ * type description -- format strings"): that of the indices if the field has a dictionary. Key and
+ * value are those of a pair. The schema as a whole has an empty name and the format of a struct. */
+enum {
+    ARROWSTREAM_FIELD_NAME = 0,
+    ARROWSTREAM_FIELD_FORMAT = 1,
+    ARROWSTREAM_FIELD_VALUES_FORMAT = 2, /* of the dictionary's values */
+    ARROWSTREAM_FIELD_KEY = 3,
+    ARROWSTREAM_FIELD_VALUE = 4
+};
+
+/* Copies a text of the field to which a path leads (see arrowstream_reader_field). `pair` is the
+ * number of the pair, from 0, and is not used for other texts. `bytes`, `length`, `wanted` and the
+ * result are as in arrowstream_reader_schema; ARROWSTREAM_ABSENT also if there is no such field or
+ * text. */
+uint32_t arrowstream_reader_field_text(const arrowstream_reader *reader, const uint64_t *path,
+                                       size_t steps, uint32_t text, uint64_t pair, uint8_t *bytes,
+                                       size_t length, size_t *wanted);
+
 /* Copies the line of the first refusal, such as "F4 Truncated at message 2", as the program prints
  * it, without a line feed. `text`, `length`, `wanted` and the result are as in
  * arrowstream_reader_schema; ARROWSTREAM_ABSENT before a refusal. */

@@ -92,6 +92,44 @@ static copied text_of(arrowstream_reader *reader, reader_text *of_reader, arrows
     return text;
 }
 
+/* Copies a text of a field, first with no room, and mixes it in. */
+static void read_field_text(arrowstream_reader *reader, const uint64_t *path, size_t steps,
+                            uint32_t number, uint64_t pair, uint32_t expected, answer *all) {
+    size_t wanted = 0, again = 0;
+    uint32_t status =
+        arrowstream_reader_field_text(reader, path, steps, number, pair, NULL, 0, &wanted);
+    if (!is_done(status, expected) && wanted != 0) stop("a text of a field without memory");
+    copied text = room_for(wanted);
+    status = arrowstream_reader_field_text(reader, path, steps, number, pair, text.bytes, wanted,
+                                           &again);
+    check_room(&text);
+    if (is_done(status, expected) && again != wanted && wanted != 0)
+        stop("another size of a text of a field");
+    mix(all, text.bytes, text.count);
+    free(text.bytes);
+}
+
+/* Reads the field at a path and all below it. */
+static void read_field(arrowstream_reader *reader, uint64_t *path, size_t steps, answer *all) {
+    arrowstream_field field, none;
+    memset(&field, 0, sizeof field);
+    is_done(arrowstream_reader_field(reader, path, steps, &field), ARROWSTREAM_OK);
+    mix(all, &field, sizeof field);
+    uint32_t values = field.index_bits ? ARROWSTREAM_OK : ARROWSTREAM_ABSENT;
+    read_field_text(reader, path, steps, ARROWSTREAM_FIELD_NAME, 0, ARROWSTREAM_OK, all);
+    read_field_text(reader, path, steps, ARROWSTREAM_FIELD_FORMAT, 0, ARROWSTREAM_OK, all);
+    read_field_text(reader, path, steps, ARROWSTREAM_FIELD_VALUES_FORMAT, 0, values, all);
+    read_field_text(reader, path, steps, 5, 0, ARROWSTREAM_ABSENT, all);
+    for (uint64_t pair = 0; pair <= field.pairs; pair++) {
+        uint32_t expected = pair < field.pairs ? ARROWSTREAM_OK : ARROWSTREAM_ABSENT;
+        read_field_text(reader, path, steps, ARROWSTREAM_FIELD_KEY, pair, expected, all);
+        read_field_text(reader, path, steps, ARROWSTREAM_FIELD_VALUE, pair, expected, all);
+    }
+    for (path[steps] = 0; path[steps] < field.children; path[steps]++)
+        read_field(reader, path, steps + 1, all);
+    is_done(arrowstream_reader_field(reader, path, steps + 1, &none), ARROWSTREAM_ABSENT);
+}
+
 static void read_buffer(arrowstream_batch *batch, const uint64_t *path, size_t steps,
                         uint32_t buffer, size_t count, answer *all) {
     size_t wanted = 0;
@@ -214,13 +252,18 @@ static uint32_t read_stream(const uint8_t *bytes, size_t count, size_t piece, in
         told++;
         return ARROWSTREAM_OUT_OF_MEMORY;
     }
+    arrowstream_field none;
+    is_done(arrowstream_reader_field(reader, NULL, 0, &none), ARROWSTREAM_ABSENT);
     uint32_t status = feed(reader, bytes, count, piece, &all, &last);
     told += status == ARROWSTREAM_OUT_OF_MEMORY;
     copied line = text_of(reader, arrowstream_reader_line, NULL, NULL,
                           status == ARROWSTREAM_OK ? ARROWSTREAM_ABSENT : ARROWSTREAM_OK);
     copied schema = {NULL, 0};
-    if (status == ARROWSTREAM_OK)
+    if (status == ARROWSTREAM_OK) {
+        uint64_t path[MOST_STEPS];
         schema = text_of(reader, arrowstream_reader_schema, NULL, NULL, ARROWSTREAM_OK);
+        read_field(reader, path, 0, &all);
+    }
     arrowstream_reader_free(reader);
     if (last) {
         read_batch(last, &all);
@@ -289,6 +332,12 @@ static void call_at_null(void) {
     if (arrowstream_batch_column(NULL, path, 1, &column) != ARROWSTREAM_MISUSE
         || memcmp(as_it_was, &column, sizeof column) != 0)
         stop("a column of NULL");
+    arrowstream_field field = {7, 7, 7, 7, 7, 7, 7};
+    if (arrowstream_reader_field(NULL, path, 1, &field) != ARROWSTREAM_MISUSE || field.pairs != 7
+        || arrowstream_reader_field_text(NULL, path, 1, 0, 0, &byte, 1, &wanted[0])
+               != ARROWSTREAM_MISUSE
+        || wanted[0] != 0 || byte != FILL)
+        stop("a field of NULL");
     arrowstream_reader_free(NULL);
     arrowstream_batch_free(NULL);
 }

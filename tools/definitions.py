@@ -35,8 +35,8 @@ stream denotes. A definition that only proofs use is on no page.
 On a page, a heading such as `ipc_scalar` is the crate, and `Bytes` is the module
 `specs/Bytes.antt` of the crate above it. In parentheses is the place in the public standard that a
 definition states: the Arrow Columnar Format 1.x, its metadata schemas Schema.fbs and Message.fbs at
-version V5, the FlatBuffers binary format, or an RFC. A definition without one is this project's
-own, such as a limit, or what a call did.
+version V5, the Arrow C data interface, the FlatBuffers binary format, or an RFC. A definition
+without one is this project's own, such as a limit, or what a call did.
 
 The streams of `samples/` and `cases/` test the definitions from outside. They were laid out from
 the standard, not by this project's writer, and are read by the calls whose contracts cite these
@@ -66,7 +66,10 @@ PAGES = [
     ("LAYERS", "The layers below", "the calls by which the crates use one another",
      ["*/src/*.rt"]),
 ]
-SOURCE = r"Schema\.fbs|Message\.fbs|Arrow Columnar Format|{}FlatBuffers binary format|RFC \d+"
+SOURCE = (
+    r"Schema\.fbs|Message\.fbs|Arrow Columnar Format|Arrow C data interface"
+    r"|{}FlatBuffers binary format|RFC \d+"
+)
 STANDARD = re.compile(SOURCE.format(""))
 SECTION = re.compile(
     rf'((?:{SOURCE.format("Arrow|")})'

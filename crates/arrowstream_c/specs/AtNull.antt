@@ -2,6 +2,7 @@
 use Rattle.std.specs.Prelude.{◌≡◌, ℕ, List}
 use Rattle.arrowstream_c.specs.Handles.{misuse}
 use Rattle.arrowstream_c.specs.declared.answers.Column.{Column}
+use Rattle.arrowstream_c.specs.declared.answers.FieldNumbers.{FieldNumbers}
 use Rattle.arrowstream_c.specs.declared.answers.Progress.{Progress}
 
 -- no byte is copied, and none is wanted
@@ -11,6 +12,10 @@ RefusesText old new wanted status = (status ≡ misuse) × (new ≡ old) × (wan
 -- no column is described
 abbrev pub RefusesColumn : Column → Column → ℕ → Type 0
 RefusesColumn old new status = (status ≡ misuse) × (new ≡ old)
+
+-- no field is described
+abbrev pub RefusesField : FieldNumbers → FieldNumbers → ℕ → Type 0
+RefusesField old new status = (status ≡ misuse) × (new ≡ old)
 
 -- nothing was taken, and nothing came
 pub record IsNowhere (out : Progress) (status : ℕ) : Type 0 where

@@ -7,21 +7,26 @@ use Rattle.ipc_model.specs.declared.fault.Fault.{Fault}
 use Rattle.ipc_model.specs.declared.fault.Fault.TheVariants.{OutOfMemory}
 use Rattle.ipc_model.specs.Numbering.{fault_number}
 use Rattle.ipc_text_json.specs.SchemaJson.{pairs_text}
-use Rattle.ipc_stream_read.specs.Decoding.{Wants}
+use Rattle.ipc_stream_read.specs.Decoding.{Wants, schema_of}
 use Rattle.ipc_stream_read.specs.declared.end.End.{End}
 use Rattle.ipc_stream_session.specs.declared.arrival.Arrival.{Arrival}
 use Rattle.ipc_stream_session.specs.declared.batch.ReadBatch.{ReadBatch}
 use Rattle.ipc_stream_session.specs.declared.buffer.BufferKind.{BufferKind}
 use Rattle.ipc_stream_session.specs.declared.column.ColumnFacts.{ColumnFacts}
+use Rattle.ipc_stream_session.specs.declared.field.FieldFacts.{FieldFacts}
+use Rattle.ipc_stream_session.specs.declared.field.FieldText.{FieldText}
 use Rattle.ipc_stream_session.specs.declared.session.ReadSession.{ReadSession}
 use Rattle.ipc_stream_session.specs.Copies.{Copies}
+use Rattle.ipc_stream_session.specs.Fields.{FindsFieldIn, FindsTextIn}
 use Rattle.ipc_stream_session.specs.Paths.{FindsBuffer, FindsColumn}
 use Rattle.ipc_stream_session.specs.Sessions as s
 use Rattle.arrowstream_c.specs.declared.answers.Column.{Column}
+use Rattle.arrowstream_c.specs.declared.answers.FieldNumbers.{FieldNumbers}
 use Rattle.arrowstream_c.specs.declared.answers.Progress.{Progress}
 use Rattle.arrowstream_c.specs.declared.answers.ReadLimits.{ReadLimits}
 use Rattle.arrowstream_c.specs.Numbers.{absent, AreCapped, Shows}
-use Rattle.arrowstream_c.specs.Numbers.{arrival_number, end_number, IsBuffer}
+use Rattle.arrowstream_c.specs.Numbers.{ShowsField, arrival_number, end_number, IsBuffer}
+use Rattle.arrowstream_c.specs.Numbers.{IsFieldText}
 
 -- a new reader within the limits that were asked for, or none because memory ran out
 abbrev pub OpensReader : ReadLimits → Option ReadSession → Type 0
@@ -76,6 +81,33 @@ CopiesLine was is old new wanted status = (is ≡ was)
     × ((answer : Result (Option (String Global)) Fault)
     × s.GivesLine was.refusal answer × GivesText answer old new wanted status)
 
+-- the numbers of the field that was found, if there is one
+abbrev pub IsFieldAnswer : Option FieldFacts → FieldNumbers → FieldNumbers → ℕ → Type 0
+IsFieldAnswer None old new status = (status ≡ absent) × (new ≡ old)
+IsFieldAnswer (Some facts) old new status = (status ≡ 0) × ShowsField facts new
+
+-- C is told of the field to which the path leads; the reader stays
+abbrev pub DescribesField : ReadSession → List ℕ → ReadSession → FieldNumbers → FieldNumbers → ℕ
+    → Type 0
+DescribesField was path is old new status = (is ≡ was) × ((answer : Option FieldFacts)
+    × FindsFieldIn (schema_of was.decoder.state) path answer × IsFieldAnswer answer old new status)
+
+-- a text of the field to which the path leads is copied, if there is such a text
+abbrev pub GivesFieldText : ReadSession → List ℕ → Option FieldText → List ℕ → List ℕ → ℕ → ℕ
+    → Type 0
+GivesFieldText s path None old new wanted status = (status ≡ absent) × (new ≡ old) × (wanted ≡ 0)
+GivesFieldText s path (Some text) old new wanted status =
+    (answer : Result (Option (String Global)) Fault)
+    × FindsTextIn (schema_of s.decoder.state) path text answer
+    × GivesText answer old new wanted status
+
+-- the text of this number is copied; the reader stays
+abbrev pub CopiesFieldText : ReadSession → List ℕ → ℕ → ℕ → ReadSession → List ℕ → List ℕ → ℕ → ℕ
+    → Type 0
+CopiesFieldText was path number pair is old new wanted status = (is ≡ was)
+    × ((text : Option FieldText) × IsFieldText number pair text
+    × GivesFieldText was path text old new wanted status)
+
 -- the batch is held and the status is 0, or memory ran out
 abbrev pub MayHold : ReadBatch → Option ReadBatch → ℕ → Type 0
 MayHold batch None status = status ≡ fault_number OutOfMemory
@@ -91,9 +123,10 @@ IsTaken (Some last) found status = MayHold last found status
 abbrev pub TakesBatch : ReadSession → ReadSession → Option ReadBatch → ℕ → Type 0
 TakesBatch was is found status = (is ≡ record was { batch = None }) × IsTaken was.batch found status
 
--- the state of the stream stays: only the room for the next body may be another
-abbrev pub TakesBack : ReadSession → ReadSession → Type 0
-TakesBack was is = is ≡ record was { decoder = record was.decoder { room = is.decoder.room } }
+-- the reader takes a batch back as `ReadSession::reuse` does; null changes nothing
+abbrev pub TakesBack : Option ReadBatch → ReadSession → ReadSession → Type 0
+TakesBack None was is = is ≡ was
+TakesBack (Some batch) was is = s.TakesBack was is
 
 -- the number of rows; the batch stays
 abbrev pub AreRows : ReadBatch → ReadBatch → ℕ → Type 0

@@ -3,6 +3,7 @@ use Rattle.std.specs.Prelude.{◌≡◌, ◌<◌, ◌≤◌, ℕ, ℤ, pos, Bool
 use Rattle.ipc_model.specs.declared.layout.Layout.{Layout}
 use Rattle.ipc_model.specs.declared.layout.Layout.TheVariants as l
 use Rattle.ipc_model.specs.declared.limits.Limits.{Limits}
+use Rattle.ipc_model.specs.declared.schema.Dictionary.{Dictionary}
 use Rattle.ipc_model.specs.MaxLimits.{max_metadata, max_body, max_slots}
 use Rattle.ipc_model.specs.MaxLimits.{max_fields, max_depth, max_text, max_pairs}
 use Rattle.ipc_model.specs.Ranges.{width}
@@ -14,7 +15,11 @@ use Rattle.ipc_stream_session.specs.declared.arrival.Arrival.TheVariants as arri
 use Rattle.ipc_stream_session.specs.declared.buffer.BufferKind.{BufferKind}
 use Rattle.ipc_stream_session.specs.declared.buffer.BufferKind.TheVariants as kind
 use Rattle.ipc_stream_session.specs.declared.column.ColumnFacts.{ColumnFacts}
+use Rattle.ipc_stream_session.specs.declared.field.FieldFacts.{FieldFacts}
+use Rattle.ipc_stream_session.specs.declared.field.FieldText.{FieldText}
+use Rattle.ipc_stream_session.specs.declared.field.FieldText.TheVariants as text
 use Rattle.arrowstream_c.specs.declared.answers.Column.{Column}
+use Rattle.arrowstream_c.specs.declared.answers.FieldNumbers.{FieldNumbers}
 use Rattle.arrowstream_c.specs.declared.answers.LayoutNumbers.{LayoutNumbers}
 use Rattle.arrowstream_c.specs.declared.answers.ReadLimits.{ReadLimits}
 
@@ -63,6 +68,15 @@ pub record IsBuffer (number : ℕ) (found : Option BufferKind) : Type 0 where
   pub values : number ≡ 2 → found ≡ Some kind.Values
   pub none : 2 < number → found ≡ None
 
+-- the text of a number: of 0 to 4 alone. The second number is that of a pair
+pub record IsFieldText (number pair : ℕ) (found : Option FieldText) : Type 0 where
+  pub name : number ≡ 0 → found ≡ Some text.Name
+  pub format : number ≡ 1 → found ≡ Some text.Format
+  pub values_format : number ≡ 2 → found ≡ Some text.ValuesFormat
+  pub key : number ≡ 3 → found ≡ Some (text.Key pair)
+  pub value : number ≡ 4 → found ≡ Some (text.Value pair)
+  pub none : 4 < number → found ≡ None
+
 -- 1 for what holds, else 0
 abbrev pub bit_of : Bool → ℕ
 bit_of true = 1
@@ -99,3 +113,24 @@ pub record Shows (facts : ColumnFacts) (c : Column) : Type 0 where
   pub validity : c.validity ≡ facts.validity
   pub offsets : c.offsets ≡ facts.offsets
   pub values : c.values ≡ facts.values
+
+-- the numbers of a dictionary's indices
+pub record HasIndices (n : FieldNumbers) (bits is_signed is_ordered : ℕ) (dictionary : ℤ) :
+    Type 0 where
+  pub bits_are : n.index_bits ≡ bits
+  pub is_signed_is : n.is_signed ≡ is_signed
+  pub is_ordered_is : n.is_ordered ≡ is_ordered
+  pub dictionary_is : n.dictionary ≡ dictionary
+
+-- the numbers of a field's dictionary, or zeros if it has none
+abbrev pub ShowsDictionary : Option Dictionary → FieldNumbers → Type 0
+ShowsDictionary None n = HasIndices n 0 0 0 (pos 0)
+ShowsDictionary (Some d) n =
+    HasIndices n (width d.index.bits) (bit_of d.index.signed) (bit_of d.ordered) d.id
+
+-- the numbers of a field are these facts
+pub record ShowsField (facts : FieldFacts) (n : FieldNumbers) : Type 0 where
+  pub nullable : n.is_nullable ≡ bit_of facts.nullable
+  pub dictionary : ShowsDictionary facts.dictionary n
+  pub children : n.children ≡ facts.children
+  pub pairs : n.pairs ≡ facts.pairs

@@ -2,14 +2,15 @@
 ghost use Rattle.std.specs.Prelude.{◌≡◌};
 ghost use Rattle.ipc_model.specs.Numbering.{fault_number};
 ghost use Rattle.arrowstream_c.specs.Numbers.{AreCapped, AreStandard, Caps, IsLayout, Shows};
-ghost use Rattle.arrowstream_c.specs.Numbers.{arrival_number, end_number};
+ghost use Rattle.arrowstream_c.specs.Numbers.{ShowsDictionary, ShowsField, arrival_number};
+ghost use Rattle.arrowstream_c.specs.Numbers.{end_number};
 
 use ipc_model::{
-    Fault, Layout, Limits, MAX_BODY, MAX_DEPTH, MAX_FIELDS, MAX_METADATA, MAX_PAIRS, MAX_SLOTS,
-    MAX_TEXT,
+    Dictionary, Fault, Layout, Limits, MAX_BODY, MAX_DEPTH, MAX_FIELDS, MAX_METADATA, MAX_PAIRS,
+    MAX_SLOTS, MAX_TEXT,
 };
 use ipc_stream_read::End;
-use ipc_stream_session::{Arrival, ColumnFacts};
+use ipc_stream_session::{Arrival, ColumnFacts, FieldFacts};
 
 /// The status of a call that finds nothing: no refusal of the reader has this number.
 pub(crate) const ABSENT: u32 = 64;
@@ -87,6 +88,26 @@ pub struct Column {
     pub offsets: usize,
     /// The number of bytes of the values.
     pub values: usize,
+}
+
+/// What a field is, without its texts.
+#[repr(C)]
+#[derive(Drop)]
+pub struct FieldNumbers {
+    /// 1 if its values may be null, else 0.
+    pub is_nullable: u32,
+    /// The number of bits of its dictionary's indices, or 0 if it has no dictionary.
+    pub index_bits: u32,
+    /// 1 if the indices are stored in two's complement, else 0.
+    pub is_signed: u32,
+    /// 1 if the order of the dictionary's values is meaningful, else 0.
+    pub is_ordered: u32,
+    /// The id of the dictionary, or 0 if it has none.
+    pub dictionary: i64,
+    /// The number of children.
+    pub children: usize,
+    /// The number of pairs of key and value.
+    pub pairs: usize,
 }
 
 // The value, or `most` if it is above.
@@ -209,4 +230,39 @@ impl Column {
             values: facts.values,
         }
     }
+}
+
+impl FieldNumbers {
+    // The numbers of a field.
+    pub(crate) fn of(facts: &FieldFacts) -> FieldNumbers
+        ensures { ShowsField facts.now result }
+    {
+        let mut numbers = dictionary_numbers(facts.dictionary);
+        numbers.is_nullable = u32::from(facts.nullable);
+        numbers.children = facts.children;
+        numbers.pairs = facts.pairs;
+        numbers
+    }
+}
+
+// The numbers of a field's dictionary, if it has one, and nothing else.
+fn dictionary_numbers(dictionary: Option<Dictionary>) -> FieldNumbers
+    ensures { ShowsDictionary dictionary result }
+{
+    let mut numbers = FieldNumbers {
+        is_nullable: 0,
+        index_bits: 0,
+        is_signed: 0,
+        is_ordered: 0,
+        dictionary: 0,
+        children: 0,
+        pairs: 0,
+    };
+    if let Some(dictionary) = dictionary {
+        numbers.index_bits = u32::from(dictionary.index.bits.width());
+        numbers.is_signed = u32::from(dictionary.index.signed);
+        numbers.is_ordered = u32::from(dictionary.ordered);
+        numbers.dictionary = dictionary.id;
+    }
+    numbers
 }

@@ -1,7 +1,8 @@
 //! What calls answer at a null handle, where they have more to answer than a number.
-ghost use Rattle.arrowstream_c.specs.AtNull.{IsNowhere, RefusesColumn, RefusesText, TakesNothing};
+ghost use Rattle.arrowstream_c.specs.AtNull.{IsNowhere, RefusesColumn, RefusesField, RefusesText};
+ghost use Rattle.arrowstream_c.specs.AtNull.{TakesNothing};
 
-use crate::answers::{Column, MISUSE, Progress};
+use crate::answers::{Column, FieldNumbers, MISUSE, Progress};
 
 // Copies no byte, and wants none.
 pub(crate) fn no_text(text: &mut [u8], wanted: &mut usize) -> u32
@@ -15,6 +16,14 @@ pub(crate) fn no_text(text: &mut [u8], wanted: &mut usize) -> u32
 // Describes no column.
 pub(crate) fn no_column(out: &mut Column) -> u32
     ensures { RefusesColumn out.old out.new result }
+{
+    let _out = out;
+    MISUSE
+}
+
+// Describes no field.
+pub(crate) fn no_field(out: &mut FieldNumbers) -> u32
+    ensures { RefusesField out.old out.new result }
 {
     let _out = out;
     MISUSE

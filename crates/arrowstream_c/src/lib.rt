@@ -11,10 +11,12 @@ ghost use Rattle.std.specs.Borrow.{sem};
 ghost use Rattle.ipc_stream_session.specs.declared.batch.ReadBatch.{ReadBatch};
 ghost use Rattle.ipc_stream_session.specs.declared.session.ReadSession.{ReadSession};
 ghost use Rattle.ipc_stream_session.specs.declared.write_session.WriteSession.{WriteSession};
-ghost use Rattle.arrowstream_c.specs.AtNull.{IsNowhere, RefusesColumn, RefusesText, TakesNothing};
-ghost use Rattle.arrowstream_c.specs.Calls.{AreRows, AreColumns, Closes, CopiesBuffer, CopiesLine};
-ghost use Rattle.arrowstream_c.specs.Calls.{CopiesPairs, CopiesSchema, DescribesColumn, Feeds};
-ghost use Rattle.arrowstream_c.specs.Calls.{OpensReader, TakesBack, TakesBatch};
+ghost use Rattle.arrowstream_c.specs.AtNull.{IsNowhere, RefusesColumn, RefusesField, RefusesText};
+ghost use Rattle.arrowstream_c.specs.AtNull.{TakesNothing};
+ghost use Rattle.arrowstream_c.specs.Calls.{AreRows, AreColumns, Closes, CopiesBuffer};
+ghost use Rattle.arrowstream_c.specs.Calls.{CopiesFieldText, CopiesLine, CopiesPairs, CopiesSchema};
+ghost use Rattle.arrowstream_c.specs.Calls.{DescribesColumn, DescribesField, Feeds, OpensReader};
+ghost use Rattle.arrowstream_c.specs.Calls.{TakesBack, TakesBatch};
 ghost use Rattle.arrowstream_c.specs.Handles.{OfHandle, OfHandles, batch_or_null, misuse};
 ghost use Rattle.arrowstream_c.specs.Handles.{reader_or_null, writer_or_null};
 ghost use Rattle.arrowstream_c.specs.Numbers.{AreStandard};
@@ -30,7 +32,7 @@ mod reader_calls;
 mod writer;
 mod writer_calls;
 
-use answers::{Column, MISUSE, Progress, ReadLimits};
+use answers::{Column, FieldNumbers, MISUSE, Progress, ReadLimits};
 use batch::BatchHandle;
 use block::Block;
 use ipc_stream_session::{ReadBatch, ReadSession, WriteSession};
@@ -136,6 +138,58 @@ pub unsafe extern "C" fn arrowstream_reader_schema(
     reader_calls::schema(&mut *(reader as *mut ReadSession), text, wanted)
 }
 
+/// Describes the field of the schema to which a path leads. Returns 0, or `ABSENT` before the
+/// schema came, or if the path leads to no field.
+#[unsafe(no_mangle)]
+pub unsafe extern "C" fn arrowstream_reader_field(
+    reader: *mut u8,
+    path: &[u64],
+    out: &mut FieldNumbers,
+) -> u32
+    ghost was: { Option ReadSession }
+    requires* { sem 𝓛 (reader_or_null reader was) }
+    ensures* { ∃ₛ (λ (is : Option ReadSession). sem 𝓛 (reader_or_null reader is)
+        ∗ ⌜ OfHandle (λ was is. DescribesField was path.now is out.old out.new result)
+        (RefusesField out.old out.new result) was is ⌝) }
+{
+    if reader.is_null() {
+        return at_null::no_field(out);
+    }
+    reader_calls::field(&mut *(reader as *mut ReadSession), path, out)
+}
+
+/// Copies a text of the field to which a path leads: 0 name, 1 format string, 2 format string of
+/// the dictionary's values, 3 key and 4 value of a pair. Returns 0, or `ABSENT` if there is no such
+/// field or text, or 37 if memory ran out.
+#[unsafe(no_mangle)]
+pub unsafe extern "C" fn arrowstream_reader_field_text(
+    reader: *mut u8,
+    path: &[u64],
+    number: u32,
+    pair: u64,
+    text: &mut [u8],
+    wanted: &mut usize,
+) -> u32
+    ghost was: { Option ReadSession }
+    requires* { sem 𝓛 (reader_or_null reader was) }
+    ensures* { ∃ₛ (λ (is : Option ReadSession). sem 𝓛 (reader_or_null reader is)
+        ∗ ⌜ OfHandle (λ was is. CopiesFieldText was path.now number pair is text.old text.new
+        wanted.new result)
+        (RefusesText text.old text.new wanted.new result) was is ⌝) }
+{
+    if reader.is_null() {
+        return at_null::no_text(text, wanted);
+    }
+    reader_calls::field_text(
+        &mut *(reader as *mut ReadSession),
+        path,
+        number,
+        pair,
+        text,
+        wanted,
+    )
+}
+
 /// Copies the line of the first refusal. Returns 0, `ABSENT` before a refusal, or 37 if memory ran
 /// out.
 #[unsafe(no_mangle)]
@@ -186,7 +240,7 @@ pub unsafe extern "C" fn arrowstream_reader_reuse(alloc: Global, reader: *mut u8
     ghost was: { Option ReadSession × Option ReadBatch }
     requires* { sem 𝓛 (reader_or_null reader was.0) ∗ sem 𝓛 (batch_or_null batch was.1) }
     ensures* { ∃ₛ (λ (is : Option ReadSession). sem 𝓛 (reader_or_null reader is)
-        ∗ ⌜ OfHandle (λ was is. TakesBack was is) ⊤ was.0 is ⌝) }
+        ∗ ⌜ OfHandle (TakesBack was.1) ⊤ was.0 is ⌝) }
 {
     if reader.is_null() {
         arrowstream_batch_free(alloc, batch);

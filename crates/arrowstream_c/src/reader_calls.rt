@@ -1,12 +1,14 @@
 //! What each export of a reader does with it.
-ghost use Rattle.arrowstream_c.specs.Calls.{Closes, CopiesLine, CopiesSchema, Feeds, GivesText};
-ghost use Rattle.arrowstream_c.specs.Calls.{IsAt, TakesBack, TakesBatch};
+ghost use Rattle.ipc_stream_session.specs.Sessions.{TakesBack};
+ghost use Rattle.arrowstream_c.specs.Calls.{Closes, CopiesFieldText, CopiesLine, CopiesSchema};
+ghost use Rattle.arrowstream_c.specs.Calls.{DescribesField, Feeds, GivesText, IsAt, TakesBatch};
+ghost use Rattle.arrowstream_c.specs.Numbers.{IsFieldText};
 
-use crate::answers::{ABSENT, Progress, arrival_number, end_number, status_of};
+use crate::answers::{ABSENT, FieldNumbers, Progress, arrival_number, end_number, status_of};
 use crate::batch::BatchHandle;
 use crate::block::Block;
 use ipc_model::Fault;
-use ipc_stream_session::{ReadBatch, ReadSession, copy_into};
+use ipc_stream_session::{FieldText, ReadBatch, ReadSession, copy_into};
 use std::alloc::Global;
 
 pub(crate) fn free_reader(reader: Block<ReadSession, Global>) {
@@ -81,6 +83,50 @@ pub(crate) fn schema(reader: &mut ReadSession, text: &mut [u8], wanted: &mut usi
     ensures { CopiesSchema reader.old reader.new text.old text.new wanted.new result }
 {
     give(reader.schema_text(), text, wanted)
+}
+
+pub(crate) fn field(reader: &mut ReadSession, path: &[u64], out: &mut FieldNumbers) -> u32
+    ensures { DescribesField reader.old path.now reader.new out.old out.new result }
+{
+    match reader.field(path) {
+        Some(facts) => {
+            *out = FieldNumbers::of(&facts);
+            0
+        }
+        None => ABSENT,
+    }
+}
+
+// The text of a number, with the number of its pair.
+fn field_text_of(number: u32, pair: u64) -> Option<FieldText>
+    ensures { IsFieldText number pair result }
+{
+    match number {
+        0 => Some(FieldText::Name),
+        1 => Some(FieldText::Format),
+        2 => Some(FieldText::ValuesFormat),
+        3 => Some(FieldText::Key(pair)),
+        4 => Some(FieldText::Value(pair)),
+        _ => None,
+    }
+}
+
+pub(crate) fn field_text(
+    reader: &mut ReadSession,
+    path: &[u64],
+    number: u32,
+    pair: u64,
+    text: &mut [u8],
+    wanted: &mut usize,
+) -> u32
+    ensures { CopiesFieldText reader.old path.now number pair reader.new text.old text.new
+        wanted.new result }
+{
+    *wanted = 0;
+    let Some(named) = field_text_of(number, pair) else {
+        return ABSENT;
+    };
+    give(reader.field_text(path, named), text, wanted)
 }
 
 pub(crate) fn line(reader: &mut ReadSession, text: &mut [u8], wanted: &mut usize) -> u32

@@ -1,5 +1,7 @@
 pub mod Cells
 pub mod Copies
+pub mod Fields
+pub mod Formats
 pub mod Paths
 pub mod Sessions
 pub mod Stages

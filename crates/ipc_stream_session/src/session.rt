@@ -1,12 +1,14 @@
 //! A stream that is read, as a value between the calls of a program in another language.
 ghost use Rattle.std.specs.Prelude.{◌≡◌, None};
-ghost use Rattle.ipc_stream_read.specs.Decoding.{Wants};
+ghost use Rattle.ipc_stream_read.specs.Decoding.{Wants, schema_of};
+ghost use Rattle.ipc_stream_session.specs.Fields.{FindsFieldIn, FindsTextIn};
 ghost use Rattle.ipc_stream_session.specs.Sessions.{Closes, Feeds, GivesLine, GivesSchemaText};
 ghost use Rattle.ipc_stream_session.specs.Sessions.{IsNew, TakesBack, arrival_of, batch_in};
 ghost use Rattle.ipc_stream_session.specs.Sessions.{with_refusal};
 
 use crate::arrival::Arrival;
 use crate::batch::ReadBatch;
+use crate::field::{FieldFacts, FieldText, facts_at, text_at};
 use ipc_model::{Fault, FaultAt, Limits};
 use ipc_stream_read::{Decoder, End, Event};
 use ipc_text_json::schema_json;
@@ -127,6 +129,31 @@ impl ReadSession {
                 Ok(text) => Ok(Some(text)),
                 Err(_) => Err(Fault::OutOfMemory),
             },
+        }
+    }
+
+    /// Describes the field to which a path leads. The first number of the path is that of a field
+    /// of the schema, from 0, and each further one that of a child. An empty path leads to the
+    /// schema as a whole, which is described as a struct of its fields. Returns `None` before the
+    /// schema came, or if the path leads to no field.
+    pub fn field(&self, path: &[u64]) -> Option<FieldFacts>
+        ensures { FindsFieldIn (schema_of self.now.decoder.state) path.now result }
+    {
+        match self.decoder.schema() {
+            None => None,
+            Some(schema) => facts_at(schema, path),
+        }
+    }
+
+    /// Returns a text of the field to which a path leads (see `field`), or `None` if the path leads
+    /// to no field or the field has no such text. The schema as a whole has an empty name. Errors:
+    /// `OutOfMemory` only.
+    pub fn field_text(&self, path: &[u64], text: FieldText) -> Result<Option<String>, Fault>
+        ensures { FindsTextIn (schema_of self.now.decoder.state) path.now text result }
+    {
+        match self.decoder.schema() {
+            None => Ok(None),
+            Some(schema) => text_at(self.alloc, schema, path, text),
         }
     }
 

@@ -47,6 +47,7 @@ use Rattle.ipc_stream_session.specs.contracts.session.ReadSession as held
 use Rattle.ipc_stream_session.specs.contracts.batch.ReadBatch as given
 use Rattle.ipc_stream_session.proofs.batch.ReadBatch.TheLaws as given_laws
 use Rattle.arrowstream_c.specs.Handles.{OfHandle, held_or_null}
+use Rattle.ipc_stream_session.specs.Sessions as sessions
 use Rattle.arrowstream_c.specs.Calls.{TakesBack}
 use Rattle.arrowstream_c.specs.contracts.block.Block as block
 use Rattle.arrowstream_c.proofs.block.Block.TheLaws as laws
@@ -128,7 +129,7 @@ arrowstream_reader_reuse_spec 𝓤 𝓛 𝓜 𝓡 wired =
     nothing ! $
     group ! 3 $ frame ! $
     show ! (λ (is : Option R.Denot). sep 𝓤 (sem 𝓛 (held_or_null R null_ptr is))
-    (fact 𝓤 (OfHandle (λ was is. TakesBack was is) ⊤ None is))) None $
+    (fact 𝓤 (OfHandle (TakesBack x.1) ⊤ None is))) None $
     says ! tt $ feq_i ! Ptr null_ptr null_ptr refl $ done !)))))
     (λ t. absurd t)))
     (λ b o z h may. fsplit ! $ move ! (2 ∷ []) $ on_handle ! S a.1.1.0 x.1
@@ -152,7 +153,7 @@ arrowstream_reader_reuse_spec 𝓤 𝓛 𝓜 𝓡 wired =
     nothing ! $
     group ! 3 $ frame ! $
     show ! (λ (is : Option R.Denot). sep 𝓤 (sem 𝓛 (held_or_null R (block_ptr b o) is))
-    (fact 𝓤 (OfHandle (λ was is. TakesBack was is) ⊤ (Some z) is))) (Some z) $
+    (fact 𝓤 (OfHandle (TakesBack None) ⊤ (Some z) is))) (Some z) $
     says ! refl $ fjoin ! $ fpack ! Global (λ d. box_owns (ghosts.dealloc_token d) R (block_ptr b o) z) h $ done !)
     (λ t. absurd t))))
     (λ b₂ o₂ z₂ k may₂.
@@ -193,7 +194,8 @@ arrowstream_reader_reuse_spec 𝓤 𝓛 𝓜 𝓡 wired =
     calls_at ! (framed 𝓤 𝓛.H 𝓜 (tables 𝓤 𝓛.H 𝓜 𝓡 𝓡.env)) G (met 𝓤 𝓛 𝓜 𝓡 (code.calls-arrowstream_c::reader_calls::reuse 𝓡.env wired)) g₀
     (and_then ! (get ! refl) (and_then ! (get ! refl) (no_more !))) (λ v'.
     use1 𝓛 (later (some (λ (r : Unit {0}). ((‵ (flft κ₁ full_share) ⊛ ‵ ftrue) ⊛ ‵ (unit.own_val r (v' ∷ []))) ⊛
-    some (λ (ws : R.Denot × (Unit {0} × Unit {0})). ‵ (lasts g.ended g₀.0.0 g₀.0.3 ws) ⊛ raw (fact 𝓤 (TakesBack z ws.0)))))) (id⊢ 𝓤 _) $
+    some (λ (ws : R.Denot × (Unit {0} × Unit {0})). ‵ (lasts g.ended g₀.0.0 g₀.0.3 ws) ⊛ raw (fact 𝓤 (sessions.TakesBack z ws.0))))))
+    (id⊢ 𝓤 _) $
     await ! tt $ pick ! (λ r. split ! $ split ! $ split ! $ lft_end ! tt $ move ! (3 ∷ []) $
     pick ! (λ ws. split ! $ move ! (1 ∷ []) $ heard ! _ (λ made. fsplit ! $ fsplit ! $
     -- [the last reader; its borrow; what is left; κ₁ is over; true; the result; the lender's part; the right to free the reader]
@@ -208,5 +210,5 @@ arrowstream_reader_reuse_spec 𝓤 𝓛 𝓜 𝓡 wired =
     nothing ! $
     group ! 3 $ frame ! $
     show ! (λ (is : Option R.Denot). sep 𝓤 (sem 𝓛 (held_or_null R (block_ptr b o) is))
-    (fact 𝓤 (OfHandle (λ was is. TakesBack was is) ⊤ (Some z) is))) (Some ws.0) $
+    (fact 𝓤 (OfHandle (TakesBack (Some z₂)) ⊤ (Some z) is))) (Some ws.0) $
     says ! made $ fjoin ! $ fpack ! Global (λ d. box_owns (ghosts.dealloc_token d) R (block_ptr b o) ws.0) h $ done !)))))))))))))
