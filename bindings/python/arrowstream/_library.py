@@ -1,4 +1,4 @@
-"""The calls of `include/arrowstream.h`, by ctypes."""
+"""The calls of `include/arrowstream.h` and `include/arrowstream_cdata.h`, by ctypes."""
 
 from __future__ import annotations
 
@@ -80,12 +80,20 @@ class ColumnFacts(ctypes.Structure):
     ]
 
 
+class Message(ctypes.Structure):
+    """`arrowstream_message`."""
+
+    text: bytes
+    _fields_ = [("text", ctypes.c_char * 256)]
+
+
 _HANDLE = ctypes.c_void_p
 _SIZE = ctypes.c_size_t
 _STATUS = ctypes.c_uint32
 _TEXT = [_HANDLE, ctypes.c_void_p, _SIZE, ctypes.POINTER(_SIZE)]
 _PATH = [_HANDLE, ctypes.POINTER(ctypes.c_uint64), _SIZE]
 _BYTES = [_HANDLE, ctypes.c_char_p, _SIZE]
+_MESSAGE = ctypes.POINTER(Message)
 _CALLS: dict[str, tuple[Any, list[Any]]] = {
     "arrowstream_version": (_STATUS, []),
     "arrowstream_limits_standard": (None, [ctypes.POINTER(Limits)]),
@@ -128,6 +136,18 @@ _CALLS: dict[str, tuple[Any, list[Any]]] = {
     "arrowstream_writer_take": (_SIZE, [_HANDLE, ctypes.c_void_p, _SIZE]),
     "arrowstream_writer_line": (_STATUS, _TEXT),
     "arrowstream_writer_free": (None, [_HANDLE]),
+    "arrowstream_exporter_open": (
+        ctypes.c_int,
+        [ctypes.c_char_p, _SIZE, ctypes.POINTER(_HANDLE), _MESSAGE],
+    ),
+    "arrowstream_exporter_schema": (ctypes.c_int, [_HANDLE, _HANDLE, _MESSAGE]),
+    "arrowstream_exporter_batch": (ctypes.c_int, [_HANDLE, _HANDLE, _HANDLE, _MESSAGE]),
+    "arrowstream_exporter_free": (None, [_HANDLE]),
+    "arrowstream_import_schema": (ctypes.c_int, [_HANDLE, _HANDLE, _MESSAGE]),
+    "arrowstream_import_batch": (ctypes.c_int, [_HANDLE, _HANDLE, _HANDLE, _MESSAGE]),
+    "arrowstream_capsule_free_schema": (None, [_HANDLE]),
+    "arrowstream_capsule_free_array": (None, [_HANDLE]),
+    "arrowstream_capsule_free_stream": (None, [_HANDLE]),
 }
 
 
@@ -138,6 +158,8 @@ _LONG = (
     "arrowstream_batch_buffer",
     "arrowstream_writer_send",
     "arrowstream_writer_columns",
+    "arrowstream_exporter_batch",
+    "arrowstream_import_batch",
 )
 
 

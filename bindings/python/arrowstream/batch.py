@@ -10,6 +10,7 @@ from typing import Any, Callable, Dict, Iterator, List, Tuple
 
 from . import _library as c
 from .arrays import to_numpy
+from .cdata import batch_capsules
 from .schema import Field, Schema, pairs_of
 from .values import live_slots, to_list
 
@@ -211,6 +212,15 @@ class Batch:
         """The rows, each a tuple of the values of `Column.to_list`."""
         columns = [column.to_list(as_stored=as_stored) for column in self.columns]
         return zip(*columns) if columns else iter([()] * len(self))
+
+    def __arrow_c_array__(self, requested_schema: Any = None) -> tuple[Any, Any]:
+        """The batch for other libraries: capsules of the Arrow C data interface with the schema and
+        an array of structs. The array is in canonical layout, in memory of its own: it has no byte
+        that no row shows. Its schema is that of the batch, whatever is requested.
+
+        Raises ValueError if a name or a time zone has a zero byte, and MemoryError.
+        """
+        return batch_capsules(self)
 
     def _find(self, path: tuple[int, ...]) -> c.ColumnFacts | None:
         facts = c.ColumnFacts()

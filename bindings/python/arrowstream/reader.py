@@ -7,6 +7,7 @@ import os
 from typing import Any, Iterator, Protocol, Union
 
 from .batch import Batch
+from .cdata import stream_capsule
 from .decoder import Decoder
 from .schema import Schema
 
@@ -71,6 +72,12 @@ class Reader:
         """How the stream ended: "mark" for the end-of-stream mark, "closed" for the end of the file
         without one, and None before the end."""
         return self._decoder.end
+
+    def __arrow_c_stream__(self, requested_schema: Any = None) -> Any:
+        """The batches that were not read yet, for other libraries: a capsule of the Arrow C stream
+        interface. It reads as the consumer asks for batches, which has to be on this thread. Its
+        schema is that of the reader, whatever is requested."""
+        return stream_capsule(self)
 
     def read_all(self) -> list[Batch]:
         """The batches that were not read yet."""

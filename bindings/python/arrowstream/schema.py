@@ -63,6 +63,12 @@ class Schema:
         entries = [entry for field in self.fields for entry in field._entries()]
         return json.dumps({"fields": entries, "metadata": self.metadata})
 
+    def __arrow_c_schema__(self) -> Any:
+        """The schema for other libraries: a capsule of the Arrow C data interface."""
+        from .cdata import schema_capsule
+
+        return schema_capsule(self)
+
 
 def pairs_of(entries: list[list[str]]) -> tuple[tuple[str, str], ...]:
     """Pairs of key and value from their JSON form."""

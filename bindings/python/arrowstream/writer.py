@@ -7,9 +7,13 @@ import json
 from typing import Any, BinaryIO, Dict, Iterable, Sequence, Union
 
 from . import _library as c
+from . import cdata
 from .batch import Batch
 from .cells import row_cells, rows_of
+from .decoder import Decoder
 from .errors import ArrowError
+from .inferred import columns_of
+from .reader import Reader
 from .schema import Schema, schema_of
 
 _PIECE = 1 << 20
@@ -18,7 +22,28 @@ _PIECE = 1 << 20
 Row = Union[Sequence[Any], Dict[str, Any]]
 
 
-def _json_of(schema: Schema | dict[str, Any] | str | bytes) -> bytes:
+def _schema_at(address: int) -> Schema:
+    """The schema of another library, read from the beginning of a stream."""
+    handle, decoder = ctypes.c_void_p(), Decoder()
+    c.library.arrowstream_writer_open(c.limits_of(None, None, None), handle)
+    if not handle:
+        raise MemoryError
+    try:
+        cdata.begin(handle, address)
+        while size := c.library.arrowstream_writer_ready(handle):
+            piece = bytearray(size)
+            c.library.arrowstream_writer_take(handle, c.start_of(piece), size)
+            decoder.feed(piece)
+    finally:
+        c.library.arrowstream_writer_free(handle)
+    assert decoder.schema is not None
+    return decoder.schema
+
+
+def _json_of(schema: Any) -> bytes:
+    if not isinstance(schema, Schema) and hasattr(schema, "__arrow_c_schema__"):
+        address, _kept = cdata.schema_address(schema)
+        schema = _schema_at(address)
     if isinstance(schema, Schema):
         schema = schema.to_json()
     elif isinstance(schema, dict):
@@ -50,8 +75,9 @@ class Writer:
         max_body: int | None = None,
         max_rows: int | None = None,
     ):
-        """Begins a stream of a schema: `Reader.schema`, or the form of `docs/SCHEMA.md` as a dict
-        or as JSON text. The limits are those of `read`.
+        """Begins a stream of a schema: `Reader.schema`, the form of `docs/SCHEMA.md` as a dict or
+        as JSON text, or a schema of another library that has `__arrow_c_schema__`. The limits are
+        those of `read`.
 
         Raises ArrowError: X6 if there is no such schema, and W1 or W6 if it breaks a rule or a
         limit. Raises MemoryError if memory runs out.
@@ -139,8 +165,9 @@ class Writer:
         metadata: Iterable[tuple[str, str]] = (),
     ) -> None:
         """Sends a batch: a list of rows or a dict of columns by their names, with pairs of key and
-        value, or a batch that was read, which has its own. Rows that wait are sent before it, as a
-        batch of their own.
+        value, or a batch that was read, which has its own. An object of another library with
+        `__arrow_c_array__` or `__arrow_c_stream__` is sent as a batch for each of its arrays, without
+        pairs. Rows that wait are sent before it, as a batch of their own.
 
         Raises what `write_row` and `send` raise; then nothing of the batch is written. Raises
         TypeError for pairs with a batch that was read.
@@ -156,6 +183,9 @@ class Writer:
             self._raise(status)
             self._flush()
             return
+        if cdata.is_importable(batch):
+            self._send_imported(cdata.imported(batch))
+            return
         try:
             rows = rows_of(self.schema.fields, batch) if isinstance(batch, dict) else batch
             for row in rows:
@@ -164,6 +194,11 @@ class Writer:
         except BaseException:
             self._drop_waiting()
             raise
+
+    def _send_imported(self, source: cdata.Imported) -> None:
+        for array in source.arrays:
+            cdata.send(self._handle, source.schema, array)
+            self._flush()
 
     def close(self) -> None:
         """Sends the rows that wait, if there are any, and the end-of-stream mark. A closed writer
@@ -225,8 +260,8 @@ class Writer:
 
 def write(
     file: BinaryIO,
-    schema: Schema | dict[str, Any] | str | bytes,
-    batches: Iterable[Batch | dict[str, Sequence[Any]] | Iterable[Row]],
+    schema: Any,
+    batches: Iterable[Batch | dict[str, Sequence[Any]] | Iterable[Row]] | None = None,
     *,
     max_metadata: int | None = None,
     max_body: int | None = None,
@@ -235,10 +270,29 @@ def write(
     """Writes a stream to a binary file, which stays open: the schema, each batch as
     `Writer.write_batch` does, and the end-of-stream mark. One batch is held in memory at a time.
 
+    Without batches, `write(file, data)` writes a reader, a batch that was read, a dict of lists or
+    of arrays of numpy as one batch, or an object of another library that has `__arrow_c_stream__`
+    or `__arrow_c_array__`. The schema is that of the data. A list has the type of its first value.
+
     Raises what `Writer` and `Writer.write_batch` raise, and what the file raises. Then the stream
     ends without its mark.
     """
     limits = {"max_metadata": max_metadata, "max_body": max_body, "max_rows": max_rows}
+    source = None
+    if batches is None:
+        if isinstance(schema, (Reader, Batch)):
+            batches = schema if isinstance(schema, Reader) else [schema]
+            schema = schema.schema
+        elif isinstance(schema, dict):
+            schema, columns = columns_of(schema)
+            batches = [columns]
+        elif cdata.is_importable(schema):
+            source = cdata.imported(schema)
+            schema = _schema_at(source.schema)
+        else:
+            raise TypeError(f"no schema was given, and {type(schema).__name__} states none")
     with Writer(file, schema, **limits) as writer:
-        for batch in batches:
+        if source is not None:
+            writer._send_imported(source)
+        for batch in batches or ():
             writer.write_batch(batch)
