@@ -4,6 +4,7 @@ use std::{fmt, io};
 
 /// Why a stream could not be read or written.
 #[derive(Debug)]
+#[non_exhaustive]
 pub enum Error {
     /// The stream that is read is refused, or what was to be written.
     Refused {
@@ -20,12 +21,18 @@ pub enum Error {
     Write(io::Error),
     /// Memory ran out.
     OutOfMemory,
+    /// A schema or an array of another library is not supported or not as it should be, or what is
+    /// exported cannot be stated by the Arrow C data interface.
+    Exchange {
+        /// What is wrong.
+        line: String,
+    },
 }
 
 impl fmt::Display for Error {
     fn fmt(&self, f: &mut fmt::Formatter<'_>) -> fmt::Result {
         match self {
-            Error::Refused { line, .. } => f.write_str(line),
+            Error::Refused { line, .. } | Error::Exchange { line } => f.write_str(line),
             Error::Read(cause) => write!(f, "the source failed: {cause}"),
             Error::Write(cause) => write!(f, "the sink failed: {cause}"),
             Error::OutOfMemory => f.write_str("out of memory"),

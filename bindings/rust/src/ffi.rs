@@ -1,6 +1,8 @@
-//! The declarations of `include/arrowstream.h` that this crate uses.
+//! The declarations of `include/arrowstream.h` and `include/arrowstream_cdata.h` that this crate
+//! uses.
 #![allow(missing_docs)]
 
+use crate::cdata::{ArrowArray, ArrowSchema};
 use std::marker::{PhantomData, PhantomPinned};
 
 pub(crate) const OK: u32 = 0;
@@ -31,6 +33,17 @@ pub(crate) struct Batch {
 pub(crate) struct Writer {
     _opaque: [u8; 0],
     _marker: PhantomData<(*mut u8, PhantomPinned)>,
+}
+
+#[repr(C)]
+pub(crate) struct Exporter {
+    _opaque: [u8; 0],
+    _marker: PhantomData<(*mut u8, PhantomPinned)>,
+}
+
+#[repr(C)]
+pub(crate) struct Message {
+    pub(crate) text: [u8; 256],
 }
 
 #[repr(C)]
@@ -159,4 +172,33 @@ extern "C" {
         wanted: *mut usize,
     ) -> u32;
     pub(crate) fn arrowstream_writer_free(writer: *mut Writer);
+    pub(crate) fn arrowstream_exporter_open(
+        schema: *const u8,
+        length: usize,
+        out: *mut *mut Exporter,
+        message: *mut Message,
+    ) -> i32;
+    pub(crate) fn arrowstream_exporter_schema(
+        exporter: *const Exporter,
+        out: *mut ArrowSchema,
+        message: *mut Message,
+    ) -> i32;
+    pub(crate) fn arrowstream_exporter_batch(
+        exporter: *mut Exporter,
+        batch: *const Batch,
+        out: *mut ArrowArray,
+        message: *mut Message,
+    ) -> i32;
+    pub(crate) fn arrowstream_exporter_free(exporter: *mut Exporter);
+    pub(crate) fn arrowstream_import_schema(
+        writer: *mut Writer,
+        schema: *const ArrowSchema,
+        message: *mut Message,
+    ) -> i32;
+    pub(crate) fn arrowstream_import_batch(
+        writer: *mut Writer,
+        schema: *const ArrowSchema,
+        array: *const ArrowArray,
+        message: *mut Message,
+    ) -> i32;
 }

@@ -71,15 +71,37 @@
 //! # Ok(())
 //! # }
 //! ```
+//!
+//! A batch is handed to another Arrow library, and taken from one, by the Arrow C data interface:
+//!
+//! ```
+//! use arrowstream::{Exporter, Limits, Reader, Writer};
+//! # fn main() -> Result<(), Box<dyn std::error::Error>> {
+//! # let path = std::env::var("ARROWSTREAM_SAMPLES")? + "/int32.arrows";
+//! let mut reader = Reader::open(std::fs::File::open(path)?, &Limits::standard())?;
+//! let mut exporter = Exporter::open(reader.schema())?;
+//! let schema = exporter.schema()?;
+//! let mut writer = Writer::open_for(Vec::new(), &schema, &Limits::standard())?;
+//! for batch in &mut reader {
+//!     let array = exporter.batch(&batch?)?;
+//!     // SAFETY: the array is one of this schema.
+//!     unsafe { writer.write_array(&schema, &array)? };
+//! }
+//! assert_eq!(Reader::open(&writer.finish()?[..], &Limits::standard())?.count(), 1);
+//! # Ok(())
+//! # }
+//! ```
 #![warn(missing_docs)]
 
 mod batch;
+mod cdata;
 mod error;
 mod ffi;
 mod reader;
 mod writer;
 
 pub use batch::{Batch, Buffer, Column, Layout, DICTIONARY};
+pub use cdata::{ArrowArray, ArrowSchema, Exporter};
 pub use error::Error;
 pub use reader::{End, Limits, Reader};
 pub use writer::{Cell, Writer};

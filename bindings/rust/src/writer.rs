@@ -47,6 +47,9 @@ pub struct Writer<W> {
     failed: bool,
 }
 
+// A writer of the library that was not freed.
+pub(crate) type RawWriter = *mut ffi::Writer;
+
 // The library's writer. A pointer is neither `Send` nor `Sync`.
 #[derive(Debug)]
 struct Handle(NonNull<ffi::Writer>);
@@ -64,18 +67,48 @@ impl<W: Write> Writer<W> {
     ///
     /// Errors: X6 if the text states no schema, W1 or W6 if the schema breaks a rule or a limit.
     pub fn open(sink: W, schema: &str, limits: &Limits) -> Result<Writer<W>, Error> {
-        let mut writer = null_mut();
-        // SAFETY: `limits` may be read, and `writer` be written.
-        unsafe { ffi::arrowstream_writer_open(limits, &mut writer) };
-        let writer = Handle(NonNull::new(writer).ok_or(Error::OutOfMemory)?);
-        let room = vec![0; PIECE];
-        let mut stream = Writer { sink, writer, room, waiting: false, failed: false };
+        let mut stream = Writer::new(sink, limits)?;
         // SAFETY: the writer was not freed; `schema` has this length.
         stream.call(|writer| unsafe {
             ffi::arrowstream_writer_schema(writer, schema.as_ptr(), schema.len())
         })?;
         stream.flush()?;
         Ok(stream)
+    }
+
+    // A writer without a schema.
+    fn new(sink: W, limits: &Limits) -> Result<Writer<W>, Error> {
+        let mut writer = null_mut();
+        // SAFETY: `limits` may be read, and `writer` be written.
+        unsafe { ffi::arrowstream_writer_open(limits, &mut writer) };
+        let writer = Handle(NonNull::new(writer).ok_or(Error::OutOfMemory)?);
+        Ok(Writer { sink, writer, room: vec![0; PIECE], waiting: false, failed: false })
+    }
+
+    // Begins a stream by a call that gives the library the schema.
+    pub(crate) fn begin(
+        sink: W,
+        limits: &Limits,
+        schema: impl FnOnce(RawWriter) -> Result<(), Error>,
+    ) -> Result<Writer<W>, Error> {
+        let mut stream = Writer::new(sink, limits)?;
+        schema(stream.writer.0.as_ptr())?;
+        stream.flush()?;
+        Ok(stream)
+    }
+
+    // Sends what waits, and then a batch by a call of the library.
+    pub(crate) fn send_by(
+        &mut self,
+        send: impl FnOnce(RawWriter) -> Result<(), Error>,
+    ) -> Result<(), Error> {
+        if self.waiting {
+            self.send()?;
+        }
+        // The call is refused if the writer has failed.
+        self.call(|_| ffi::OK)?;
+        send(self.writer.0.as_ptr())?;
+        self.flush()
     }
 
     /// Adds a row to those that wait for [`Writer::send`]. It has a cell for each column.
