@@ -64,7 +64,7 @@ def code_files():
 
 
 def main():
-    pages = [*TOP.glob("*.md"), *TOP.glob("*/*.md"), *TOP.glob("*/*/README.md")]
+    pages = [*TOP.glob("*.md"), *TOP.glob("*/*.md"), *TOP.glob("*/*/*.md")]
     files = [path for path in [*code_files(), *pages] if path.is_file()]
     found = [text for path in sorted(files) for text in too_long(path)]
     found += [text for page in sorted(pages) for text in broken_links(page)]
