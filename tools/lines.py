@@ -38,7 +38,7 @@ def too_long(path):
     if len(lines) > bound["lines"]:
         yield f"{name}: {len(lines)} lines"
     for number, line in enumerate(lines, 1):
-        is_fenced ^= path.suffix == ".md" and line.startswith("```")
+        is_fenced ^= path.suffix == ".md" and line.lstrip().startswith("```")
         if len(line) > bound["width"] and not is_fenced and not is_fixed(line):
             yield f"{name}:{number}: {len(line)} characters"
 
