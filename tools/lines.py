@@ -56,7 +56,7 @@ def code_files():
         for path in TOP.glob(f"crates/*/{folder}/**/*"):
             if path.suffix in (".rt", ".antt"):
                 yield path
-    for folder in ("bin", "tests", "tools", "bench"):
+    for folder in ("bin", "tests", "tools", "bench", "fuzz"):
         files = TOP.glob(f"{folder}/*")
         yield from (path for path in files if path.suffix != ".md" and path != BUILT)
     for pattern in ("include/*.h", "examples/*/*.c"):
