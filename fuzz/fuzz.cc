@@ -88,6 +88,7 @@ static void feed(arrowstream_reader *reader, Bytes piece, arrowstream_progress &
     LAW(is_event || piece.count >= wanted || progress.wanted == wanted - piece.count);
     all.taken += progress.taken;
     all.is_marked = progress.event == ARROWSTREAM_END;
+    LAW((progress.wanted == 0) == all.is_marked);
     if (progress.event == ARROWSTREAM_SCHEMA)
         all.schema = text_of(arrowstream_reader_schema, reader);
     if (progress.event == ARROWSTREAM_BATCH) {
