@@ -85,7 +85,8 @@ STANDARD = re.compile(SOURCE.format(""))
 SECTION = re.compile(
     rf'((?:{SOURCE.format("Arrow|")})'
     r'(?:, (?:table|tables|struct|union|enum)s? [\w, ]*?\w(?=[,;):.]|$)'
-    r'|, "[^"]+"(?:(?:, | and )"[^"]+")*|, [A-Z]\w+\b(?!\.fbs))*)'
+    r'|, "[^"]+"(?:(?:, | and )"[^"]+")*|, (?:and )?[A-Z]\w+\b(?!\.fbs)'
+    r'|, (?:sections? [\d.]+|\d+ \w+|`\w+`|[a-z]+[A-Z]\w*)(?=[,;):.]|$))*)'
 )
 QUOTED = re.compile(r'(?<!, )(?<!and )"[A-Z][^"]+"(?:(?:, | and )"[A-Z][^"]+")*')
 
