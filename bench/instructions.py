@@ -41,6 +41,8 @@ DATA = {
 JOBS = {"check": DATA, "show": DATA, "to-csv": ("i64", "flat", "mixed"), "rewrite": DATA,
         "from-csv": ("flat", "mixed")}
 HEAD = "| workload | ours | plain program | ratio |\n|---|---|---|---|\n"
+FIRST = "Of the streams that `bench/instructions.py` makes; `tests/instructions` compares.\n\n"
+NEXT = "## Time of one run"  # the section before which a first table is put
 TABLE = re.compile(rf"^With (\S+):\n\n{re.escape(HEAD)}((?:\|.*\n)+)", re.M)
 ROW = re.compile(r"\| `(\S+)` (\S+) \| ([\d,]+) \| ([\d,]+|-) \|")
 
@@ -162,7 +164,7 @@ def check(program):
     """Prints the workloads that take more instructions than the table allows. Returns a status."""
     kit, told = table()
     if kit != kit_of() or shutil.which("valgrind") is None:
-        print(f"instructions: skipped: needs valgrind and {kit or 'a table in RESULTS.md'}")
+        print(f"instructions: skipped: needs valgrind, and has the table of {kit or 'no kit'}")
         return 0
     rows = list(measured(program or built_program()))
     over = 0
@@ -182,8 +184,10 @@ def main(words):
         return check(program)
     made = printed(program or built_program(), plain)
     if mode == "--write":
-        text = RESULTS.read_text("utf-8")
-        RESULTS.write_text(TABLE.sub(lambda _: made, text, count=1), "utf-8")
+        text, count = TABLE.subn(lambda _: made, RESULTS.read_text("utf-8"), count=1)
+        if count == 0:
+            text = text.replace(NEXT, f"{FIRST}{made}\n{NEXT}", 1)
+        RESULTS.write_text(text, "utf-8")
     print(made, end="")
     return 0
 
