@@ -23,7 +23,7 @@ TOP = pathlib.Path(__file__).resolve().parent.parent
 RESULTS = TOP / "bench/RESULTS.md"
 sys.dont_write_bytecode = True
 sys.path.insert(0, str(TOP / "tests"))
-from helpers import built_program
+from helpers import built_program, built_workbench
 from messages import END, LEAVES, Field, batch_message, schema_message
 
 OVER = 0.03
@@ -43,6 +43,7 @@ JOBS = {"check": DATA, "show": DATA, "to-csv": ("i64", "flat", "mixed"), "rewrit
 HEAD = "| workload | ours | plain program | ratio |\n|---|---|---|---|\n"
 FIRST = "Of the streams that `bench/instructions.py` makes; `tests/instructions` compares.\n\n"
 NEXT = "## Time of one run"  # the section before which a first table is put
+PUSHED = ("i64", "mixed")  # data of `workbench push-rows`
 TABLE = re.compile(rf"^With (\S+):\n\n{re.escape(HEAD)}((?:\|.*\n)+)", re.M)
 ROW = re.compile(r"\| `(\S+)` (\S+) \| ([\d,]+) \| ([\d,]+|-) \|")
 
@@ -114,12 +115,20 @@ def count(words, data):
     done = subprocess.run([*tool, *words], input=data, capture_output=True, check=False)
     found = re.search(rb"Collected : (\d+)", done.stderr)
     if done.returncode or not found:
-        sys.exit(f"instructions: {' '.join(words)}: {done.stderr.decode()[-1000:]}")
+        sys.exit(f"instructions: {' '.join(map(str, words))}: {done.stderr.decode()[-1000:]}")
     return int(found[1])
+
+
+def pusher(program):
+    """The words of what pushes rows: `rows` beside the plain program, or `workbench`."""
+    rows, own = program.with_name("rows"), program.parents[2] / "workbench/out/workbench"
+    return [rows] if rows.exists() else [own, "push-rows"]
 
 
 def measured(program):
     """The job, the name of the data and the instructions of each workload."""
+    for name in PUSHED:
+        yield "push-rows", name, count([*pusher(program), name, str(BATCHES), str(ROWS)], b"")
     streams = {name: stream_of(fields) for name, fields in DATA.items()}
     with tempfile.TemporaryDirectory() as folder:
         for job, names in JOBS.items():
@@ -132,6 +141,12 @@ def measured(program):
                     schema.write_bytes(made("check").rsplit(b"\n", 2)[0])  # all but the counts
                     words += ["--schema", str(schema)]
                 yield job, name, count(words, data)
+
+
+def built():
+    """The built program; `workbench` is built too."""
+    built_workbench()
+    return pathlib.Path(built_program())
 
 
 def kit_of():
@@ -166,7 +181,7 @@ def check(program):
     if kit != kit_of() or shutil.which("valgrind") is None:
         print(f"instructions: skipped: needs valgrind, and has the table of {kit or 'no kit'}")
         return 0
-    rows = list(measured(program or built_program()))
+    rows = list(measured(program or built()))
     over = 0
     for job, name, number in rows:
         allowed = told.get((job, name), [0])[0]
@@ -179,10 +194,10 @@ def check(program):
 
 def main(words):
     mode = words.pop(0) if words[:1] in (["--write"], ["--check"]) else ""
-    program, plain, *_ = [*words, None, None]
+    program, plain, *_ = [*(pathlib.Path(word).resolve() for word in words), None, None]
     if mode == "--check":
         return check(program)
-    made = printed(program or built_program(), plain)
+    made = printed(program or built(), plain)
     if mode == "--write":
         text, count = TABLE.subn(lambda _: made, RESULTS.read_text("utf-8"), count=1)
         if count == 0:
