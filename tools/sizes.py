@@ -67,6 +67,8 @@ def rows():
         constant("layouts", "STREAMS, BATCHES")), "batches"
     yield "random changes", "`tests/c`", 1, constant("c", "CHANGED"), "streams"
     yield "random tables", "`tests/round-trips`", 1, constant("round-trips", "TABLES"), "tables"
+    yield sized("fuzzer with its reader", "`fuzz`", [*files("fuzz/*.h"), *files("fuzz/*.cc")],
+                "lines", ".*\n")
 
 
 def printed(row):
