@@ -80,7 +80,7 @@ fn builder_of(
     Builder::with_pool(alloc, &fields, limits, room)
 }
 
-// Puts a value behind the others of the innermost list or struct that is open.
+// Appends a value to the innermost list or struct that is open.
 fn put(open: &mut Vec<Vec<Value>>, value: Value) -> Result<(), AllocError> {
     if let Some(values) = open.last_mut() {
         values.push(value)?;
@@ -290,7 +290,7 @@ const LIMITED: [Limited; 8] = [
         wanted: Err(WriteFault::TooLong),
         built: None,
     },
-    // The items of a list's child count as its rows do: behind three of them no fourth is taken,
+    // The items of a list's child count as its rows do: after three of them no fourth is taken,
     // and an empty list is.
     Limited {
         kind: Kind::ListsAndStructs,
