@@ -220,7 +220,8 @@ fn append_below<I: IndexOf>(
     ensures { (shape : Shape) (values : List Value)
         → HoldColumns (index_or_zero (I.IndexOf.index indices.now)) limits.now shape nodes.old
         (child_values layout values)
-        → Appends (index_or_zero (I.IndexOf.index indices.now)) limits.now shape (child_values layout values)
+        → Appends (index_or_zero (I.IndexOf.index indices.now)) limits.now shape
+        (child_values layout values)
         (child_values layout (values ++ value.now ∷ [])) nodes.new result }
 {
     match layout {

@@ -75,8 +75,8 @@ impl PendingBatch {
         })
     }
 
-    // Adds one row that fits the schema. After W11 the batch is unusable; after any other error it is
-    // unchanged.
+    // Adds one row that fits the schema. After W11 the batch is unusable. After any other error it
+    // is unchanged.
     #[inline(always)]
     fn take(&mut self, row: &[Value]) -> Result<(), PushFault>
         ensures stays { StaysInStream self.old self.new }

@@ -79,7 +79,8 @@ append_deep-returns g t c = λ layout children values h.
     let inner = below_less known limits layout children _ values (c.args.value.now ∷ [])
     (nodes_begin known limits children _ (child_values layout more) lent.1) in
     record {
-      appended = on_ok_weaker c.push.result (λ own. node_is P layout children more _ own lent.1) (c.push.ensures.pushed layout values lent.0);
+      appended = on_ok_weaker c.push.result (λ own. node_is P layout children more _ own lent.1)
+          (c.push.ensures.pushed layout values lent.0);
       refused = IfErr-weaker c.push.result _ _ (λ fault refusal. own_refused limits layout children bare (λ j. more) fault refusal)
           (c.push.ensures.refused layout values lent.0);
       begun = IfErr-weaker c.push.result _ _ (λ fault own other. node_is Q layout children values _
