@@ -3,7 +3,6 @@
 A file sees a definition by its own text, by `use Rattle.CRATE.specs.MODULE.{name}`, by an alias
 (`use .. as alias`), or through a module that passes the name on (`pub use`).
 """
-import collections
 import pathlib
 import re
 
@@ -50,7 +49,7 @@ class Definitions:
     def __init__(self, crates):
         self.places = {}  # the file and the line of each key
         self.public = set()
-        self.texts = collections.defaultdict(str)
+        self.texts = {}  # without comments; inside a `module _`, after its first line
         self.imports = {}
         for crate in crates:
             for module, path in modules_of(crate):
@@ -61,12 +60,17 @@ class Definitions:
         """Adds the definitions of one file."""
         text = path.read_text(encoding="utf-8")
         self.imports[crate, module] = Imports(text)
-        key = None
+        key = block = None
         for number, line in enumerate(text.splitlines()):
+            if line.startswith("module _"):
+                key, block = None, line + "\n"
             match = DEFINITION.match(line)
             if match and match[1] not in NOT_DEFINITIONS:
                 key = crate, module, match[1]
-                self.places.setdefault(key, (path, number))
+                block = block if line.startswith(" ") else None
+                if key not in self.places:
+                    self.places[key] = path, number
+                    self.texts[key] = block or ""
                 if PUBLIC.match(line):
                     self.public.add(key)
             if key and not line.lstrip().startswith("--"):

@@ -1,5 +1,5 @@
 #!/usr/bin/env python3
-"""Makes docs/DEFINITIONS.md and docs/definitions/ from the comments above the definitions.
+"""Makes docs/DEFINITIONS.md and docs/definitions/ from the definitions and the comments above them.
 
     tools/definitions.py            writes the pages
     tools/definitions.py --check    fails if the pages differ, or if a definition has no comment
@@ -20,7 +20,7 @@ PAGE = TOP / "docs" / "DEFINITIONS.md"
 FOLDER = TOP / "docs" / "definitions"
 HEAD = """# The definitions
 
-Made by `tools/definitions.py` from the comments above the definitions. The gate compares.
+Made by `tools/definitions.py` from the definitions and the comments above them. The gate compares.
 
 Contracts cite these definitions: to trust a contract is to trust these. They relate whole values to
 whole lists of bytes, without reading order, buffers or passes. If a function that follows the code
@@ -32,11 +32,26 @@ stream denotes. A definition that only proofs use is on no page.
 
 {table}
 
-On a page, a heading such as `ipc_scalar` is the crate, and `Bytes` is the module
-`specs/Bytes.antt` of the crate above it. In parentheses is the place in the public standard that a
-definition states: the Arrow Columnar Format 1.x, its metadata schemas Schema.fbs and Message.fbs at
-version V5, the Arrow C data interface, the FlatBuffers binary format, or an RFC. A definition
-without one is this project's own, such as a limit, or what a call did.
+On a page, a heading such as `ipc_scalar` is the crate, and `Bytes` is the module `specs/Bytes.antt`
+of the crate above it. In parentheses is the place in the public standard that a definition states:
+the Arrow Columnar Format 1.x, its metadata schemas Schema.fbs and Message.fbs at version V5, the
+Arrow C data interface, the FlatBuffers binary format, or an RFC. A definition without one is this
+project's own, such as a limit, or what a call did. Below its words is its formal text, as the
+prover reads it. In the folder of the crate, `rt lemma NAME` shows names of the toolchain, such as
+`Consumes`.
+
+| formal text | means |
+|---|---|
+| `abbrev`, `unfoldable` | a definition by equations; the word says when the prover applies them |
+| `record` | a statement or a value that has all these parts |
+| `data` | a statement or a value that is one of these cases |
+| `module _ (b : List ℕ) where` | each definition in it has this parameter too |
+| `Type 0` | a statement, or a type of values |
+| `ℕ`, `ℤ`, `List`, `[]`, `x ∷ xs` | numbers from 0, all integers, a list, the empty one, and one that begins with x |
+| `P → Q`, `P × Q`, `P ⊎ Q` | P implies Q, both, one of both |
+| `(x : T) → P`, `(x : T) × P` | P for every x, P for some x |
+| `{{x : T}}` | a parameter that follows from the others |
+| `λ x. P` | P as a function of x |
 
 The streams of `samples/` and `cases/` test the definitions from outside. They were laid out from
 the standard, not by this project's writer, and are read by the calls whose contracts cite these
@@ -74,7 +89,8 @@ STANDARD = re.compile(SOURCE.format(""))
 SECTION = re.compile(
     rf'((?:{SOURCE.format("Arrow|")})'
     r'(?:, (?:table|tables|struct|union|enum)s? [\w, ]*?\w(?=[,;):.]|$)'
-    r'|, "[^"]+"(?:(?:, | and )"[^"]+")*|, [A-Z]\w+\b(?!\.fbs))*)'
+    r'|, "[^"]+"(?:(?:, | and )"[^"]+")*|, (?:and )?[A-Z]\w+\b(?!\.fbs)'
+    r'|, (?:sections? [\d.]+|\d+ \w+|`\w+`|[a-z]+[A-Z]\w*)(?=[,;):.]|$))*)'
 )
 QUOTED = re.compile(r'(?<!, )(?<!and )"[A-Z][^"]+"(?:(?:, | and )"[A-Z][^"]+")*')
 
@@ -127,6 +143,12 @@ def item(definition, section, sentence):
         break_long_words=False, break_on_hyphens=False)
 
 
+def formal(text):
+    """The formal text of a definition as a block below its item."""
+    lines = [line for line in text.splitlines() if line]
+    return textwrap.indent("\n".join(["```", *lines, "```"]), "  ")
+
+
 def lines_of(path):
     """The lines of a file."""
     return path.read_text(encoding="utf-8").splitlines()
@@ -158,6 +180,7 @@ def page(title, first, keys, definitions):
             parts.extend([*filter(None, [textwrap.fill(section, WIDTH)]), ""])
         place = crate, module
         parts[-1] = "\n".join(filter(None, [parts[-1], item(name, *explained(key, definitions))]))
+        parts.append(formal(definitions.texts[key]))
     return "\n\n".join(parts) + "\n"
 
 

@@ -1,14 +1,17 @@
 #!/usr/bin/env python3
-"""Draws docs/crates.svg and docs/message.svg.
+"""Draws docs/crates.svg, docs/message.svg and docs/throughput.svg.
 
-    tools/drawings.py            writes both files
+    tools/drawings.py            writes the files
     tools/drawings.py --check    exits with 1 if a file differs from what would be written
 
 The edges of the first drawing come from crates.txt; an edge that other edges imply is omitted.
 CRATES gives each crate its group, its row counted from the bottom, its center and its job. A crate
-without an entry is an error, and so is an edge that does not go down.
+without an entry is an error, and so is an edge that does not go down. The last drawing shows the
+times of bench/RESULTS.md as rates of input.
 """
+import math
 import pathlib
+import re
 import sys
 from xml.sax.saxutils import escape
 
@@ -17,6 +20,9 @@ WIDTH, BOX_WIDTH, BOX_HEIGHT, MARGIN = 1000, 172, 52, 20
 TOPS = [MARGIN + 86 * (10 - row) for row in range(11)]  # the upper edge of each row's boxes
 FONT = "'DejaVu Sans', Verdana, Helvetica, Arial, sans-serif"
 MONO = "'DejaVu Sans Mono', Menlo, Consolas, monospace"
+# Rows of the tables of times and of instructions: job, data, and the seconds or the ratio.
+TIME = re.compile(r"^\| `(\S+)` (\S+) \| ([\d.]+) s \| ([\d.]+) s \|", re.M)
+RATIO = re.compile(r"^\| `(\S+)` (\S+) \| [\d.]+ \| [\d.]+ \| ([\d.]+) \|", re.M)
 INK, FAINT, LINE, FAULT = "#1f2328", "#57606a", "#6e7781", "#cf222e"
 
 # The fill, the border and the label of each group, in the order of the legend.
@@ -189,9 +195,57 @@ def draw_message():
     return svg(y + 146, "An encapsulated message", parts)
 
 
+def read_rates():
+    """For each job and its data the rates of the two programs in GB/s, of 2^28 bytes of input, and
+    the ratio of their instructions."""
+    page = (TOP / "bench/RESULTS.md").read_text(encoding="utf-8")
+    ratios = {(job, data): ratio for job, data, ratio in RATIO.findall(page)}
+    for job, data, *seconds in TIME.findall(page):
+        yield job, data, [2**28 / 1e9 / float(it) for it in seconds], ratios[job, data]
+
+
+def place_of(rate):
+    """The place of a rate, on a scale of logarithms."""
+    return round(190 + 280 * (math.log10(rate) + 1))
+
+
+def rate_row(y, job, data, rates, ratio):
+    """The two rates of a workload, as a full and an empty dot, and as numbers."""
+    ours, plain = map(place_of, rates)
+    yield text(170, y + 5, f"{job} {data}", anchor="end")
+    yield line(ours, y, plain, y, "")
+    for x, fill in ((plain, "#ffffff"), (ours, GROUPS["jobs"][1])):
+        yield f'<circle cx="{x}" cy="{y}" r="6" fill="{fill}" stroke="{GROUPS["jobs"][1]}"/>'
+    for x, number in ((800, f"{rates[0]:.2f}"), (864, f"{rates[1]:.2f}"), (970, ratio)):
+        yield text(x, y + 5, number, anchor="end")
+
+
+def draw_throughput():
+    y, previous, rows = 70, None, []
+    for job, data, rates, ratio in read_rates():
+        y += 24 if job == previous else 34
+        rows += rate_row(y, job, data, rates, ratio)
+        previous = job
+    scale = [text(190, 34, "GB of input in a second", 14, weight="bold")]
+    for x, words in ((800, "ours"), (864, "plain"), (970, "instructions")):
+        scale.append(text(x, 61, words, weight="bold", anchor="end"))
+    scale.append(text(970, 78, "ours / plain", 12, FAINT, anchor="end"))
+    for x, fill, words in ((197, GROUPS["jobs"][1], "arrowstream"),
+                           (310, "#ffffff", "a plain Rust program for the same jobs")):
+        scale.append(f'<circle cx="{x}" cy="56" r="6" fill="{fill}" stroke="{GROUPS["jobs"][1]}"/>')
+        scale.append(text(x + 14, 61, words))
+    for rate in ("0.1", "0.3", "1", "3", "10"):
+        x = place_of(float(rate))
+        scale.append(line(x, 84, x, y + 14, 'stroke-dasharray="2 5"'))
+        scale.append(text(x, y + 34, rate, 13, FAINT, anchor="middle"))
+    title = "Rates of the command and of a plain Rust program"
+    return svg(y + 50, title, scale + rows)
+
+
 def main(words):
     stale = 0
-    for name, draw in (("crates", draw_crates), ("message", draw_message)):
+    drawings = {"crates": draw_crates, "message": draw_message, "throughput": draw_throughput}
+    for name, draw in drawings.items():
         path, drawn = TOP / "docs" / f"{name}.svg", draw()
         if "--check" not in words:
             path.write_text(drawn, encoding="utf-8")

@@ -38,7 +38,7 @@ def too_long(path):
     if len(lines) > bound["lines"]:
         yield f"{name}: {len(lines)} lines"
     for number, line in enumerate(lines, 1):
-        is_fenced ^= path.suffix == ".md" and line.startswith("```")
+        is_fenced ^= path.suffix == ".md" and line.lstrip().startswith("```")
         if len(line) > bound["width"] and not is_fenced and not is_fixed(line):
             yield f"{name}:{number}: {len(line)} characters"
 
@@ -56,7 +56,7 @@ def code_files():
         for path in TOP.glob(f"crates/*/{folder}/**/*"):
             if path.suffix in (".rt", ".antt"):
                 yield path
-    for folder in ("bin", "tests", "tools", "bench"):
+    for folder in ("bin", "tests", "tools", "bench", "fuzz"):
         files = TOP.glob(f"{folder}/*")
         yield from (path for path in files if path.suffix != ".md" and path != BUILT)
     for pattern in ("include/*.h", "examples/*/*.c"):
@@ -64,7 +64,7 @@ def code_files():
 
 
 def main():
-    pages = [*TOP.glob("*.md"), *TOP.glob("*/*.md"), *TOP.glob("*/*/README.md")]
+    pages = [*TOP.glob("*.md"), *TOP.glob("*/*.md"), *TOP.glob("*/*/*.md")]
     files = [path for path in [*code_files(), *pages] if path.is_file()]
     found = [text for path in sorted(files) for text in too_long(path)]
     found += [text for page in sorted(pages) for text in broken_links(page)]

@@ -37,9 +37,9 @@ def constant(script, name):
     return ast.literal_eval(re.search(rf"^{name} = (.*)$", text, re.M)[1])
 
 
-def promises():
-    """The rows of the tables of promises."""
-    tables = (TOP / "docs/PROVED.md").read_text("utf-8").split(PROMISES)[1:]
+def promises(pages):
+    """The number of rows of the tables of promises."""
+    tables = text_of(pages).split(PROMISES)[1:]
     return sum(len(re.match(r"(?:\|.*\n)*", table)[0].splitlines()) for table in tables)
 
 
@@ -55,7 +55,8 @@ def rows():
     for what, folder in (("definitions", "specs"), ("proofs", "proofs")):
         paths = files(f"crates/*/{folder}/**/*.antt")
         yield sized(what, f"`crates/*/{folder}`", paths, "lines", ".*\n")
-    yield "promises", "[PROVED](PROVED.md)", 1, promises(), "rows"
+    pages = [TOP / "docs/PROVED.md", *files("crates/*/PROMISES.md")]
+    yield "promises", "[PROVED](PROVED.md)", len(pages), promises(pages), "rows"
     yield sized("edits that must fail", "`crates/*/must-fail`",
                 files("crates/*/must-fail/*.edit"), "changes", "old:")
     yield sized("tests in Rattle", "`crates/test_*`", tests, "tests", r"#\[test\]")
@@ -66,6 +67,8 @@ def rows():
         constant("layouts", "STREAMS, BATCHES")), "batches"
     yield "random changes", "`tests/c`", 1, constant("c", "CHANGED"), "streams"
     yield "random tables", "`tests/round-trips`", 1, constant("round-trips", "TABLES"), "tables"
+    yield sized("fuzzer with its reader", "`fuzz`", [*files("fuzz/*.h"), *files("fuzz/*.cc")],
+                "lines", ".*\n")
 
 
 def printed(row):

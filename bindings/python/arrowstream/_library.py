@@ -13,7 +13,7 @@ from typing import Any, Callable
 OK = 0
 OUT_OF_MEMORY = 37
 ABSENT = 64
-# W9: the bytes of a writer go to memory, so only want of memory refuses them.
+# W9: the bytes of a writer go to memory, so only a lack of memory refuses them.
 WRITE_NO_ROOM = 109
 WRITE_OUT_OF_MEMORY = 111
 VERSION = 1
@@ -184,7 +184,7 @@ library = _load()
 
 
 class _Left(threading.local):
-    """The handles of this thread that another one let go of, with the calls that free them."""
+    """The handles of this thread that another one dropped, with the calls that free them."""
 
     def __init__(self) -> None:
         self.handles: collections.deque[tuple[Any, Any]] = collections.deque()

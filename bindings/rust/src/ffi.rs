@@ -7,7 +7,7 @@ use std::marker::{PhantomData, PhantomPinned};
 
 pub(crate) const OK: u32 = 0;
 pub(crate) const OUT_OF_MEMORY: u32 = 37;
-// W9: the bytes of a writer go to memory, so only want of memory refuses them.
+// W9: the bytes of a writer go to memory, so only a lack of memory refuses them.
 pub(crate) const WRITE_NO_ROOM: u32 = 109;
 pub(crate) const WRITE_FAILED: u32 = 110;
 pub(crate) const WRITE_OUT_OF_MEMORY: u32 = 111;

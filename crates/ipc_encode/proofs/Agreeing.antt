@@ -16,5 +16,4 @@ holds_agreeing known others limits fields rows builder same h = record {
   count = h.count;
   columns_are = columns_agree known others limits (shape_of fields) builder.nodes.items (row_columns rows) same h.columns_are;
   within = h.within;
-  has_headroom = h.has_headroom;
 }

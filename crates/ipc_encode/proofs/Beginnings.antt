@@ -1,5 +1,5 @@
 -- Columns that begin with values, and then perhaps have others.
-use Rattle.std.proofs.Common.{◌≡◌, sym, subst, ℕ, suc, zero, ◌<◌, List, [], ◌∷◌, ◌++◌, length, get_or, append_assoc, arith}
+use Rattle.std.proofs.Common.{sym, subst, ℕ, suc, zero, ◌<◌, List, [], ◌∷◌, ◌++◌, length, get_or, append_assoc, arith}
 use Rattle.std.proofs.lemmas.List.{append-nil}
 use Rattle.std.specs.Prelude.{slice_set}
 use Rattle.ipc_model.specs.declared.layout.Layout.{Layout}

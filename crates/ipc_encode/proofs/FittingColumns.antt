@@ -41,7 +41,7 @@ use Rattle.ipc_encode.proofs.LentBuffers.{list_out, slot_is, struct_out}
 use Rattle.ipc_encode.proofs.NestedSlots.{cell_value, null_only}
 use Rattle.ipc_encode.proofs.NumberSlots.{null_out}
 use Rattle.ipc_encode.proofs.Sizes.{FirstFit, first_fit_all, first_fit_next, own_fits}
-use Rattle.ipc_encode.proofs.Weights.{list_fits, null_fits, struct_fits}
+use Rattle.ipc_encode.proofs.Inside.{list_fits, null_fits, struct_fits}
 
 -- ---- columns whose values fit a type because of their layout, and rows that fit column by column
 

@@ -1,10 +1,10 @@
 pub mod Bits
 pub mod Steps
-pub mod Weights
 pub mod Sizes
 pub mod Growing
 pub mod Beginnings
 pub mod Held
+pub mod Inside
 pub mod NumberSlots
 pub mod LentBuffers
 pub mod NestedSlots

@@ -19,14 +19,14 @@ use Rattle.ipc_model.specs.declared.value.Value.{Value, out-Value}
 use Rattle.ipc_model.specs.declared.value.Value.TheOpen.{Value-F}
 use Rattle.ipc_column.specs.Shapes.{Shape, bare, field}
 use Rattle.ipc_encode.specs.Bitmaps.{bitmap}
-use Rattle.ipc_encode.specs.Buffers.{padded_buffer, padded_bytes, piece_bytes, column_buffers, child_values, buffers_of}
+use Rattle.ipc_encode.specs.Buffers.{padded_buffer, padded_bytes, piece_bytes, column_buffers, child_values}
 use Rattle.ipc_encode.specs.Buffers.{column_nulls}
-use Rattle.ipc_encode.specs.Built.{AreCountsOf, AreColumnsWithin, HoldsValues, IsColumn, data_layout}
+use Rattle.ipc_encode.specs.Built.{AreCountsOf, HoldsValues, IsColumn, data_layout}
 use Rattle.ipc_encode.specs.Cells.{flags, nulls, content, fixed_bytes, items, slot_bytes, slots, ends, offsets, extent, number_bits}
 use Rattle.ipc_encode.specs.Cells.{all_items}
 use Rattle.ipc_encode.specs.Columns.{validity_bytes, bits_length, padded_length, data_in, values_length}
 use Rattle.ipc_encode.specs.Columns.{ExceedsOffsets, offsets_length, validity_length}
-use Rattle.ipc_encode.specs.Limits.{HasExcessData, HasLongData, HasLongItems, SomeColumn, SomeExcessData, HasLongNode}
+use Rattle.ipc_encode.specs.Limits.{HasExcessData, HasLongData, HasLongItems, SomeColumn, SomeExcessData}
 use Rattle.ipc_encode.specs.Numbers.{Numbering}
 use Rattle.ipc_encode.specs.Writing.{AreStored}
 use Rattle.ipc_encode.specs.Pieces.{Valid, True, Number, Fixed, Content}
@@ -44,14 +44,6 @@ abbrev pub column_length : Layout → ℕ → ℕ → ℕ → ℕ
 column_length layout count null_count value_bytes =
     padded_length (validity_length layout count null_count)
     + padded_length (offsets_length layout count) + padded_length value_bytes
-
--- columns of this shape with these values are within the limits of slots and offsets, and their
--- buffers take at most `most` bytes
-pub record TakeAtMost (limits : Limits) (most : ℕ) (shape : Shape) (given : ℕ
-    → List Value) : Type 0 where
-  pub few : ¬ HasLongNode limits.slots shape given
-  pub short : ¬ SomeExcessData shape given
-  pub bytes : length (padded_bytes (buffers_of shape given)) ≤ most
 
 -- ---- how long the buffers of a column are
 
@@ -244,46 +236,6 @@ counted_size limits layout vs counts h =
         ≡ column_length lay (length vs) (nulls vs) (values_length lay (length vs) (data_in lay vs))
     same l.Null = refl
     same _ = refl
-
--- ---- buffers
-
-padded_few : (n : ℕ) → padded_length n ≤ n + 7
-padded_few n = omega arith
-
-flags_few : (n : ℕ) (none : Bool) → cond none 0 (bits_length n) ≤ n
-flags_few n true = omega arith
-flags_few n false = omega arith
-
-validity_few : (layout : Layout) (n nulls : ℕ) → validity_length layout n nulls ≤ n
-validity_few l.Null n nulls = omega arith
-validity_few _ n nulls = flags_few n (nulls == 0)
-
-offsets_few : (layout : Layout) (n : ℕ) → offsets_length layout n ≤ 4 * n + 4
-offsets_few l.Null n = omega arith
-offsets_few _ n = omega arith
-
-values_few : (layout : Layout) (n amount : ℕ) → values_length layout n amount ≤ n + amount
-values_few l.Null n amount = omega arith
-values_few _ n amount = omega arith
-
--- the buffers of a column take no more than so much for each slot, and their data
-pub buffers_few : (layout : Layout) (vs : List Value)
-    → length (padded_bytes (column_buffers layout vs)) ≤ 6 * length vs + 25 + data_in layout vs
-buffers_few layout vs =
-    let size = column_size layout vs in
-    let v = validity_few layout (length vs) (nulls vs) in
-    let o = offsets_few layout (length vs) in
-    let w = values_few layout (length vs) (data_in layout vs) in
-    let a = padded_few (validity_length layout (length vs) (nulls vs)) in
-    let b = padded_few (offsets_length layout (length vs)) in
-    let c = padded_few (values_length layout (length vs) (data_in layout vs)) in
-    omega (arith, size, v, o, w, a, b, c)
-
--- columns that take no more than a body has are within the limits
-pub takes_within : (limits : Limits) (shape : Shape) (given : ℕ → List Value) (all : ℕ) → TakeAtMost limits all shape given
-    → all ≤ limits.body → AreColumnsWithin limits shape given
-takes_within limits shape given all h most =
-    record { few = h.few; short = h.short; body = let bytes = h.bytes in omega (arith, bytes, most) }
 
 -- ---- what fits
 

@@ -1,6 +1,6 @@
 -- The rows that a builder stores (Message.fbs, RecordBatch).
 use Rattle.std.specs.Prelude.{◌≡◌, ℕ, suc, ◌<◌, ◌≤◌, true, false}
-use Rattle.std.specs.Prelude.{List, [], ◌∷◌, ◌++◌, length, ◌⊎◌, ⊤}
+use Rattle.std.specs.Prelude.{List, [], ◌∷◌, ◌++◌, length, ◌⊎◌, ⊤, IfErr, OnOk, Result}
 use Rattle.std.specs.List.{AllByRecursion}
 use Rattle.ipc_model.specs.Limits.{max_data}
 use Rattle.ipc_model.specs.declared.limits.Limits.{Limits}
@@ -27,7 +27,6 @@ use Rattle.ipc_encode.specs.Pieces.{Bytes, Content, Fixed, Items, Number, True}
 use Rattle.ipc_encode.specs.Indices.{AgreeOn}
 use Rattle.ipc_encode.specs.Limits.{HasLongData, HasLongItems, HasLongNode, HasExcessData}
 use Rattle.ipc_encode.specs.Limits.{IsWithin, SomeColumn, SomeExcessData}
-use Rattle.ipc_encode.specs.Weights.{weight_of}
 
 -- the counts of a column of this layout with these values, which are within the limits
 pub record AreCountsOf (limits : Limits) (layout : Layout) (values : List Value)
@@ -126,13 +125,6 @@ pub record AreColumnsWithin (limits : Limits) (shape : Shape) (given : ℕ → L
   pub short : ¬ SomeExcessData shape given
   pub body : length (padded_bytes (buffers_of shape given)) ≤ limits.body
 
--- values that weigh less than the headroom together, in any columns, are within the limits with
--- these rows
-abbrev pub HasHeadroom : Limits → List Field → List (List Value) → ℕ → Type 0
-HasHeadroom limits fields rows headroom = (added : ℕ → List Value)
-    → weight_of 0 (shape_of fields) added < headroom
-    → AreColumnsWithin limits (shape_of fields) (λ j. row_columns rows j ++ added j)
-
 -- the columns of the builder hold exactly these rows of these fields; `indices` gives the index of
 -- each dictionary value
 pub record HoldsRows (indices : Numbering) (limits : Limits) (fields : List Field) (rows : List
@@ -165,7 +157,6 @@ pub record StoresRows (indices : Numbering) (limits : Limits) (fields : List Fie
   pub columns_are : HoldColumns indices limits (shape_of fields) builder.nodes.items
       (row_columns rows)
   pub within : IsWithin limits fields rows
-  pub has_headroom : HasHeadroom limits fields rows builder.headroom
 
 -- why a column does not take the last of these values: too many slots or items of lists, more bytes
 -- than its offsets can address, more than a body may have, or out of memory
@@ -188,6 +179,27 @@ ArePushesRefused limits shape given fault.TooMany =
 ArePushesRefused limits shape given fault.OutOfMemory = ⊤
 ArePushesRefused limits shape given fault.DictionaryFull = ⊥
 ArePushesRefused limits shape given fault.Failed = ⊥
+
+-- what a call does that adds values to columns of this shape, which held `given`: `Ok` where they
+-- hold `all`. A fault is true of `all`, and unless memory ran out the columns still begin with
+-- `given`
+pub record Appends (indices : Numbering) (limits : Limits) (shape : Shape) (given all : ℕ
+    → List Value)
+    (nodes : List Node) (result : Result Unit PushFault) : Type 0 where
+  pub appended : OnOk result (HoldColumns indices limits shape nodes all)
+  pub refused : IfErr result (ArePushesRefused limits shape all)
+  pub begun : IfErr result (λ e. ¬ (e ≡ fault.OutOfMemory)
+      → AreNodes (BeginsWith indices limits) shape nodes given)
+
+-- what a call does that adds values to a column of this layout and to its children, which held
+-- `values`, as `Appends` says it of several columns
+pub record AppendsTo (indices : Numbering) (limits : Limits) (layout : Layout) (children : Shape)
+    (values all : List Value)
+    (node : Node) (result : Result Unit PushFault) : Type 0 where
+  pub appended : OnOk result (IsNode (IsColumn indices limits) layout children node all)
+  pub refused : IfErr result (ArePushesRefused limits (field layout children bare) (λ j. all))
+  pub begun : IfErr result (λ e. ¬ (e ≡ fault.OutOfMemory)
+      → IsNode (BeginsWith indices limits) layout children node values)
 
 -- a growth of the builder's memory was refused earlier
 abbrev pub HasFailed : Builder → Type 0

@@ -3,7 +3,6 @@ pub mod Cells
 pub mod Bitmaps
 pub mod Buffers
 pub mod Columns
-pub mod Weights
 pub mod Limits
 pub mod Writing
 pub mod Built

@@ -18,12 +18,11 @@ ghost use Rattle.ipc_encode.specs.Faults.{write_fault};
 ghost use Rattle.ipc_encode.specs.Indices.{FindsRows};
 ghost use Rattle.ipc_encode.specs.Limits.{AreRowsRefused, AreColumnsTooLong, IsWithin};
 ghost use Rattle.ipc_encode.specs.Numbers.{Numbering, new_indices, index_or_zero};
-ghost use Rattle.ipc_encode.specs.Weights.{capped, row_weight};
 ghost use Rattle.ipc_encode.specs.Writing.{IsDrafted};
 
 use crate::cut::cut_nodes;
 use crate::fault::PushFault;
-use crate::fitting::{headroom, remaining_all};
+use crate::fitting::remaining_all;
 use crate::index::{IndexOf, Renumber, SameNumbers};
 use crate::parts::{BufferPool, Draft, Parts, add_nodes};
 use crate::tree::{Node, append_parts, new_nodes};
@@ -42,8 +41,6 @@ pub struct Builder {
     rows: usize,
     limits: Limits,
     failed: bool,
-    // Further rows that weigh less than this together are within the limits.
-    headroom: u64,
     // What it holds has no meaning; the body takes its room.
     body: Vec<u8>,
 }
@@ -146,7 +143,6 @@ impl Builder {
             rows: 0,
             limits: *limits,
             failed: false,
-            headroom: 0,
             body,
         })
     }
@@ -175,7 +171,6 @@ impl Builder {
             rows: rows.len(),
             limits: *limits,
             failed: false,
-            headroom: 0,
             body: Vec::new(alloc),
         })
     }
@@ -214,7 +209,6 @@ impl Builder {
             → HoldsRows (index_or_zero (I.IndexOf.index indices.now)) limits fields rows self.new) }
         ensures fails { IfErr result
             (λ fault. fault ≡ PushFault.OutOfMemory → HasFailed self.new) }
-        ensures headroom { self.new.headroom ≡ self.old.headroom }
     {
         self.failed = true;
         match append_parts(row, &mut self.nodes, &self.limits, indices) {
@@ -235,56 +229,18 @@ impl Builder {
     #[cold]
     #[inline(never)]
     fn cut_row(&mut self)
-        ensures rows { (known : Numbering) (limits : Limits) (fields : List Field)
+        ensures { (known : Numbering) (limits : Limits) (fields : List Field)
             (rows : List (List Value))
             → BeginsWithRows known limits fields rows self.old
             → HoldsRows known limits fields rows self.new }
-        ensures headroom { self.new.headroom ≡ self.old.headroom }
     {
         cut_nodes(&mut self.nodes, self.rows);
         self.failed = false;
     }
 
-    // Appends a row for which there may be no headroom: the sizes of the buffers decide.
-    #[cold]
-    #[inline(never)]
-    fn push_exactly<I: IndexOf>(&mut self, row: &[Value], indices: &I) -> Result<(), PushFault>
-        requires { self.old.rows < self.old.limits.slots }
-        ensures pushed { (limits : Limits) (fields : List Field) (rows : List (List Value))
-            → StoresRows (index_or_zero (I.IndexOf.index indices.now)) limits fields rows self.old
-            → OnOk result (StoresRows (index_or_zero (I.IndexOf.index indices.now)) limits fields
-            (rows ++ row.now ∷ []) self.new) }
-        ensures refused { (limits : Limits) (fields : List Field) (rows : List (List Value))
-            → StoresRows (index_or_zero (I.IndexOf.index indices.now)) limits fields rows self.old
-            → IfErr result (λ fault. AreRowsRefused limits fields (rows ++ row.now ∷ [])
-            (write_fault fault)) }
-        ensures kept { (limits : Limits) (fields : List Field) (rows : List (List Value))
-            → StoresRows (index_or_zero (I.IndexOf.index indices.now)) limits fields rows self.old
-            → IfErr result (λ fault. ¬ (fault ≡ PushFault.OutOfMemory)
-            → StoresRows (index_or_zero (I.IndexOf.index indices.now)) limits fields rows
-            self.new) }
-        ensures fails { IfErr result
-            (λ fault. fault ≡ PushFault.OutOfMemory → HasFailed self.new) }
-    {
-        let rows = self.rows;
-        self.append(row, indices)?;
-        match check_len(&self.nodes, &self.limits) {
-            Ok(()) => {
-                self.headroom = headroom(&self.nodes, &self.limits);
-                Ok(())
-            }
-            Err(_) => {
-                self.rows = rows;
-                self.cut_row();
-                Err(PushFault::TooLong)
-            }
-        }
-    }
-
     /// Appends one row. For each value other than null in a field with a dictionary it looks up the
-    /// index, or writes 0 if it has none. `weight` is the weight of the row, as `row_weight`
-    /// returns it, or more. The row must conform to the fields, and each index must fit the field's
-    /// index type.
+    /// index, or writes 0 if it has none. The row must conform to the fields, and each index must
+    /// fit the field's index type.
     ///
     /// Errors, where after W6 and W8 the rows are as before the call:
     ///
@@ -295,15 +251,9 @@ impl Builder {
     /// - W11 `OutOfMemory`: memory for a list ran out. The builder has failed.
     /// - W10 `Failed`: the call comes after W11.
     #[inline(always)]
-    pub fn push<I: IndexOf>(
-        &mut self,
-        row: &[Value],
-        weight: u64,
-        indices: &I,
-    ) -> Result<(), PushFault>
+    pub fn push<I: IndexOf>(&mut self, row: &[Value], indices: &I) -> Result<(), PushFault>
         ensures pushed { (limits : Limits) (fields : List Field) (rows : List (List Value))
             → StoresRows (index_or_zero (I.IndexOf.index indices.now)) limits fields rows self.old
-            → capped (row_weight fields row.now) ≤ weight
             → OnOk result (StoresRows (index_or_zero (I.IndexOf.index indices.now)) limits fields
             (rows ++ row.now ∷ []) self.new) }
         ensures refused { (limits : Limits) (fields : List Field) (rows : List (List Value))
@@ -325,13 +275,16 @@ impl Builder {
         if self.is_full() {
             return Err(PushFault::TooMany);
         }
-        let headroom = self.headroom;
-        if weight >= headroom {
-            return self.push_exactly(row, indices);
-        }
+        let rows = self.rows;
         self.append(row, indices)?;
-        self.headroom = headroom - weight;
-        Ok(())
+        match check_len(&self.nodes, &self.limits) {
+            Ok(()) => Ok(()),
+            Err(_) => {
+                self.rows = rows;
+                self.cut_row();
+                Err(PushFault::TooLong)
+            }
+        }
     }
 
     /// Returns the parts of the rows. Each index under which a value was pushed is replaced by its

@@ -1,7 +1,7 @@
 //! The buffers of one column, and the values that are added to it.
 ghost use Rattle.std.specs.Int.{bytes_low_first};
 ghost use Rattle.std.specs.Prelude.{◌≡◌, ◌≤◌, ◌<◌, ◌^◌, ◌++◌, List, [], ◌∷◌, length, IfOk, IfErr};
-ghost use Rattle.std.specs.Prelude.{OnOk, IsTrue, false};
+ghost use Rattle.std.specs.Prelude.{OnOk, IsTrue};
 ghost use Rattle.ipc_model.specs.Layouts.{number_bytes};
 ghost use Rattle.ipc_model.specs.Layouts as layouts;
 ghost use Rattle.ipc_model.specs.MaxLimits.{max_slots};
@@ -9,21 +9,17 @@ ghost use Rattle.ipc_model.specs.declared.layout.Layout.{Layout};
 ghost use Rattle.ipc_model.specs.declared.layout.Layout.TheVariants.{Lists, VariableBytes};
 ghost use Rattle.ipc_model.specs.declared.limits.Limits.{Limits};
 ghost use Rattle.ipc_model.specs.declared.value.Value.{Value};
-ghost use Rattle.ipc_column.specs.Shapes.{Shape, bare, field};
 ghost use Rattle.ipc_encode.specs.Buffers.{column_nulls};
 ghost use Rattle.ipc_encode.specs.Built.{AreContents, AreListEnds, HoldsValues, data_layout};
-ghost use Rattle.ipc_encode.specs.Built.{BeginsWith, IsColumn, IsPushRefused};
-ghost use Rattle.ipc_encode.specs.Built.{ArePushesRefused};
-ghost use Rattle.ipc_encode.specs.Cells.{nulls, slot_bytes, slots};
+ghost use Rattle.ipc_encode.specs.Built.{IsColumn, IsPushRefused};
+ghost use Rattle.ipc_encode.specs.Cells.{slot_bytes};
 ghost use Rattle.ipc_encode.specs.Columns.{validity_in, data_in};
 ghost use Rattle.ipc_encode.specs.Numbers.{Numbering, index_of, index_or_zero, indices_of};
 ghost use Rattle.ipc_encode.specs.Pieces.{Number, Fixed};
 
 use crate::bitmaps::{push_bit, set_bits};
 use crate::column::{ColumnBuilder, ColumnData, IndexData};
-use crate::counting::{
-    check_amount, content, is_true, is_valid, items, null_count, null_slots, number_bits,
-};
+use crate::counting::{check_amount, content, is_true, is_valid, items, null_slots, number_bits};
 use crate::fault::PushFault;
 use crate::index::IndexOf;
 use ipc_model::{IntBits, Layout, Limits, Value};
@@ -451,91 +447,6 @@ impl ColumnBuilder {
         push_validity(&mut self.validity, has_validity, slots, nulls, value)?;
         self.slots = slots + 1;
         self.nulls = nulls + null_slots(has_validity, value);
-        Ok(())
-    }
-}
-
-// Appends the number of each value, which has these bits, and says how many are null.
-#[inline(always)]
-fn push_numbers(list: &mut Vec<u8>, values: &[Value], bits: IntBits) -> Result<usize, AllocError>
-    ensures bytes { OnOk result
-        (list.new.items ≡ list.old.items ++ slots (Number bits) values.now) }
-    ensures nulls { IfOk result (λ count. count ≡ nulls values.now) }
-{
-    let mut nulls = 0;
-    for value in values {
-        push_number(list, value, bits)?;
-        nulls += null_count(value);
-    }
-    Ok(nulls)
-}
-
-impl ColumnBuilder {
-    // Adds these values if the column stores numbers, and neither it nor they have a null. Returns
-    // whether it added them. The error is `OutOfMemory`.
-    fn push_valid(&mut self, values: &[Value], limits: &Limits) -> Result<bool, AllocError>
-        ensures pushed { (known : Numbering) (layout : Layout) (before : List Value)
-            → IsColumn known limits.now layout before self.old
-            → IfOk result (λ all. IsTrue all
-            → IsColumn known limits.now layout (before ++ values.now) self.new) }
-        ensures kept { (known : Numbering) (layout : Layout) (before : List Value)
-            → IsColumn known limits.now layout before self.old
-            → IfOk result (λ all. all ≡ false
-            → IsColumn known limits.now layout before self.new) }
-    {
-        let ColumnBuilder { slots, nulls, .. } = *self;
-        let most = limits.slots as usize;
-        let ColumnData::Numbers {
-            bits,
-            values: list,
-            ..
-        } = &mut self.data
-        else {
-            return Ok(false);
-        };
-        if nulls > 0 || values.len() > most || slots + values.len() > most {
-            return Ok(false);
-        }
-        let length = list.len();
-        if push_numbers(list, values, *bits)? > 0 {
-            list.truncate(length);
-            return Ok(false);
-        }
-        self.slots = slots + values.len();
-        Ok(true)
-    }
-
-    /// Appends several values. The errors are those of `ColumnBuilder::push`. After any error but
-    /// `OutOfMemory` the column begins with what it held.
-    pub(crate) fn push_all<I: IndexOf>(
-        &mut self,
-        values: &[Value],
-        limits: &Limits,
-        indices: &I,
-    ) -> Result<(), PushFault>
-        ensures pushed { (layout : Layout) (before : List Value)
-            → IsColumn (index_or_zero (I.IndexOf.index indices.now)) limits.now layout before
-            self.old
-            → OnOk result (IsColumn (index_or_zero (I.IndexOf.index indices.now)) limits.now layout
-            (before ++ values.now) self.new) }
-        ensures refused { (layout : Layout) (children : Shape) (before : List Value)
-            → IsColumn (index_or_zero (I.IndexOf.index indices.now)) limits.now layout before
-            self.old
-            → IfErr result (ArePushesRefused limits.now (field layout children bare)
-            (λ j. before ++ values.now)) }
-        ensures begun { (layout : Layout) (before : List Value)
-            → IsColumn (index_or_zero (I.IndexOf.index indices.now)) limits.now layout before
-            self.old
-            → IfErr result (λ fault. ¬ (fault ≡ PushFault.OutOfMemory)
-            → BeginsWith (index_or_zero (I.IndexOf.index indices.now)) limits.now layout before
-            self.new) }
-    {
-        if self.push_valid(values, limits)? {
-            return Ok(());
-        }
-        for value in values {
-            self.push(value, limits, indices)?;
-        }
         Ok(())
     }
 }

@@ -28,15 +28,6 @@ pub(crate) fn is_valid(value: &Value) -> bool
     !matches!(value, Value::Null)
 }
 
-/// Returns the number of nulls in one value: 0 or 1.
-#[inline(always)]
-pub(crate) fn null_count(value: &Value) -> usize
-    ensures count { result ≡ (if is_set Valid value.now then 0 else 1) }
-    ensures few { result ≤ 1 }
-{
-    usize::from(!is_valid(value))
-}
-
 /// Returns the number of null slots that a value adds to a column: 0 or 1. Each slot of a column
 /// of nulls, which has no validity bitmap, is null.
 #[inline(always)]

@@ -17,7 +17,7 @@ use crate::column::{ColumnBuilder, ColumnData};
 use crate::tree::Node;
 use ipc_scalar::get_u32;
 
-// Drops the offsets behind those of the first `slots` slots. Returns the last that is left.
+// Drops the offsets after those of the first `slots` slots. Returns the last that is left.
 fn cut_offsets(offsets: &mut Vec<u8>, slots: usize) -> u32
     requires { slots ≤ max_slots }
     ensures offsets { offsets.new.items ≡ take (4 * (slots + 1)) offsets.old.items }
@@ -28,7 +28,7 @@ fn cut_offsets(offsets: &mut Vec<u8>, slots: usize) -> u32
     get_u32(offsets, 4 * slots).unwrap_or(0)
 }
 
-// Drops the bits of slots behind the first `slots` from a validity bitmap. `null_count` of these
+// Drops the bits of slots after the first `slots` from a validity bitmap. `null_count` of these
 // slots are null; no bitmap is left if none is.
 fn cut_validity(validity: &mut Vec<u8>, slots: usize, null_count: usize)
     ensures { (layout : Layout) (values more : List Value) → length values ≡ slots
@@ -44,7 +44,7 @@ fn cut_validity(validity: &mut Vec<u8>, slots: usize, null_count: usize)
 }
 
 impl ColumnData {
-    // Drops what belongs to slots behind the first `slots`. Returns how many slots each child of
+    // Drops what belongs to slots after the first `slots`. Returns how many slots each child of
     // the column then has.
     fn cut(&mut self, slots: usize) -> usize
         requires { slots ≤ max_slots }
@@ -109,7 +109,7 @@ impl ColumnBuilder {
         self.nulls.saturating_sub(dropped).min(slots)
     }
 
-    /// Drops the slots behind the first `slots`. Returns how many slots each child of the column
+    /// Drops the slots after the first `slots`. Returns how many slots each child of the column
     /// then has.
     pub(crate) fn cut(&mut self, slots: usize) -> usize
         ensures column { (known : Numbering) (limits : Limits) (layout : Layout)

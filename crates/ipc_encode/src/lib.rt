@@ -20,7 +20,6 @@ mod parts;
 mod segments;
 mod slot_pushing;
 mod tree;
-mod weight;
 mod whole_columns;
 
 pub use builder::{Builder, encode, holds_agreeing};
@@ -31,4 +30,3 @@ pub use fault::PushFault;
 pub use index::{IndexOf, NoIndices, Renumber, SameNumbers};
 pub use parts::{BufferPool, Parts};
 pub use segments::{Segment, SegmentedParts};
-pub use weight::row_weight;

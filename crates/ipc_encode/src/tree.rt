@@ -7,8 +7,8 @@ ghost use Rattle.ipc_model.specs.declared.value.Value.{Value};
 ghost use Rattle.ipc_model.specs.declared.value.Value.TheVariants.{Null};
 ghost use Rattle.ipc_column.specs.Shapes.{field_shape, shape_of, Shape, bare, field};
 ghost use Rattle.ipc_encode.specs.Buffers.{child_values, nulls_below};
-ghost use Rattle.ipc_encode.specs.Built.{HoldColumns, IsColumn, IsNode, AreNodes};
-ghost use Rattle.ipc_encode.specs.Built.{ArePushesRefused, BeginsWith};
+ghost use Rattle.ipc_encode.specs.Built.{Appends, AppendsTo, ArePushesRefused, BeginsWith};
+ghost use Rattle.ipc_encode.specs.Built.{HoldColumns, IsColumn, IsNode};
 ghost use Rattle.ipc_encode.specs.Cells.{cell};
 ghost use Rattle.ipc_encode.specs.Numbers.{Numbering, index_or_zero};
 ghost use Rattle.ipc_encode.specs.declared.tree.Node.{out-Node};
@@ -74,9 +74,6 @@ pub(crate) fn new_nodes(
     Ok(nodes)
 }
 
-// From this number of values on, adding them at once costs less than one by one.
-const BULK_MINIMUM: usize = 8;
-
 /// Returns the number of nulls that a null adds to each child of a column of this layout.
 #[inline]
 pub(crate) fn nulls_below(layout: Layout) -> u64
@@ -129,23 +126,11 @@ fn append_null<I: IndexOf>(
     limits: &Limits,
     indices: &I,
 ) -> Result<(), PushFault>
-    ensures appended { (layout : Layout) (children : Shape) (values : List Value)
-        → IsNode (IsColumn (index_or_zero (I.IndexOf.index indices.now)) limits.now)
-        layout children node.old values
-        → OnOk result (IsNode (IsColumn (index_or_zero (I.IndexOf.index indices.now)) limits.now)
-        layout children node.new
-        (values ++ replicate count Null)) }
-    ensures refused { (layout : Layout) (children : Shape) (values : List Value)
-        → IsNode (IsColumn (index_or_zero (I.IndexOf.index indices.now)) limits.now)
-        layout children node.old values
-        → IfErr result (ArePushesRefused limits.now (field layout children bare)
-        (λ j. values ++ replicate count Null)) }
-    ensures begun { (layout : Layout) (children : Shape) (values : List Value)
-        → IsNode (IsColumn (index_or_zero (I.IndexOf.index indices.now)) limits.now)
-        layout children node.old values
-        → IfErr result (λ fault. ¬ (fault ≡ PushFault.OutOfMemory)
-        → IsNode (BeginsWith (index_or_zero (I.IndexOf.index indices.now)) limits.now)
-        layout children node.new values) }
+    ensures { (layout : Layout) (children : Shape) (values : List Value)
+        → IsNode (IsColumn (index_or_zero (I.IndexOf.index indices.now)) limits.now) layout children
+        node.old values
+        → AppendsTo (index_or_zero (I.IndexOf.index indices.now)) limits.now layout children values
+        (values ++ replicate count Null) node.new result }
 {
     if count > limits.slots {
         return Err(PushFault::TooMany);
@@ -163,23 +148,10 @@ fn append_nulls<I: IndexOf>(
     limits: &Limits,
     indices: &I,
 ) -> Result<(), PushFault>
-    ensures appended { (shape : Shape) (given : ℕ → List Value)
-        → AreNodes (IsColumn (index_or_zero (I.IndexOf.index indices.now)) limits.now)
-        shape nodes.old given
-        → OnOk result (AreNodes (IsColumn (index_or_zero (I.IndexOf.index indices.now)) limits.now)
-        shape nodes.new
-        (λ j. given j ++ replicate count Null)) }
-    ensures refused { (shape : Shape) (given : ℕ → List Value)
-        → AreNodes (IsColumn (index_or_zero (I.IndexOf.index indices.now)) limits.now)
-        shape nodes.old given
-        → IfErr result
-        (ArePushesRefused limits.now shape (λ j. given j ++ replicate count Null)) }
-    ensures begun { (shape : Shape) (given : ℕ → List Value)
-        → AreNodes (IsColumn (index_or_zero (I.IndexOf.index indices.now)) limits.now)
-        shape nodes.old given
-        → IfErr result (λ fault. ¬ (fault ≡ PushFault.OutOfMemory)
-        → AreNodes (BeginsWith (index_or_zero (I.IndexOf.index indices.now)) limits.now)
-        shape nodes.new given) }
+    ensures { (shape : Shape) (given : ℕ → List Value)
+        → HoldColumns (index_or_zero (I.IndexOf.index indices.now)) limits.now shape nodes.old given
+        → Appends (index_or_zero (I.IndexOf.index indices.now)) limits.now shape given
+        (λ j. given j ++ replicate count Null) nodes.new result }
 {
     for i in 0..nodes.len() {
         append_null(&mut nodes[i], count, limits, indices)?;
@@ -199,23 +171,11 @@ pub(crate) fn append<I: IndexOf>(
     limits: &Limits,
     indices: &I,
 ) -> Result<(), PushFault>
-    ensures appended { (layout : Layout) (children : Shape) (values : List Value)
-        → IsNode (IsColumn (index_or_zero (I.IndexOf.index indices.now)) limits.now)
-        layout children node.old values
-        → OnOk result (IsNode (IsColumn (index_or_zero (I.IndexOf.index indices.now)) limits.now)
-        layout children node.new
-        (values ++ value.now ∷ [])) }
-    ensures refused { (layout : Layout) (children : Shape) (values : List Value)
-        → IsNode (IsColumn (index_or_zero (I.IndexOf.index indices.now)) limits.now)
-        layout children node.old values
-        → IfErr result (ArePushesRefused limits.now (field layout children bare)
-        (λ j. values ++ value.now ∷ [])) }
-    ensures begun { (layout : Layout) (children : Shape) (values : List Value)
-        → IsNode (IsColumn (index_or_zero (I.IndexOf.index indices.now)) limits.now)
-        layout children node.old values
-        → IfErr result (λ fault. ¬ (fault ≡ PushFault.OutOfMemory)
-        → IsNode (BeginsWith (index_or_zero (I.IndexOf.index indices.now)) limits.now)
-        layout children node.new values) }
+    ensures { (layout : Layout) (children : Shape) (values : List Value)
+        → IsNode (IsColumn (index_or_zero (I.IndexOf.index indices.now)) limits.now) layout children
+        node.old values
+        → AppendsTo (index_or_zero (I.IndexOf.index indices.now)) limits.now layout children values
+        (values ++ value.now ∷ []) node.new result }
 {
     if node.is_leaf() {
         return node.column.push(value, limits, indices);
@@ -231,23 +191,11 @@ fn append_deep<I: IndexOf>(
     limits: &Limits,
     indices: &I,
 ) -> Result<(), PushFault>
-    ensures appended { (layout : Layout) (children : Shape) (values : List Value)
-        → IsNode (IsColumn (index_or_zero (I.IndexOf.index indices.now)) limits.now)
-        layout children node.old values
-        → OnOk result (IsNode (IsColumn (index_or_zero (I.IndexOf.index indices.now)) limits.now)
-        layout children node.new
-        (values ++ value.now ∷ [])) }
-    ensures refused { (layout : Layout) (children : Shape) (values : List Value)
-        → IsNode (IsColumn (index_or_zero (I.IndexOf.index indices.now)) limits.now)
-        layout children node.old values
-        → IfErr result (ArePushesRefused limits.now (field layout children bare)
-        (λ j. values ++ value.now ∷ [])) }
-    ensures begun { (layout : Layout) (children : Shape) (values : List Value)
-        → IsNode (IsColumn (index_or_zero (I.IndexOf.index indices.now)) limits.now)
-        layout children node.old values
-        → IfErr result (λ fault. ¬ (fault ≡ PushFault.OutOfMemory)
-        → IsNode (BeginsWith (index_or_zero (I.IndexOf.index indices.now)) limits.now)
-        layout children node.new values) }
+    ensures { (layout : Layout) (children : Shape) (values : List Value)
+        → IsNode (IsColumn (index_or_zero (I.IndexOf.index indices.now)) limits.now) layout children
+        node.old values
+        → AppendsTo (index_or_zero (I.IndexOf.index indices.now)) limits.now layout children values
+        (values ++ value.now ∷ []) node.new result }
 {
     append_below(
         value,
@@ -269,23 +217,12 @@ fn append_below<I: IndexOf>(
     limits: &Limits,
     indices: &I,
 ) -> Result<(), PushFault>
-    ensures appended { (shape : Shape) (values : List Value)
-        → AreNodes (IsColumn (index_or_zero (I.IndexOf.index indices.now)) limits.now)
-        shape nodes.old (child_values layout values)
-        → OnOk result (AreNodes (IsColumn (index_or_zero (I.IndexOf.index indices.now)) limits.now)
-        shape nodes.new
-        (child_values layout (values ++ value.now ∷ []))) }
-    ensures refused { (shape : Shape) (values : List Value)
-        → AreNodes (IsColumn (index_or_zero (I.IndexOf.index indices.now)) limits.now)
-        shape nodes.old (child_values layout values)
-        → IfErr result
-        (ArePushesRefused limits.now shape (child_values layout (values ++ value.now ∷ []))) }
-    ensures begun { (shape : Shape) (values : List Value)
-        → AreNodes (IsColumn (index_or_zero (I.IndexOf.index indices.now)) limits.now)
-        shape nodes.old (child_values layout values)
-        → IfErr result (λ fault. ¬ (fault ≡ PushFault.OutOfMemory)
-        → AreNodes (BeginsWith (index_or_zero (I.IndexOf.index indices.now)) limits.now)
-        shape nodes.new (child_values layout values)) }
+    ensures { (shape : Shape) (values : List Value)
+        → HoldColumns (index_or_zero (I.IndexOf.index indices.now)) limits.now shape nodes.old
+        (child_values layout values)
+        → Appends (index_or_zero (I.IndexOf.index indices.now)) limits.now shape
+        (child_values layout values)
+        (child_values layout (values ++ value.now ∷ [])) nodes.new result }
 {
     match layout {
         Layout::Lists => append_items(items(value), nodes, limits, indices),
@@ -312,22 +249,10 @@ fn append_items<I: IndexOf>(
     limits: &Limits,
     indices: &I,
 ) -> Result<(), PushFault>
-    ensures appended { (shape : Shape) (given : ℕ → List Value)
-        → AreNodes (IsColumn (index_or_zero (I.IndexOf.index indices.now)) limits.now)
-        shape nodes.old given
-        → OnOk result (AreNodes (IsColumn (index_or_zero (I.IndexOf.index indices.now)) limits.now)
-        shape nodes.new
-        (λ j. given j ++ items.now)) }
-    ensures refused { (shape : Shape) (given : ℕ → List Value)
-        → AreNodes (IsColumn (index_or_zero (I.IndexOf.index indices.now)) limits.now)
-        shape nodes.old given
-        → IfErr result (ArePushesRefused limits.now shape (λ j. given j ++ items.now)) }
-    ensures begun { (shape : Shape) (given : ℕ → List Value)
-        → AreNodes (IsColumn (index_or_zero (I.IndexOf.index indices.now)) limits.now)
-        shape nodes.old given
-        → IfErr result (λ fault. ¬ (fault ≡ PushFault.OutOfMemory)
-        → AreNodes (BeginsWith (index_or_zero (I.IndexOf.index indices.now)) limits.now)
-        shape nodes.new given) }
+    ensures { (shape : Shape) (given : ℕ → List Value)
+        → HoldColumns (index_or_zero (I.IndexOf.index indices.now)) limits.now shape nodes.old given
+        → Appends (index_or_zero (I.IndexOf.index indices.now)) limits.now shape given
+        (λ j. given j ++ items.now) nodes.new result }
 {
     for i in 0..nodes.len() {
         append_all(items, &mut nodes[i], limits, indices)?;
@@ -335,7 +260,7 @@ fn append_items<I: IndexOf>(
     Ok(())
 }
 
-// Appends values, one after another, to one column. A column without children takes many at once.
+// Appends values, one after another, to one column.
 #[cycle(append)]
 fn append_all<I: IndexOf>(
     values: &[Value],
@@ -343,27 +268,12 @@ fn append_all<I: IndexOf>(
     limits: &Limits,
     indices: &I,
 ) -> Result<(), PushFault>
-    ensures appended { (layout : Layout) (children : Shape) (before : List Value)
-        → IsNode (IsColumn (index_or_zero (I.IndexOf.index indices.now)) limits.now)
-        layout children node.old before
-        → OnOk result (IsNode (IsColumn (index_or_zero (I.IndexOf.index indices.now)) limits.now)
-        layout children node.new
-        (before ++ values.now)) }
-    ensures refused { (layout : Layout) (children : Shape) (before : List Value)
-        → IsNode (IsColumn (index_or_zero (I.IndexOf.index indices.now)) limits.now)
-        layout children node.old before
-        → IfErr result (ArePushesRefused limits.now (field layout children bare)
-        (λ j. before ++ values.now)) }
-    ensures begun { (layout : Layout) (children : Shape) (before : List Value)
-        → IsNode (IsColumn (index_or_zero (I.IndexOf.index indices.now)) limits.now)
-        layout children node.old before
-        → IfErr result (λ fault. ¬ (fault ≡ PushFault.OutOfMemory)
-        → IsNode (BeginsWith (index_or_zero (I.IndexOf.index indices.now)) limits.now)
-        layout children node.new before) }
+    ensures { (layout : Layout) (children : Shape) (before : List Value)
+        → IsNode (IsColumn (index_or_zero (I.IndexOf.index indices.now)) limits.now) layout children
+        node.old before
+        → AppendsTo (index_or_zero (I.IndexOf.index indices.now)) limits.now layout children before
+        (before ++ values.now) node.new result }
 {
-    if node.is_leaf() && values.len() >= BULK_MINIMUM {
-        return node.column.push_all(values, limits, indices);
-    }
     for value in values {
         append(value, node, limits, indices)?;
     }
@@ -378,23 +288,10 @@ pub(crate) fn append_parts<I: IndexOf>(
     limits: &Limits,
     indices: &I,
 ) -> Result<(), PushFault>
-    ensures appended { (shape : Shape) (given : ℕ → List Value)
-        → AreNodes (IsColumn (index_or_zero (I.IndexOf.index indices.now)) limits.now)
-        shape nodes.old given
-        → OnOk result (AreNodes (IsColumn (index_or_zero (I.IndexOf.index indices.now)) limits.now)
-        shape nodes.new
-        (λ j. given j ++ cell j parts.now ∷ [])) }
-    ensures refused { (shape : Shape) (given : ℕ → List Value)
-        → AreNodes (IsColumn (index_or_zero (I.IndexOf.index indices.now)) limits.now)
-        shape nodes.old given
-        → IfErr result
-        (ArePushesRefused limits.now shape (λ j. given j ++ cell j parts.now ∷ [])) }
-    ensures begun { (shape : Shape) (given : ℕ → List Value)
-        → AreNodes (IsColumn (index_or_zero (I.IndexOf.index indices.now)) limits.now)
-        shape nodes.old given
-        → IfErr result (λ fault. ¬ (fault ≡ PushFault.OutOfMemory)
-        → AreNodes (BeginsWith (index_or_zero (I.IndexOf.index indices.now)) limits.now)
-        shape nodes.new given) }
+    ensures { (shape : Shape) (given : ℕ → List Value)
+        → HoldColumns (index_or_zero (I.IndexOf.index indices.now)) limits.now shape nodes.old given
+        → Appends (index_or_zero (I.IndexOf.index indices.now)) limits.now shape given
+        (λ j. given j ++ cell j parts.now ∷ []) nodes.new result }
 {
     for i in 0..nodes.len() {
         match parts.get(i) {

@@ -1,7 +1,6 @@
 -- A batch whose rows are pushed one by one (Message.fbs, RecordBatch).
 use Rattle.std.specs.Prelude.{◌≡◌, ℕ, Bool, true, false, List, [], ◌∷◌, ◌++◌, Result, Ok, Err}
 use Rattle.std.specs.Coded.{Coded, coded_list}
-use Rattle.ipc_model.specs.Fits.{RowFits}
 use Rattle.ipc_model.specs.contracts.schema.Field as field
 use Rattle.ipc_model.specs.declared.fault.WriteFault.{WriteFault}
 use Rattle.ipc_model.specs.declared.fault.WriteFault.TheVariants as w
@@ -12,13 +11,10 @@ use Rattle.ipc_model.specs.declared.table.BatchRows.{BatchRows}
 use Rattle.ipc_model.specs.declared.value.Value.{Value}
 use Rattle.ipc_encode.specs.Built.{StoresRows}
 use Rattle.ipc_encode.specs.Numbers.{index_or_zero}
-use Rattle.ipc_encode.specs.Faults.{write_fault}
 use Rattle.ipc_dict.specs.Noting.{place_of_value}
 use Rattle.ipc_dict.specs.Sending.{tally_of_rows}
 use Rattle.ipc_dict.specs.TallyState.{TallyState}
 use Rattle.ipc_stream.specs.declared.pending_batch.PendingBatch.{PendingBatch}
-use Rattle.ipc_stream.specs.declared.row_rejection.RowRejection.{RowRejection}
-use Rattle.ipc_stream.specs.declared.row_rejection.RowRejection.TheVariants as u
 use Rattle.ipc_stream.specs.Writing.{AcceptsBatch, RefusesBatch}
 use Rattle.ipc_stream.specs.Writer.{Writer}
 
@@ -77,13 +73,6 @@ abbrev pub RefusesPending : Limits → Schema → BatchRows → Bool → WriteFa
 RefusesPending limits s b failed w.Write = ⊥
 RefusesPending limits s b failed w.Failed = failed ≡ true
 RefusesPending limits s b failed fault = RefusesBatch limits s b fault
-
--- why a row is not taken into a batch: it does not fit the fields, or the batch with it would be
--- refused
-abbrev pub RefusesRow : Limits → Schema → BatchRows → List Value → RowRejection → Type 0
-RefusesRow limits s b row u.DoesNotConform = RowFits s.fields row → ⊥
-RefusesRow limits s b row (u.Refused fault) =
-    RefusesPending limits s (with_row b row) false (write_fault fault)
 
 -- the state of a writer after a refusal, if nothing was to be sent: W11 makes it fail; after any
 -- other fault it is as it was

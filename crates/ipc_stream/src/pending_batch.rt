@@ -6,17 +6,17 @@ ghost use Rattle.ipc_model.specs.declared.limits.Limits.{Limits};
 ghost use Rattle.ipc_model.specs.declared.schema.Schema.{Schema};
 ghost use Rattle.ipc_model.specs.declared.table.BatchRows.{BatchRows};
 ghost use Rattle.ipc_model.specs.declared.value.Value.{Value};
+ghost use Rattle.ipc_encode.specs.Faults.{write_fault};
 ghost use Rattle.ipc_encode.specs.Limits.{IsWithin};
 ghost use Rattle.ipc_dict.specs.Within.{HaveShortMessages};
 ghost use Rattle.ipc_stream.specs.Parts.{AcceptsPairs};
 ghost use Rattle.ipc_stream.specs.Writing.{RefusesBatch};
-ghost use Rattle.ipc_stream.specs.PendingBatches.{HoldsBatch, RefusesPending, RefusesRow};
-ghost use Rattle.ipc_stream.specs.PendingBatches.{StaysInStream, no_rows, with_row, with_rows};
+ghost use Rattle.ipc_stream.specs.PendingBatches.{HoldsBatch, RefusesPending, StaysInStream};
+ghost use Rattle.ipc_stream.specs.PendingBatches.{no_rows, with_row, with_rows};
 
 use crate::messages::parts_message;
-use crate::row_rejection::RowRejection;
 use ipc_dict::{Seed, Tally};
-use ipc_encode::{BufferPool, Builder, NoIndices, PushFault, encode, row_weight};
+use ipc_encode::{BufferPool, Builder, NoIndices, PushFault, encode};
 use ipc_model::{Items, Limits, Row, Schema, Text, Value, WriteFault, conforms};
 use std::alloc::Global;
 
@@ -75,88 +75,31 @@ impl PendingBatch {
         })
     }
 
-    // What is wrong with a row that doesn't conform, with the number that it would have.
-    #[cold]
-    #[inline(never)]
-    fn row_mismatch(&self, schema: &Schema, row: &[Value]) -> WriteFault
-        requires short { HasShortPaths schema.now }
-        requires misfits { ¬ RowFits schema.now.fields row.now }
-        ensures { (limits : Limits) (b : BatchRows) → HoldsBatch limits schema.now b self.now
-            → RefusesPending limits schema.now (with_row b row.now) false result }
-    {
-        match conforms(schema, row) {
-            Ok(()) => unreachable!(),
-            Err(fault) => fault.at_row(self.builder.row_count() as u64),
-        }
-    }
-
-    // Adds one row. The refusal is returned in a few bytes: the full fault is large, and is made
-    // only when it is needed.
+    // Adds one row that fits the schema. After W11 the batch is unusable. After any other error it
+    // is unchanged.
     #[inline(always)]
-    fn take(&mut self, schema: &Schema, row: &[Value]) -> Result<(), RowRejection>
+    fn take(&mut self, row: &[Value]) -> Result<(), PushFault>
         ensures stays { StaysInStream self.old self.new }
-        ensures holds { (limits : Limits) (b : BatchRows) → WellFormed limits schema.now
-            → HoldsBatch limits schema.now b self.old
-            → OnOk result (HoldsBatch limits schema.now (with_row b row.now) self.new) }
-        ensures refused { (limits : Limits) (b : BatchRows) → WellFormed limits schema.now
-            → HoldsBatch limits schema.now b self.old
-            → IfErr result (RefusesRow limits schema.now b row.now) }
-        ensures kept { (limits : Limits) (b : BatchRows) → WellFormed limits schema.now
-            → HoldsBatch limits schema.now b self.old
-            → IfErr result (λ why. ¬ (why ≡ RowRejection.Refused PushFault.OutOfMemory)
-            → HoldsBatch limits schema.now b self.new) }
-        ensures misfits { IfErr result
-            (λ why. why ≡ RowRejection.DoesNotConform → ¬ RowFits schema.now.fields row.now) }
+        ensures holds { (limits : Limits) (s : Schema) (b : BatchRows) → WellFormed limits s
+            → RowFits s.fields row.now → HoldsBatch limits s b self.old
+            → OnOk result (HoldsBatch limits s (with_row b row.now) self.new) }
+        ensures refused { (limits : Limits) (s : Schema) (b : BatchRows) → WellFormed limits s
+            → HoldsBatch limits s b self.old
+            → IfErr result (λ fault. RefusesPending limits s (with_row b row.now) false
+            (write_fault fault)) }
+        ensures kept { (limits : Limits) (s : Schema) (b : BatchRows) → WellFormed limits s
+            → HoldsBatch limits s b self.old
+            → IfErr result (λ fault. ¬ (fault ≡ PushFault.OutOfMemory)
+            → HoldsBatch limits s b self.new) }
     {
-        let Some(weight) = row_weight(schema.fields.as_slice(), row) else {
-            return Err(RowRejection::DoesNotConform);
-        };
         self.tally.note(row)?;
-        match self.builder.push(row, weight, &self.tally) {
+        match self.builder.push(row, &self.tally) {
             Ok(()) => Ok(()),
             Err(fault) => {
                 self.tally.cut();
-                Err(RowRejection::Refused(fault))
+                Err(fault)
             }
         }
-    }
-
-    // Returns the full fault for a row that was refused.
-    #[cold]
-    #[inline(never)]
-    fn rejection_fault(&self, schema: &Schema, row: &[Value], why: RowRejection) -> WriteFault
-        requires short { HasShortPaths schema.now }
-        requires misfits { why ≡ RowRejection.DoesNotConform → ¬ RowFits schema.now.fields row.now }
-        ensures refused { (limits : Limits) (b : BatchRows)
-            → RefusesRow limits schema.now b row.now why
-            → (¬ (why ≡ RowRejection.Refused PushFault.OutOfMemory)
-            → HoldsBatch limits schema.now b self.now)
-            → RefusesPending limits schema.now (with_row b row.now) false result }
-        ensures memory { why ≡ RowRejection.Refused PushFault.OutOfMemory
-            → result ≡ WriteFault.OutOfMemory }
-    {
-        match why {
-            RowRejection::DoesNotConform => self.row_mismatch(schema, row),
-            RowRejection::Refused(fault) => fault.into(),
-        }
-    }
-
-    // Returns the full fault for a row that was refused, as `Err`. It is a function of its own, so
-    // that only this function has stack space for the fault.
-    #[inline(always)]
-    fn refuse(&self, schema: &Schema, row: &[Value], why: RowRejection) -> Result<(), WriteFault>
-        requires short { HasShortPaths schema.now }
-        requires misfits { why ≡ RowRejection.DoesNotConform → ¬ RowFits schema.now.fields row.now }
-        ensures none { OnOk result ⊥ }
-        ensures refused { (limits : Limits) (b : BatchRows)
-            → RefusesRow limits schema.now b row.now why
-            → (¬ (why ≡ RowRejection.Refused PushFault.OutOfMemory)
-            → HoldsBatch limits schema.now b self.now)
-            → IfErr result (RefusesPending limits schema.now (with_row b row.now) false) }
-        ensures memory { why ≡ RowRejection.Refused PushFault.OutOfMemory
-            → IfErr result (λ fault. fault ≡ WriteFault.OutOfMemory) }
-    {
-        Err(self.rejection_fault(schema, row, why))
     }
 
     // Adds one row. After W11 the batch is unusable; after any other error it is unchanged.
@@ -175,10 +118,11 @@ impl PendingBatch {
             → IfErr result (λ fault. ¬ (fault ≡ WriteFault.OutOfMemory)
             → HoldsBatch limits schema.now b self.new) }
     {
-        match self.take(schema, row) {
-            Ok(()) => Ok(()),
-            Err(why) => self.refuse(schema, row, why),
+        if let Err(fault) = conforms(schema, row) {
+            return Err(fault.at_row(self.builder.row_count() as u64));
         }
+        self.take(row)?;
+        Ok(())
     }
 
     // Takes several rows, one after another, in a batch without rows.

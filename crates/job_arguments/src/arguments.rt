@@ -111,6 +111,10 @@ const HINT: &str = "\nInput is read from standard input: arrowstream check < FIL
 
 // The message for a dialect of CSV in which a value could not be told from null, or a field from
 // two.
+const DELIMITER: &str = "\
+error: --delimiter takes one ASCII character; for a tab, write $'\\t'
+";
+
 const DIALECT: &str = "\
 error: with this --delimiter and --null, a value could be taken for null or for two fields
 The delimiter is no letter, digit, '-', '.', ':', '\"' or end of a line. The text of null has no
@@ -147,7 +151,7 @@ fn usage_of(alloc: Global, error: &Error) -> Usage
     }
 }
 
-// A command line that is none of the program's, and why.
+// A command line that the program does not accept, and why.
 fn wrong(alloc: Global, why: &str) -> Usage
     ensures { IsWrong result }
 {
@@ -251,7 +255,7 @@ fn read_dialect(alloc: Global, options: &ArgMatches<'_>) -> Result<CsvDialect, U
         return Err(wrong(alloc, "error: --null has no value\n"));
     };
     let Some(byte) = only_byte(delimiter) else {
-        return Err(wrong(alloc, "error: --delimiter takes one ASCII character\n"));
+        return Err(wrong(alloc, DELIMITER));
     };
     let null = String::from_str(alloc, null)?;
     match CsvDialect::new(byte, null) {

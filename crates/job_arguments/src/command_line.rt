@@ -60,8 +60,8 @@ Examples:
 
 const REWRITE_EXAMPLES: &str = "\
 The schema, the batches, their pairs and their rows stay the same. Each batch is laid out as this
-program does it, and the stream ends with the end-of-stream mark. A limit below its default is
-raised to the default for writing.
+program does it, and the stream ends with the end-of-stream mark. The --max options bound the input.
+A batch that is written may be longer, up to the default.
 
 Examples:
   arrowstream rewrite < other.arrows > trades.arrows
@@ -203,7 +203,7 @@ fn command_with_help<'a>(
 fn check<'a>(alloc: Global) -> Result<Command<'a>, AllocError>
     ensures { IfOk result (IsCommand line.check) }
 {
-    let about = "Reads an Arrow IPC stream to its end, and prints its schema and counts";
+    let about = "Read an Arrow IPC stream to its end, and print its schema and counts";
     let check = command_with_help(alloc, "check", about, CHECK_EXAMPLES);
     let help = "Print the schema alone, and read nothing after its message";
     with_stream(alloc, check.arg(flag(alloc, "schema", help))?)
@@ -213,11 +213,11 @@ fn check<'a>(alloc: Global) -> Result<Command<'a>, AllocError>
 fn show<'a>(alloc: Global) -> Result<Command<'a>, AllocError>
     ensures { IfOk result (IsCommand line.show) }
 {
-    let about = "Prints each row of an Arrow IPC stream as a JSON array on a line of its own";
+    let about = "Print each row of an Arrow IPC stream as a JSON array on a line of its own";
     let show = command_with_help(alloc, "show", about, SHOW_EXAMPLES);
     let help = "Print each row as a JSON object with the columns' names as keys";
     let show = show.arg(flag(alloc, "objects", help))?;
-    let help = "Print the pairs of key and value of each batch on a line before its rows";
+    let help = "Before the rows of each batch, print its metadata as one JSON line";
     let show = show.arg(flag(alloc, "pairs", help))?;
     with_stream(alloc, show.arg(limit(alloc))?)
 }
@@ -233,14 +233,14 @@ fn with_dialect<'a>(alloc: Global, command: Command<'a>) -> Result<Command<'a>, 
             "delimiter",
             "C",
             ",",
-            "The character between fields, one of ASCII that no value has",
+            "Field separator: one ASCII character that occurs in no value",
         ))?
         .arg(text(
             alloc,
             "null",
             "TEXT",
             "\\N",
-            "The field that is null; no value may have this text",
+            "Text that stands for null; to-csv refuses a value equal to it",
         ))
 }
 
@@ -248,7 +248,7 @@ fn with_dialect<'a>(alloc: Global, command: Command<'a>) -> Result<Command<'a>, 
 fn to_csv<'a>(alloc: Global) -> Result<Command<'a>, AllocError>
     ensures { IfOk result (IsCommand line.to_csv) }
 {
-    let about = "Prints an Arrow IPC stream as CSV with a header";
+    let about = "Print an Arrow IPC stream as CSV with a header";
     let to_csv = command_with_help(alloc, "to-csv", about, TO_CSV_EXAMPLES);
     let to_csv = with_dialect(alloc, to_csv)?;
     with_stream(alloc, to_csv.arg(limit(alloc))?)
@@ -276,7 +276,7 @@ fn batch<'a>(alloc: Global) -> Arg<'a>
 fn from_csv<'a>(alloc: Global) -> Result<Command<'a>, AllocError>
     ensures { IfOk result (IsCommand line.from_csv) }
 {
-    let about = "Converts CSV to an Arrow IPC stream";
+    let about = "Convert CSV to an Arrow IPC stream";
     let from_csv = command_with_help(alloc, "from-csv", about, FROM_CSV_EXAMPLES);
     let from_csv = from_csv.arg(schema(alloc))?.arg(batch(alloc))?;
     with_dialect(alloc, from_csv)?.arg(explain(alloc))
@@ -286,7 +286,7 @@ fn from_csv<'a>(alloc: Global) -> Result<Command<'a>, AllocError>
 fn rewrite<'a>(alloc: Global) -> Result<Command<'a>, AllocError>
     ensures { IfOk result (IsCommand line.rewrite) }
 {
-    let about = "Rewrites an Arrow IPC stream in canonical layout, batch by batch";
+    let about = "Rewrite an Arrow IPC stream in canonical layout, batch by batch";
     with_stream(
         alloc,
         command_with_help(alloc, "rewrite", about, REWRITE_EXAMPLES),
@@ -297,7 +297,7 @@ fn rewrite<'a>(alloc: Global) -> Result<Command<'a>, AllocError>
 fn program<'a>(alloc: Global) -> Command<'a>
     ensures { IsCommand line.program result }
 {
-    let about = "Reads and writes Apache Arrow IPC streams";
+    let about = "Read and write Apache Arrow IPC streams";
     let program = command_with_help(alloc, "arrowstream", about, EXAMPLES);
     program.version("0.1.0").subcommand_required(true)
 }

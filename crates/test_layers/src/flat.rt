@@ -32,7 +32,7 @@ fn is_schema_message(message: &TableRef<'_>) -> bool {
         && matches!(message.table(2), Ok(Some(schema)) if is_empty_schema(&schema))
 }
 
-// One table, which shares the vtable, by which its text is behind the last byte.
+// One table, which shares the vtable: by this its text is past the last byte.
 fn is_one_without_text(tables: &TableVec<'_>) -> bool {
     tables.len() == 1
         && matches!(tables.at(0), Ok(inner) if inner.text(0).err() == Some(FlatFault::OutOfBounds))

@@ -52,7 +52,7 @@ fn push_in_threes(frames: &mut Frames) -> Result<(), Fault> {
     frames.close()
 }
 
-// Whether nothing is taken behind a growth that was refused.
+// Whether nothing is taken after a growth that was refused.
 fn ends_at_a_fault(frames: &mut Frames) -> Result<bool, Fault> {
     match push_in_threes(frames) {
         Err(fault) if fault == Fault::OutOfMemory && has_failed(frames) => Err(fault),

@@ -97,15 +97,15 @@ fn are_few(alloc: Global, dictionaries: &Dictionaries) -> Result<bool, Fault> {
     )
 }
 
-// How a thousand indices stand in a thousand lists: one in each, or all of them in the first.
+// How a thousand lists hold a thousand indices: one in each, or all of them in the first.
 #[derive(Clone, Copy)]
 enum Spread {
     OneInEach,
     AllInFirst,
 }
 
-// The offset behind so many lists.
-fn offset_behind(spread: Spread, lists: u16) -> u16 {
+// The offset at which this number of lists ends.
+fn offset_after(spread: Spread, lists: u16) -> u16 {
     match (spread, lists) {
         (Spread::AllInFirst, 0) => 0,
         (Spread::AllInFirst, _) => 1000,
@@ -120,7 +120,7 @@ fn write(body: &mut Vec<u8>, thousand: &Thousand) -> Result<(), AllocError> {
     let last_bits = if thousand.last_valid { 0xff } else { 0x7f };
     body.extend_from_slice(&[last_bits, 0, 0, 0])?;
     for lists in 0..=1000_u16 {
-        let [low, high] = offset_behind(thousand.spread, lists).to_le_bytes();
+        let [low, high] = offset_after(thousand.spread, lists).to_le_bytes();
         body.extend_from_slice(&[low, high, 0, 0])?;
     }
     body.extend_from_slice(&[0; 999])?;

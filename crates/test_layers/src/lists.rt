@@ -304,7 +304,7 @@ fn number_of(cell: Cell<'_>) -> i64 {
     }
 }
 
-// What the numbers of a row's list make in order, each behind three times those before it.
+// A digest of the numbers of a row's list: for each, three times the digest so far, and the number.
 fn told(found: &Batch, row: usize) -> Option<i64> {
     if row >= found.rows() || found.columns() == 0 {
         return None;

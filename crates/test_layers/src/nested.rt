@@ -1,6 +1,6 @@
 //! Rows taken one at a time, byte for byte and up to a limit, of lists and structs too.
 use crate::lists::over;
-use ipc_encode::{BufferPool, Builder, NoIndices, Parts, Renumber, SameNumbers, row_weight};
+use ipc_encode::{BufferPool, Builder, NoIndices, Parts, Renumber, SameNumbers};
 use ipc_model::{DataType, DateUnit, Field, IntBits, Items, Limits, Row, Value, WriteFault};
 use std::alloc::{AllocError, Global};
 use std::mem;
@@ -80,7 +80,7 @@ fn builder_of(
     Builder::with_pool(alloc, &fields, limits, room)
 }
 
-// Puts a value behind the others of the innermost list or struct that is open.
+// Appends a value to the innermost list or struct that is open.
 fn put(open: &mut Vec<Vec<Value>>, value: Value) -> Result<(), AllocError> {
     if let Some(values) = open.last_mut() {
         values.push(value)?;
@@ -119,9 +119,9 @@ pub(crate) fn row_of(alloc: Global, text: &[u8]) -> Result<Row, AllocError> {
     Ok(close(alloc, &mut open))
 }
 
-// Appends a row if it is within the limits, by the sizes of the buffers alone.
+// Appends a row if it is within the limits.
 fn push(builder: &mut Builder, row: &[Value]) -> Result<(), WriteFault> {
-    builder.push(row, u64::MAX, &NoIndices)?;
+    builder.push(row, &NoIndices)?;
     Ok(())
 }
 
@@ -290,7 +290,7 @@ const LIMITED: [Limited; 8] = [
         wanted: Err(WriteFault::TooLong),
         built: None,
     },
-    // The items of a list's child count as its rows do: behind three of them no fourth is taken,
+    // The items of a list's child count as its rows do: after three of them no fourth is taken,
     // and an empty list is.
     Limited {
         kind: Kind::ListsAndStructs,
@@ -385,91 +385,6 @@ fn rows_up_to_their_limits(rt: HostRuntime) {
         assert!(rt;
             matches!(&limits, Some(limits) if is_limited(rt.alloc(), limited, limits)),
             "limit {number}"
-        );
-    }
-}
-
-// A row and its weight, or `None` if it does not conform to the fields.
-#[derive(Clone, Copy)]
-struct Weighed {
-    kind: Kind,
-    row: &'static [u8],
-    weight: Option<u64>,
-}
-
-// Each slot weighs 6 in every column, and its data 4 for a day, 1 for a number, and 1 for each item
-// of a list.
-const WEIGHED: [Weighed; 11] = [
-    Weighed {
-        kind: Kind::DaysAndTexts,
-        row: b"1-",
-        weight: Some(16),
-    },
-    Weighed {
-        kind: Kind::DaysAndTexts,
-        row: b"1",
-        weight: None,
-    },
-    Weighed {
-        kind: Kind::DaysAndTexts,
-        row: b"1--",
-        weight: None,
-    },
-    Weighed {
-        kind: Kind::ListsAndStructs,
-        row: b"[1-3](7[1])",
-        weight: Some(57),
-    },
-    Weighed {
-        kind: Kind::ListsAndStructs,
-        row: b"--",
-        weight: Some(25),
-    },
-    Weighed {
-        kind: Kind::ListsAndStructs,
-        row: b"[](9)",
-        weight: None,
-    },
-    Weighed {
-        kind: Kind::ListsOfLists,
-        row: b"[[1-][]-]",
-        weight: Some(43),
-    },
-    Weighed {
-        kind: Kind::Structs,
-        row: b"(1)",
-        weight: Some(13),
-    },
-    Weighed {
-        kind: Kind::Structs,
-        row: b"(-)",
-        weight: None,
-    },
-    Weighed {
-        kind: Kind::Twos,
-        row: b"[1-]",
-        weight: Some(20),
-    },
-    Weighed {
-        kind: Kind::Twos,
-        row: b"[1]",
-        weight: None,
-    },
-];
-
-// The weight of the row of a text.
-fn weight_of(alloc: Global, weighed: &Weighed) -> Result<Option<u64>, AllocError> {
-    let mut fields = Vec::new(alloc);
-    add_fields(alloc, &mut fields, weighed.kind)?;
-    Ok(row_weight(&fields, row_of(alloc, weighed.row)?.as_slice()))
-}
-
-#[test]
-fn weights_of_rows(rt: HostRuntime) {
-    for (number, weighed) in WEIGHED.iter().enumerate() {
-        assert!(rt;
-            weight_of(rt.alloc(), weighed) == Ok(weighed.weight),
-            "row {number}"
         );
     }
 }

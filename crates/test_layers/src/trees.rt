@@ -112,7 +112,7 @@ fn grows_fields_that_come_back(rt: HostRuntime) -> Result<(), Fail> {
 }
 
 // By hand: the root offset, then the vtable of four entries at 4, and the table at 20, after zeros,
-// with the distance 16 to its vtable; field 3 is at 24, 4 behind the table.
+// with the distance 16 to its vtable; field 3 is at 24, 4 after the table.
 const ONE_SCALAR: [u8; 32] = [
     20, 0, 0, 0, 12, 0, 12, 0, 0, 0, 0, 0, 0, 0, 4, 0, 0, 0, 0, 0, 16, 0, 0, 0, 42, 0, 0, 0, 0, 0,
     0, 0,

@@ -199,7 +199,7 @@ fn pushed(alloc: Global, numbers: &[i64]) -> Result<Vec<u8>, WriteFault> {
 }
 
 // The body of the numbers, and the end mark.
-const BEHIND: [u8; 32] = [
+const BODY_AND_END: [u8; 32] = [
     1, 0, 0, 0, 0, 0, 0, 0, 254, 255, 255, 255, 255, 255, 255, 255, 255, 255, 255, 255, 255, 255,
     255, 127, 255, 255, 255, 255, 0, 0, 0, 0,
 ];
@@ -230,7 +230,7 @@ fn answers_of_writers(rt: HostRuntime) -> Result<(), Fail> {
     assert!(rt; pushed(rt.alloc(), &[127, 128, -128, -129])?.as_slice() == fit.as_slice());
     let bytes = stream_of(rt.alloc(), Column::Numbers, &[Step::Write(NUMBERS)])?;
     let is_wide = is_bad(rt.alloc(), DataType::FixedSizeBinary(1 << 31))?;
-    assert!(rt; bytes.ends_with(&BEHIND) && is_wide && is_bad(rt.alloc(), DataType::List)?);
+    assert!(rt; bytes.ends_with(&BODY_AND_END) && is_wide && is_bad(rt.alloc(), DataType::List)?);
     Ok(())
 }
 

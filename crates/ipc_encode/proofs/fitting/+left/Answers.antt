@@ -2,7 +2,7 @@ use Rattle.std.proofs.Common.{◌≡◌, ◌∙◌, refl, sym, subst, ℕ, ◌+�
 use Rattle.std.proofs.lemmas.Option.{IfSome_then}
 use Rattle.ipc_model.specs.declared.layout.Layout.{Layout}
 use Rattle.ipc_column.specs.Shapes.{Shape, bare}
-use Rattle.ipc_encode.specs.declared.tree.Node.{Node, out-Node}
+use Rattle.ipc_encode.specs.declared.tree.Node.{Node}
 use Rattle.ipc_encode.specs.Buffers.{child_values, padded_bytes, buffers_of, column_buffers}
 use Rattle.ipc_encode.specs.declared.column.ColumnCounts.{ColumnCounts}
 use Rattle.ipc_encode.specs.Built.{AreNodes, IsNode, IsColumn, AreCountsOf}

@@ -20,7 +20,7 @@ returns-in-Ok-clause-appended g c = λ limits fields rows before.
     (sym c.deref_mut.ensures.value) before.columns_are) in
     let more = subst (λ (l : Limits). HoldColumns known l (shape_of fields) c.append_parts.new.nodes (row_columns next)) before.limits_are
     (subst (λ (given : ℕ → List Value). HoldColumns known builder.limits (shape_of fields) c.append_parts.new.nodes given)
-    (columns_push rows c.args.row.now) (c.in-Ok.ensures.appended (shape_of fields) (row_columns rows) held)) in
+    (columns_push rows c.args.row.now) (c.in-Ok.ensures (shape_of fields) (row_columns rows) held).appended) in
     let size : length c.append_parts.new.nodes ≡ builder.nodes.len = c.append_parts.auto.nodes ∙ c.deref_mut.ensures.len in
     let count = length-append rows (c.args.row.now ∷ []) in
     record {
@@ -43,7 +43,7 @@ returns-in-Err-clause-refused g c = λ limits fields rows before.
     rows_refused limits fields next fault
     (subst (λ (l : Limits). ArePushesRefused l (shape_of fields) (row_columns next) fault) before.limits_are
     (subst (λ (given : ℕ → List Value). ArePushesRefused builder.limits (shape_of fields) given fault)
-    (columns_push rows c.args.row.now) (c.in-Err.ensures.refused (shape_of fields) (row_columns rows) held)))
+    (columns_push rows c.args.row.now) (c.in-Err.ensures (shape_of fields) (row_columns rows) held).refused))
 
 pub returns-in-Err-clause-kept : goal.returns-in-Err-clause-kept
 returns-in-Err-clause-kept g c = λ limits fields rows before other.
@@ -54,8 +54,8 @@ returns-in-Err-clause-kept g c = λ limits fields rows before other.
     (sym c.deref_mut.ensures.value) before.columns_are) in
     let size : length c.append_parts.new.nodes ≡ builder.nodes.len = c.append_parts.auto.nodes ∙ c.deref_mut.ensures.len in
     let begun = subst (λ (l : Limits). AreNodes (BeginsWith known l) (shape_of fields) c.append_parts.new.nodes (row_columns rows))
-    before.limits_are (c.in-Err.ensures.begun (shape_of fields) (row_columns rows) held other) in
-    c.cut_row.ensures.rows known limits fields rows (record {
+    before.limits_are ((c.in-Err.ensures (shape_of fields) (row_columns rows) held).begun other) in
+    c.cut_row.ensures known limits fields rows (record {
       limits_are = before.limits_are;
       count = before.count;
       columns_begin = subst (λ (ns : List Node). AreNodes (BeginsWith known limits) (shape_of fields) ns (row_columns rows))

@@ -7,8 +7,8 @@ use Rattle.ipc_encode.specs.Built.{AreNodes, BeginsWith, HoldColumns}
 use Rattle.ipc_encode.proofs.Steps.{cells_length}
 use Rattle.ipc_encode.proofs.builder.Builder.cut_row.Goals as goal
 
-pub returns-clause-rows : goal.returns-clause-rows
-returns-clause-rows c = λ known limits fields rows h.
+pub returns : goal.returns
+returns c = λ known limits fields rows h.
     let nodes = c.args.self.now.nodes in
     let begun = subst (λ (ns : List Node). AreNodes (BeginsWith known limits) (shape_of fields) ns (row_columns rows))
     (sym c.deref_mut.ensures.value) h.columns_begin in

@@ -9,7 +9,6 @@ use Rattle.ipc_encode.specs.Built.{HoldColumns}
 use Rattle.ipc_encode.specs.Numbers.{index_or_zero}
 use Rattle.ipc_encode.specs.Limits.{AreRowsRefused}
 use Rattle.ipc_encode.proofs.Held.{built_within, rows_refused}
-use Rattle.ipc_encode.proofs.Weights.{no_headroom}
 use Rattle.ipc_encode.proofs.builder.Builder.of_rows.Goals as goal
 
 pub returns-in_err-push_rows-clause-refused : goal.returns-in_err-push_rows-clause-refused
@@ -59,5 +58,4 @@ returns-clause-rows g c =
       columns_are = subst (λ (ns : List Node). HoldColumns known limits (shape_of fields) ns (row_columns rows)) (sym same) pushed;
       within = built_within known limits fields rows c.deref.result.now (omega (arith, c.if-rows-limits.false)) held
           (c.in_ok-check_len.ensures.within known fields rows held);
-      has_headroom = no_headroom limits fields rows;
     }

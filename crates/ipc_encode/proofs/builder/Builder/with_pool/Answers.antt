@@ -7,7 +7,6 @@ use Rattle.ipc_encode.specs.Buffers.{row_columns}
 use Rattle.ipc_encode.specs.Built.{HoldColumns}
 use Rattle.ipc_encode.specs.Limits.{AreRowsRefused}
 use Rattle.ipc_encode.proofs.Held.{built_within}
-use Rattle.ipc_encode.proofs.Weights.{no_headroom}
 use Rattle.ipc_encode.proofs.builder.Builder.with_pool.Goals as goal
 
 pub returns-in_err-check_len-clause-refused : goal.returns-in_err-check_len-clause-refused
@@ -33,5 +32,4 @@ returns-clause-rows c = λ known.
       columns_are = fresh;
       within = built_within known limits fields [] c.deref.result.now (omega arith) held
           (c.in_ok-check_len.ensures.within known fields [] held);
-      has_headroom = no_headroom limits fields [];
     }

@@ -1,35 +1,25 @@
-use Rattle.std.proofs.Common.{◌≡◌, ◌∙◌, refl, sym, ap, subst, ◌≤◌, List, arith}
-use Rattle.std.specs.List.{AllByRecursion}
+use Rattle.std.proofs.Common.{refl, sym, subst, List}
 use Rattle.std.proofs.lemmas.Result.{err_from_is_err_and}
-use Rattle.ipc_model.specs.Entries.{entries}
-use Rattle.ipc_model.specs.Fits.{RowFits}
-use Rattle.ipc_model.specs.WellFormed.{IsFieldWellFormed}
-use Rattle.ipc_model.specs.declared.schema.Field.{Field}
 use Rattle.ipc_encode.specs.Built.{StoresRows}
 use Rattle.ipc_encode.specs.Numbers.{index_or_zero}
-use Rattle.ipc_encode.specs.Weights.{capped, row_weight}
 use Rattle.ipc_dict.specs.Noting.{place_of_value}
-use Rattle.ipc_dict.specs.Sending.{tally_of_rows}
 use Rattle.ipc_dict.specs.declared.entry.TallyEntry.{TallyEntry}
-use Rattle.ipc_stream.specs.declared.row_rejection.RowRejection.TheVariants.{Refused}
 use Rattle.ipc_stream.proofs.HeldRows.{held_row, refused_row}
 use Rattle.ipc_stream.proofs.HeldTallies.{note_keeps, note_refused, rows_cut, rows_kept, tally_cut, tally_next}
 use Rattle.ipc_stream.proofs.pending_batch.PendingBatch.take.Goals as goal
 
 pub returns-in_err-note-clause-refused : goal.returns-in_err-note-clause-refused
-returns-in_err-note-clause-refused c = λ limits b well h.
+returns-in_err-note-clause-refused c = λ limits s b well h.
     let p = err_from_is_err_and c.from_residual.result c.from_residual.ensures.1 in
-    rw (p.1, p.2) (note_refused limits c.args.schema.now b c.args.row.now c.args.self.now.tally _ h.tally c.in_err-note.ensures.full
+    rw (p.1, p.2) (note_refused limits s b c.args.row.now c.args.self.now.tally _ h.tally c.in_err-note.ensures.full
     c.in_err-note.ensures.over c.in_err-note.ensures.before c.in_err-note.ensures.only)
 
 pub returns-in_err-note-clause-kept : goal.returns-in_err-note-clause-kept
-returns-in_err-note-clause-kept c = λ limits b well h.
-    let fields = c.args.schema.now.fields in
+returns-in_err-note-clause-kept c = λ limits s b well h.
     let p = err_from_is_err_and c.from_residual.result c.from_residual.ensures.1 in
     rw (p.1, p.2) (λ other.
-    let still = note_keeps limits fields b.rows c.args.self.now.tally c.note.new.self c.in_err-note.field-0.0 h.tally
-    c.in_err-note.ensures.unchanged c.in_err-note.ensures.as_before c.in_err-note.ensures.before c.in_err-note.ensures.only
-    (λ memory. other (ap Refused memory)) in
+    let still = note_keeps limits s.fields b.rows c.args.self.now.tally c.note.new.self c.in_err-note.field-0.0 h.tally
+    c.in_err-note.ensures.unchanged c.in_err-note.ensures.as_before c.in_err-note.ensures.before c.in_err-note.ensures.only other in
     record {
       tally = still;
       rows = h.rows;
@@ -38,26 +28,25 @@ returns-in_err-note-clause-kept c = λ limits b well h.
     })
 
 pub returns-in-Err-clause-refused : goal.returns-in-Err-clause-refused
-returns-in-Err-clause-refused c = λ limits b well h.
-    let schema = c.args.schema.now in
-    let fields = schema.fields in
+returns-in-Err-clause-refused c = λ limits s b well h.
     let builder = c.args.self.now.builder in
-    let next = tally_next limits fields b.rows c.args.row.now c.args.self.now.tally c.note.new.self h.tally c.in_ok-note.ensures.noted in
+    let row = c.args.row.now in
+    let next = tally_next limits s.fields b.rows row c.args.self.now.tally c.note.new.self h.tally c.in_ok-note.ensures.noted in
     let rows =
-    subst (λ (es : List TallyEntry). StoresRows (index_or_zero (place_of_value es)) limits fields b.rows builder) (sym next.counted)
-    (rows_kept limits fields b.rows c.args.row.now builder well.each h.rows) in
-    refused_row limits schema b c.args.row.now _ (c.in-Err.ensures.refused limits fields b.rows rows)
+    subst (λ (es : List TallyEntry). StoresRows (index_or_zero (place_of_value es)) limits s.fields b.rows builder) (sym next.counted)
+    (rows_kept limits s.fields b.rows row builder well.each h.rows) in
+    refused_row limits s b row _ (c.in-Err.ensures.refused limits s.fields b.rows rows)
 
 pub returns-in-Err-clause-kept : goal.returns-in-Err-clause-kept
-returns-in-Err-clause-kept c = λ limits b well h other.
-    let fields = c.args.schema.now.fields in
+returns-in-Err-clause-kept c = λ limits s b well h other.
+    let fields = s.fields in
     let builder = c.args.self.now.builder in
     let row = c.args.row.now in
     let next = tally_next limits fields b.rows row c.args.self.now.tally c.note.new.self h.tally c.in_ok-note.ensures.noted in
     let rows =
     subst (λ (es : List TallyEntry). StoresRows (index_or_zero (place_of_value es)) limits fields b.rows builder) (sym next.counted)
     (rows_kept limits fields b.rows row builder well.each h.rows) in
-    let stays = c.in-Err.ensures.kept limits fields b.rows rows (λ memory. other (ap Refused memory)) in
+    let stays = c.in-Err.ensures.kept limits fields b.rows rows other in
     record {
       tally = tally_cut limits fields b.rows row c.args.self.now.tally c.note.new.self c.cut.new.self h.tally
           c.in_ok-note.ensures.noted c.cut.ensures;
@@ -69,19 +58,12 @@ returns-in-Err-clause-kept c = λ limits b well h other.
     }
 
 pub returns-in-Ok-clause-holds : goal.returns-in-Ok-clause-holds
-returns-in-Ok-clause-holds c = λ limits b well h.
-    let schema = c.args.schema.now in
-    let fields = schema.fields in
+returns-in-Ok-clause-holds c = λ limits s b well fits h.
     let builder = c.args.self.now.builder in
-    let next = tally_next limits fields b.rows c.args.row.now c.args.self.now.tally c.note.new.self h.tally c.in_ok-note.ensures.noted in
+    let row = c.args.row.now in
+    let next = tally_next limits s.fields b.rows row c.args.self.now.tally c.note.new.self h.tally c.in_ok-note.ensures.noted in
     let rows =
-    subst (λ (es : List TallyEntry). StoresRows (index_or_zero (place_of_value es)) limits fields b.rows builder) (sym next.counted)
-    (rows_kept limits fields b.rows c.args.row.now builder well.each h.rows) in
-    let fine = subst (λ (fs : List Field). AllByRecursion (IsFieldWellFormed limits) (entries fs)) (sym c.as_slice.ensures) well.each in
-    let weight : c.in-Some.weight ≡ capped (row_weight fields c.args.row.now) =
-    c.in-Some.ensures.weight limits fine ∙ ap (λ (fs : List Field). capped (row_weight fs c.args.row.now)) c.as_slice.ensures in
-    let light : capped (row_weight fields c.args.row.now) ≤ c.in-Some.weight = omega (arith, weight) in
-    let stored = c.in-Ok.ensures.pushed limits fields b.rows rows light in
-    let fits = subst (λ (fs : List Field). RowFits fs c.args.row.now) c.as_slice.ensures (c.in-Some.ensures.conforms.0 refl) in
-    held_row limits schema b c.args.row.now c.args.self.now _ h fits stored.within next c.note.ensures.fits c.note.ensures.within
-    stored refl
+    subst (λ (es : List TallyEntry). StoresRows (index_or_zero (place_of_value es)) limits s.fields b.rows builder) (sym next.counted)
+    (rows_kept limits s.fields b.rows row builder well.each h.rows) in
+    let stored = c.in-Ok.ensures.pushed limits s.fields b.rows rows in
+    held_row limits s b row c.args.self.now _ h fits stored.within next c.note.ensures.fits c.note.ensures.within stored refl
