@@ -1,14 +1,14 @@
 -- Cells of a row, and rows that are not printed.
 use Rattle.std.proofs.Common.{◌≡◌, ◌∙◌, refl, ap, ℕ, ◌+◌, ◌<◌, List, [], ◌∷◌, ◌++◌, length, drop, take, ◌-◌, get_or}
-use Rattle.std.proofs.Common.{Result, Ok, arith}
+use Rattle.std.proofs.Common.{Result, Ok, Option, Some, None, append_assoc, take_at, arith}
 use Rattle.ipc_model.specs.declared.schema.Field.{Field, out-Field}
 use Rattle.ipc_model.specs.declared.value.Value.{Value}
 use Rattle.ipc_model.specs.declared.value.Value.TheVariants as v
-use Rattle.csv.specs.Writing.{next_sep}
+use Rattle.csv.specs.Writing.{field_text, next_sep}
 use Rattle.ipc_text_csv.specs.Dialects.{writer}
 use Rattle.ipc_text_csv.specs.declared.dialect.Dialect.{Dialect}
 use Rattle.ipc_text_temporal.specs.declared.fault.TextFault.{TextFault}
-use Rattle.ipc_text_csv.specs.RowCsv.{Appended, csv_text, with_fields, all_texts, each_text}
+use Rattle.ipc_text_csv.specs.RowCsv.{Appended, csv_text, with_field, with_fields, all_texts, each_text}
 use Rattle.ipc_text_csv.proofs.Records.{field_more, no_more}
 use Rattle.job_print.specs.declared.form.Form.TheVariants.{Counts}
 use Rattle.job_print.specs.Forms.{line_of, HaveLines}
@@ -49,6 +49,24 @@ first_appended d (g ∷ gs) (w ∷ ws) r f values value i out o1 o2 wanted some 
       left = rw (take_rest (g ∷ gs) 1) (omega arith);
       text = rw (take_rest (w ∷ ws) 1, take_rest (g ∷ gs) 1) more;
     }
+
+-- what was before a cell is still there after it
+pub still_before : (d : Dialect) (old before o1 o2 sep : List ℕ) (cell : Option (List ℕ)) → (more : List ℕ) × (before ≡ old ++ more)
+    → o1 ≡ before ++ sep → Appended d.delimiter o1 cell o2 → (more : List ℕ) × (o2 ≡ old ++ more)
+still_before d old before o1 o2 sep None (more, is) comma put = absurd cc
+still_before d old before o1 o2 sep (Some t) (more, is) comma put =
+    let text : o2 ≡ with_field d.delimiter o1 t = cc in
+    (more ++ sep ++ field_text (writer d.delimiter) t, rw (text, comma, is) (simp append_assoc refl))
+
+-- the front of a text that was continued
+pub front_kept : (old new : List ℕ) → (more : List ℕ) × (new ≡ old ++ more) → take (length old) new ≡ old
+front_kept old new (more, is) = rw is (take_at old more (length old) refl)
+
+-- where a cell was refused, what was before the row is unchanged
+pub refused_front : (old before o1 o2 sep : List ℕ) → (more : List ℕ) × (before ≡ old ++ more) → o1 ≡ before ++ sep → o2 ≡ o1
+    → take (length old) o2 ≡ old
+refused_front old before o1 o2 sep (more, is) comma same =
+    front_kept old o2 (more ++ sep, rw (same, comma, is) (simp append_assoc refl))
 
 -- where no field is left, nothing is appended
 pub no_fields : (d : Dialect) (n : ℕ) (out : List ℕ) (fs : List Field) (vs : List Value) → length fs < 1

@@ -65,11 +65,11 @@ front_sent before mid w n k front p q empty =
     subst (λ (z : List ℕ). Puts before (output w n z) front) (sym empty)
     (put_at before (output w n []) _ _ (append-nil front) (puts_then before mid (output w n []) front [] p q))
 
--- a text was put, and then what is kept was sent, or the sink failed
-pub then_sent : (a b : Output) (w : Option (List ℕ)) (n : ℕ) (t : List ℕ) (r : Result ⊤ PrintFault) → Puts a b t
-    → PrintsAs b w n [] [] r → PrintsAs a w n [] t r
-then_sent a b w n t (Ok _) p q = put_at a (output w n []) _ _ (append-nil t) (puts_then a b (output w n []) t [] p q)
-then_sent a b w n t (Err e) p q = not_at a w n _ _ e (append-nil t) (puts_not_then a b w n t [] e p q)
+-- a text was put, and then what is kept was sent or stayed, or the sink failed
+pub then_sent : (a b : Output) (w : Option (List ℕ)) (n : ℕ) (k t : List ℕ) (r : Result ⊤ PrintFault) → Puts a b t
+    → PrintsAs b w n k [] r → PrintsAs a w n k t r
+then_sent a b w n k t (Ok _) p q = put_at a (output w n k) _ _ (append-nil t) (puts_then a b (output w n k) t [] p q)
+then_sent a b w n k t (Err e) p q = not_at a w n _ _ e (append-nil t) (puts_not_then a b w n t [] e p q)
 
 -- the front was put, and the sink failed when it was sent
 pub front_unsent : (options : PrintOptions) (front : List ℕ) (r : Reader) (before mid : Output) (w : Option (List ℕ)) (n : ℕ)

@@ -1,12 +1,7 @@
--- Elements of lists, and signed numbers.
-use Rattle.std.proofs.Common.{◌≡◌, ◌∙◌, sym, ap, ℕ, zero, suc, ◌<◌, List, [], ◌∷◌, ◌++◌, length, Some, arith}
-use Rattle.std.specs.Fmt.{signed_decimal}
-use Rattle.std.specs.Prelude.{ℤ, slice_get, slice_index_or}
+-- Elements of lists.
+use Rattle.std.proofs.Common.{◌≡◌, ℕ, zero, suc, ◌<◌, List, [], ◌∷◌, ◌++◌, length, Some, arith}
+use Rattle.std.specs.Prelude.{slice_get, slice_index_or}
 use Rattle.std.specs.List.{AllByRecursion}
-use Rattle.ipc_model.specs.declared.value.Value.{out-Value, out-roll-Value}
-use Rattle.ipc_model.specs.declared.value.Value.TheOpen.{Value-F}
-use Rattle.ipc_model.specs.declared.value.Value.TheVariants as v
-use Rattle.job_print.specs.Columns.{digits, digits_in}
 
 module _ {X : Type 0} (P : X → Type 0) where
   -- what holds of all elements and of one more holds of all with that one behind them
@@ -25,11 +20,3 @@ pub got_inside : {X : Type 0} (xs : List X) (i : ℕ) (x : X) → slice_get xs i
 got_inside [] i x at = absurd (cc)
 got_inside (y ∷ ys) zero x at = omega arith
 got_inside (y ∷ ys) (suc i) x at = let h = got_inside ys i x at in omega (arith, h)
-
--- a signed number in the open form of values
-pub out_int : (z : ℤ) → out-Value (v.Int z) ≡ Value-F.Int z
-out_int z = ap out-Value (sym (v.rolls-Int z)) ∙ out-roll-Value (Value-F.Int z)
-
--- the digits of a signed number
-pub digits_are : (z : ℤ) → digits (v.Int z) ≡ signed_decimal z
-digits_are z = ap digits_in (out_int z)

@@ -4,7 +4,6 @@ pub mod NumberFields
 pub mod NullTexts
 pub mod OwnBytes
 pub mod RecordEnds
-pub mod SetApart
 pub mod Texts
 pub mod SlotTexts
 pub mod Quotes

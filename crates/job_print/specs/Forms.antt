@@ -2,7 +2,7 @@
 -- (RFC 8259), or records of CSV (RFC 4180).
 use Rattle.ipc_model.specs.declared.table.BatchRows.{BatchRows}
 use Rattle.std.specs.Prelude.{◌≡◌, ◌⊎◌, ◌+◌, ◌<◌, ℕ, List, [], ◌∷◌, ◌++◌, length, take, codes}
-use Rattle.std.specs.Prelude.{decimal, Option, None, Result, Ok, Err, ⊤, true, false}
+use Rattle.std.specs.Prelude.{decimal, Option, None, Some, Result, Ok, Err, ⊤, true, false}
 use Rattle.std.specs.Prelude.{slice_index_or}
 use Rattle.std.specs.List.{AllByRecursion}
 use Rattle.ipc_model.specs.declared.schema.Field.{Field}
@@ -64,6 +64,12 @@ abbrev pub HasLine : Form → List Field → List Value → Type 0
 HasLine Counts fields row = ⊤
 HasLine (Rows shape pairs) fields row = ⊤
 HasLine (Records d) fields row = row_csv d fields row ≡ Ok (line_of (Records d) fields row)
+
+-- the line of a row was appended to a text; or the row cannot be printed, and the text is unchanged
+abbrev pub PutsLine : Form → List Field → List Value → List ℕ → List ℕ → Option TextFault → Type 0
+PutsLine form fields row old new None =
+    HasLine form fields row × (new ≡ old ++ line_of form fields row)
+PutsLine form fields row old new (Some fault) = LacksRecord form fields row fault × (new ≡ old)
 
 -- each of the rows can be printed
 abbrev pub HaveLines : Form → List Field → List (List Value) → Type 0

@@ -1,5 +1,5 @@
-pub mod Columns
 pub mod LentRows
+pub mod Fields
 pub mod Digits
 pub mod Escaped
 pub mod FirstRows
@@ -13,5 +13,7 @@ pub mod Rows
 pub mod Streams
 pub mod TreeFalls
 pub mod Trees
-pub mod Unquoted
+pub mod NullTexts
+pub mod Plain
+pub mod Written
 pub mod LentSlots

@@ -1,8 +1,5 @@
 //! The rows of a batch as text, in each form.
-ghost use Rattle.std.specs.Prelude.{◌≡◌, ◌≤◌, [], length, take, IfOk, IfSome, IsSome, IsTrue, None};
-ghost use Rattle.std.specs.Prelude.{Some};
-ghost use Rattle.job_print.specs.Columns as spec;
-ghost use Rattle.job_print.specs.Columns.{AreNumberColumns, IsApart};
+ghost use Rattle.std.specs.Prelude.{◌≡◌, ◌≤◌, [], length, take, IfOk, IsTrue, None};
 ghost use Rattle.job_print.specs.LentRows.{AreColumnsOfRows};
 ghost use Rattle.job_print.specs.Forms.{form_fault, batch_heading, pairs_line};
 ghost use Rattle.job_print.specs.Streams.{PutsRows};
@@ -10,13 +7,11 @@ ghost use Rattle.job_print.specs.Output.{PrintsAs, output};
 
 use crate::column_tree::ColumnReader;
 use crate::form::Form;
-use crate::line::{INITIAL_LINE_LEN, write_growing_line};
 use crate::line_buffer::{LineBuffer, PrintFault};
-use crate::number_rows::{NumberForm, are_numbers, numbers_of};
 use ipc_column::Batch;
 use ipc_device::Sink;
 use ipc_model::{Field, Text};
-use ipc_text_json::{RowShape, pairs_json};
+use ipc_text_json::pairs_json;
 use ipc_text_temporal::TextFault;
 use std::alloc::{AllocError, Global};
 
@@ -50,17 +45,11 @@ fn print_lines<W: Sink>(
         (W.failures sink.new) lines.new result }
 {
     let columns = column_readers(alloc, batch)?;
-    let mut text = vec![in alloc; 0u8; INITIAL_LINE_LEN]?;
     for row in 0..count {
-        if lines.put_line(form, fields, &columns, row) {
-            continue;
+        match lines.put_line(form, fields, &columns, row)? {
+            None => lines.send_full(sink)?,
+            Some(fault) => return Ok(Some(fault)),
         }
-        let end = match write_growing_line(form, &mut text, fields, &columns, row) {
-            Ok(end) => end,
-            Err(TextFault::OutOfMemory) => return Err(PrintFault::OutOfMemory),
-            Err(fault) => return Ok(Some(fault)),
-        };
-        lines.put(sink, &text[..end])?;
     }
     Ok(None)
 }
@@ -72,25 +61,6 @@ fn prints_no_rows(form: Form<'_>) -> bool
     matches!(form, Form::Counts)
 }
 
-// The form in which rows of these columns are printed in bulk, if they are.
-fn number_form(form: Form<'_>, fields: &[Field]) -> Option<NumberForm>
-    ensures form { IfSome result (λ numbers. spec.number_form form.entry ≡ Some numbers) }
-    ensures apart { IfSome result IsApart }
-    ensures shows { IsSome result → AreNumberColumns fields.now }
-{
-    if !are_numbers(fields) {
-        return None;
-    }
-    match form {
-        Form::Rows {
-            shape: RowShape::Array,
-            ..
-        } => Some(NumberForm::Array),
-        Form::Records(dialect) => Some(NumberForm::Record(dialect.delimiter())),
-        _ => None,
-    }
-}
-
 // The line of a batch's pairs: a JSON object with the one member `metadata`.
 fn line_of_pairs(alloc: Global, pairs: &[(Text, Text)]) -> Result<Vec<u8>, TextFault>
     ensures { IfOk result (λ line. line.items ≡ pairs_line pairs.now) }
@@ -100,36 +70,6 @@ fn line_of_pairs(alloc: Global, pairs: &[(Text, Text)]) -> Result<Vec<u8>, TextF
     line.extend_from_slice(pairs_json(alloc, pairs)?.as_bytes())?;
     line.extend_from_slice(b"}\n")?;
     Ok(line)
-}
-
-// Adds the rows of a batch of numbers: at once if each column lends its numbers.
-fn print_numbers<W: Sink>(
-    alloc: Global,
-    form: Form<'_>,
-    numbers: NumberForm,
-    fields: &[Field],
-    batch: &Batch,
-    lines: &mut LineBuffer,
-    sink: &mut W,
-) -> Result<Option<TextFault>, PrintFault>
-    requires columns { batch.now.columns ≡ length fields.now }
-    requires fits { form_fault form fields.now ≡ None }
-    requires chosen { spec.number_form form ≡ Some numbers }
-    requires apart { IsApart numbers }
-    requires shows { AreNumberColumns fields.now }
-    ensures { PutsRows form.entry fields.now [] batch.now.rows
-        (output (W.written sink.old) (W.failures sink.old) lines.old) (W.written sink.new)
-        (W.failures sink.new) lines.new result }
-{
-    // Brings the contract of `columns` into the proof.
-    let _columns = batch.columns();
-    match numbers_of(alloc, batch)? {
-        Some(columns) => {
-            lines.put_numbers(sink, numbers, &columns, batch)?;
-            Ok(None)
-        }
-        None => print_lines(alloc, form, fields, batch, batch.rows(), lines, sink),
-    }
 }
 
 // Adds the line before a batch's rows, if the form has one.
@@ -153,27 +93,6 @@ fn print_head<W: Sink>(
     }
 }
 
-// Adds all rows of a batch, as `print_batch`.
-fn print_all<W: Sink>(
-    alloc: Global,
-    form: Form<'_>,
-    fields: &[Field],
-    batch: &Batch,
-    lines: &mut LineBuffer,
-    sink: &mut W,
-) -> Result<Option<TextFault>, PrintFault>
-    requires columns { batch.now.columns ≡ length fields.now }
-    requires fits { form_fault form fields.now ≡ None }
-    ensures { PutsRows form.entry fields.now [] batch.now.rows
-        (output (W.written sink.old) (W.failures sink.old) lines.old) (W.written sink.new)
-        (W.failures sink.new) lines.new result }
-{
-    match number_form(form, fields) {
-        Some(numbers) => print_numbers(alloc, form, numbers, fields, batch, lines, sink),
-        None => print_lines(alloc, form, fields, batch, batch.rows(), lines, sink),
-    }
-}
-
 // Adds the first `count` rows of a batch, as `print_batch`.
 fn print_batch_rows<W: Sink>(
     alloc: Global,
@@ -194,10 +113,7 @@ fn print_batch_rows<W: Sink>(
     if prints_no_rows(form) {
         return Ok(None);
     }
-    if count < batch.rows() {
-        return print_lines(alloc, form, fields, batch, count, lines, sink);
-    }
-    print_all(alloc, form, fields, batch, lines, sink)
+    print_lines(alloc, form, fields, batch, count, lines, sink)
 }
 
 /// Adds a batch in this form: its head, which has its pairs if the form prints them, and its first
@@ -205,8 +121,8 @@ fn print_batch_rows<W: Sink>(
 /// were added.
 ///
 /// The caller gives at most the number of the batch's rows, and the fields of the batch's columns,
-/// which the form has a place for. `Write` is returned if the sink failed, and `OutOfMemory` if a
-/// line found no room. Then a beginning of the batch's text went out, and what was kept is lost.
+/// which the form has a place for. `Write` is returned if the sink failed, and `OutOfMemory` if
+/// memory ran out. Then a beginning of the batch's text went out, and what was kept is lost.
 pub fn print_batch<W: Sink>(
     alloc: Global,
     form: Form<'_>,

@@ -2,10 +2,9 @@
 //!
 //! An array is written at once, where a copy between slices first checks whether they overlap. A
 //! short word is two copies of a fixed size that overlap.
-ghost use Rattle.std.specs.Prelude.{◌≡◌, ◌≤◌, ◌<◌, ◌+◌, ◌++◌, ◌∷◌, [], length, take, drop, OnOk};
+ghost use Rattle.std.specs.Prelude.{◌≡◌, ◌≤◌, ◌<◌, ◌+◌, ◌++◌, length, take, drop};
 ghost use Rattle.json.specs.Filled.{Placed};
 
-use std::alloc::AllocError;
 use std::simd::Simd;
 
 // Fills a place.
@@ -28,30 +27,6 @@ pub fn put_bytes<const N: usize>(text: &mut [u8], at: usize, bytes: [u8; N])
     fill(&mut text[at..at + N], bytes);
 }
 
-/// Writes bytes, and returns where they end. All others stay.
-#[inline(always)]
-pub fn put_array<const N: usize>(text: &mut [u8], at: usize, bytes: [u8; N]) -> usize
-    requires { at + N ≤ length text.old }
-    ensures end { result ≡ at + N }
-    ensures text { take result text.new ≡ take at text.old ++ bytes.entry }
-    ensures behind { drop result text.new ≡ drop result text.old }
-{
-    put_bytes(text, at, bytes);
-    at + N
-}
-
-/// Writes a byte, and returns where it ends. All others stay.
-#[inline(always)]
-pub fn put_byte(text: &mut [u8], at: usize, byte: u8) -> usize
-    requires { at + 1 ≤ length text.old }
-    ensures end { result ≡ at + 1 }
-    ensures text { take result text.new ≡ take at text.old ++ byte ∷ [] }
-    ensures behind { drop result text.new ≡ drop result text.old }
-{
-    text[at] = byte;
-    at + 1
-}
-
 /// Writes a word from `at` on, and returns where it ends.
 #[inline(always)]
 pub(crate) fn put_word(text: &mut [u8], at: usize, word: &[u8]) -> usize
@@ -61,29 +36,6 @@ pub(crate) fn put_word(text: &mut [u8], at: usize, word: &[u8]) -> usize
 {
     text[at..at + word.len()].copy_from_slice(word);
     at + word.len()
-}
-
-/// Checks that the buffer has `count` bytes from `at` on. It fails if the buffer ends before.
-#[inline(always)]
-pub fn reserve(text: &[u8], at: usize, count: usize) -> Result<(), AllocError>
-    requires { at ≤ length text.now }
-    ensures { OnOk result (at + count ≤ length text.now) }
-{
-    if text.len() - at < count {
-        return Err(AllocError);
-    }
-    Ok(())
-}
-
-/// Writes a word from `at` on, where there is room for it, and returns where it ends.
-#[inline(always)]
-pub fn put(text: &mut [u8], at: usize, word: &[u8]) -> usize
-    requires { at + length word.now ≤ length text.old }
-    ensures end { result ≡ at + length word.now }
-    ensures inside { result ≤ length text.new }
-    ensures text { take result text.new ≡ take at text.old ++ word.now }
-{
-    put_word(text, at, word)
 }
 
 /// Writes the first N bytes of a word from `at` on, by one load and one store, and returns where

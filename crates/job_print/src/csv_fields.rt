@@ -1,20 +1,18 @@
-//! Writes fields of CSV into a buffer. A field that needs no quotes is read and copied in one pass.
-ghost use Rattle.std.specs.Prelude.{◌≡◌, ◌≤◌, ◌+◌, ◌++◌, ◌∷◌, [], length, take, decimal, IfErr};
-ghost use Rattle.std.specs.Prelude.{IfOk, IsTrue, Some, ℕ};
+//! Writes fields of CSV. A field that needs no quotes is read and copied in one pass.
+ghost use Rattle.std.specs.Prelude.{◌≡◌, ◌≤◌, ◌+◌, ◌++◌, ◌∷◌, [], length, take, decimal, OnOk};
+ghost use Rattle.std.specs.Prelude.{◌≢◌, IsFalse, IsTrue, Some, ℕ};
 ghost use Rattle.std.specs.Fmt.{signed_decimal};
 ghost use Rattle.csv.specs.Writing as csv;
 ghost use Rattle.csv.specs.Writing.{default_writer};
 ghost use Rattle.hex.specs.Hex.{encode_lower};
 ghost use Rattle.ipc_text_csv.specs.declared.dialect.Dialect.{Dialect};
 ghost use Rattle.ipc_text_csv.specs.Dialects.{writer};
-ghost use Rattle.ipc_text_csv.specs.RowCsv.{Appended, Ended, RefusesValue, with_backslash};
-ghost use Rattle.ipc_text_csv.specs.RowCsv.{chars_text, null_text, unless_null, with_field};
-ghost use Rattle.job_print.specs.Unquoted.{BeginsApart};
+ghost use Rattle.ipc_text_csv.specs.RowCsv.{Ended, chars_text, null_text, unless_null};
+ghost use Rattle.ipc_text_csv.specs.RowCsv.{with_backslash, with_field};
+ghost use Rattle.job_print.specs.Fields.{AddsField};
+ghost use Rattle.job_print.specs.NullTexts.{BeginsApart};
 
-use crate::bytes::{copy_up_to_3, put, put_word, reserve};
-use crate::csv_unquoted::{put_front_if_unquoted, put_if_unquoted};
-use crate::digits::{put_i64, put_u64};
-use crate::hexadecimal::put_hexadecimal;
+use crate::text_buffer::TextBuffer;
 use ipc_text_csv::Dialect;
 use ipc_text_temporal::TextFault;
 use std::alloc::AllocError;
@@ -26,172 +24,133 @@ fn needs_quotes(delimiter: u8, field: &[u8]) -> bool
     field.iter().any(|byte| *byte == delimiter || matches!(*byte, b'"' | b'\r' | b'\n'))
 }
 
-// Writes a byte of a quoted field from `at` on, a quote as two, and returns where it ends.
+// Writes a byte of a quoted field, a quote as two.
 #[tactic(auto, unfolding(csv::specs::Writing::escaped))]
-fn put_quoted_byte(text: &mut [u8], at: usize, byte: u8) -> usize
-    requires { at + 2 ≤ length text.old }
-    ensures end { result ≤ at + 2 }
-    ensures text { take result text.new
-        ≡ take at text.old ++ csv.escaped default_writer (byte ∷ []) }
+fn put_quoted_byte(out: &mut TextBuffer, byte: u8)
+    requires { 2 ≤ out.old.room }
+    ensures { out.new.text ≡ out.old.text ++ csv.escaped default_writer (byte ∷ []) }
 {
     if byte == b'"' {
-        return put_word(text, at, b"\"\"");
+        out.put(b"\"");
     }
-    put_word(text, at, &[byte])
+    out.put(&[byte]);
 }
 
-// Writes the bytes of a field from `at` on, each quote doubled, and returns where they end.
-fn put_quoted_bytes(text: &mut [u8], at: usize, field: &[u8]) -> Result<usize, AllocError>
-    requires { at ≤ length text.old }
-    ensures inside { IfOk result (λ end. end ≤ length text.new) }
-    ensures text { IfOk result (λ end. take end text.new
-        ≡ take at text.old ++ csv.escaped default_writer field.now) }
+// Writes the bytes of a field, each quote doubled.
+fn put_quoted_bytes(out: &mut TextBuffer, field: &[u8]) -> Result<(), AllocError>
+    ensures { OnOk result (out.new.text
+        ≡ out.old.text ++ csv.escaped default_writer field.now) }
 {
-    let mut end = at;
     for byte in field {
-        reserve(text, end, 2)?;
-        end = put_quoted_byte(text, end, *byte);
+        out.reserve(2)?;
+        put_quoted_byte(out, *byte);
     }
-    Ok(end)
+    Ok(())
 }
 
-// Writes a field from `at` on, in quotes, and returns where it ends. `opening` has the first
-// quote.
-fn put_quoted(text: &mut [u8], at: usize, opening: &[u8], field: &[u8]) -> Result<usize, AllocError>
-    requires { at ≤ length text.old }
-    ensures inside { IfOk result (λ end. end ≤ length text.new) }
-    ensures text { IfOk result (λ end. take end text.new ≡ take at text.old
-        ++ opening.now ++ csv.escaped default_writer field.now ++ 34 ∷ []) }
+// Writes a field in quotes. `opening` has the first quote.
+fn put_quoted(out: &mut TextBuffer, opening: &[u8], field: &[u8]) -> Result<(), AllocError>
+    ensures { OnOk result (out.new.text
+        ≡ out.old.text ++ opening.now ++ csv.escaped default_writer field.now ++ 34 ∷ []) }
 {
-    reserve(text, at, opening.len())?;
-    let start = put(text, at, opening);
-    let end = put_quoted_bytes(text, start, field)?;
-    reserve(text, end, 1)?;
-    Ok(put(text, end, b"\""))
+    out.reserve(opening.len())?;
+    out.put(opening);
+    put_quoted_bytes(out, field)?;
+    out.reserve(1)?;
+    out.put(b"\"");
+    Ok(())
 }
 
-// Writes a field that may need quotes from `at` on, byte by byte, and returns where it ends.
+// Writes a field that may need quotes, byte by byte.
 #[cold]
 #[inline(never)]
-fn put_field_bytewise(
-    text: &mut [u8],
-    at: usize,
-    delimiter: u8,
-    field: &[u8],
-) -> Result<usize, AllocError>
-    requires { at ≤ length text.old }
-    ensures inside { IfOk result (λ end. end ≤ length text.new) }
-    ensures text { IfOk result
-        (λ end. take end text.new ≡ with_field delimiter (take at text.old) field.now) }
+fn put_field_bytewise(out: &mut TextBuffer, delimiter: u8, field: &[u8]) -> Result<(), AllocError>
+    ensures { OnOk result (out.new.text ≡ with_field delimiter out.old.text field.now) }
 {
     if needs_quotes(delimiter, field) {
-        return put_quoted(text, at, b"\"", field);
+        return put_quoted(out, b"\"", field);
     }
-    reserve(text, at, field.len())?;
-    Ok(put(text, at, field))
+    out.reserve(field.len())?;
+    out.put(field);
+    Ok(())
 }
 
-// Writes a field of CSV from `at` on, in quotes where it needs them, and returns where it ends.
+// Writes a field, in quotes where it needs them.
 #[inline(always)]
-pub(crate) fn put_field(
-    text: &mut [u8],
-    at: usize,
-    delimiter: u8,
-    field: &[u8],
-) -> Result<usize, AllocError>
-    requires { at ≤ length text.old }
-    ensures inside { IfOk result (λ end. end ≤ length text.new) }
-    ensures text { IfOk result
-        (λ end. take end text.new ≡ with_field delimiter (take at text.old) field.now) }
+fn put_field(out: &mut TextBuffer, delimiter: u8, field: &[u8]) -> Result<(), AllocError>
+    ensures { OnOk result (out.new.text ≡ with_field delimiter out.old.text field.now) }
 {
-    reserve(text, at, field.len())?;
-    if put_if_unquoted(text, at, delimiter, field) {
-        return Ok(at + field.len());
+    out.reserve(field.len())?;
+    if out.put_if_plain(delimiter, field) {
+        return Ok(());
     }
-    put_field_bytewise(text, at, delimiter, field)
+    put_field_bytewise(out, delimiter, field)
 }
 
-// Writes null as a field of CSV from `at` on, and returns where it ends.
+/// Writes null.
 #[inline(always)]
-pub(crate) fn put_null(
-    text: &mut [u8],
-    at: usize,
-    dialect: &Dialect<'_>,
-) -> Result<usize, AllocError>
-    requires { at + 32 ≤ length text.old }
-    ensures inside { IfOk result (λ end. end ≤ length text.new) }
-    ensures text { IfOk result (λ end. take end text.new
-        ≡ with_field dialect.now.delimiter (take at text.old) (null_text dialect.now)) }
+pub(crate) fn put_null(out: &mut TextBuffer, dialect: &Dialect<'_>) -> Result<(), AllocError>
+    requires { 4 ≤ out.old.room }
+    ensures { OnOk result (out.new.text
+        ≡ with_field dialect.now.delimiter out.old.text (null_text dialect.now)) }
 {
     let null = dialect.null().as_bytes();
     if null.len() < 4 {
-        return Ok(copy_up_to_3(text, at, null));
+        out.put_up_to_3(null);
+        return Ok(());
     }
-    reserve(text, at, null.len())?;
-    Ok(put(text, at, null))
+    out.reserve(null.len())?;
+    out.put(null);
+    Ok(())
 }
 
-// Writes a text that begins with a backslash as a field of CSV from `at` on, with one more in
-// front, and returns where it ends.
+// Writes a text that begins with a backslash, with one more in front.
 #[cold]
 #[inline(never)]
-fn put_backslashed(
-    text: &mut [u8],
-    at: usize,
-    delimiter: u8,
-    chars: &[u8],
-) -> Result<usize, AllocError>
-    requires { at ≤ length text.old }
-    ensures inside { IfOk result (λ end. end ≤ length text.new) }
-    ensures text { IfOk result
-        (λ end. take end text.new ≡ with_field delimiter (take at text.old) (92 ∷ chars.now)) }
+fn put_backslashed(out: &mut TextBuffer, delimiter: u8, chars: &[u8]) -> Result<(), AllocError>
+    ensures { OnOk result (out.new.text
+        ≡ with_field delimiter out.old.text (92 ∷ chars.now)) }
 {
     if needs_quotes(delimiter, b"\\") || needs_quotes(delimiter, chars) {
-        return put_quoted(text, at, b"\"\\", chars);
+        return put_quoted(out, b"\"\\", chars);
     }
-    reserve(text, at, 1)?;
-    let start = put(text, at, b"\\");
-    reserve(text, start, chars.len())?;
-    Ok(put(text, start, chars))
+    out.reserve(1)?;
+    out.put(b"\\");
+    out.reserve(chars.len())?;
+    out.put(chars);
+    Ok(())
 }
 
-// Writes a text as a field of CSV from `at` on, where null is `\N`, and returns where it ends.
-fn put_doubled(text: &mut [u8], at: usize, delimiter: u8, chars: &[u8]) -> Result<usize, AllocError>
-    requires { at ≤ length text.old }
-    ensures inside { IfOk result (λ end. end ≤ length text.new) }
-    ensures text { IfOk result (λ end. take end text.new
-        ≡ with_field delimiter (take at text.old) (with_backslash chars.now)) }
+// Writes a text where null is `\N`.
+fn put_doubled(out: &mut TextBuffer, delimiter: u8, chars: &[u8]) -> Result<(), AllocError>
+    ensures { OnOk result (out.new.text
+        ≡ with_field delimiter out.old.text (with_backslash chars.now)) }
 {
     if chars.first() == Some(&b'\\') {
-        return put_backslashed(text, at, delimiter, chars);
+        return put_backslashed(out, delimiter, chars);
     }
-    put_field(text, at, delimiter, chars)
+    put_field(out, delimiter, chars)
 }
 
-// Writes a text as a field of CSV from `at` on, where it may begin as the text of null does, and
-// returns where it ends. X3 where it is the text of null, other than `\N`.
+// Writes a text that may begin as the text of null does. X3 where it is that text, other than `\N`.
 #[cold]
 #[inline(never)]
 fn put_like_null(
-    text: &mut [u8],
-    at: usize,
+    out: &mut TextBuffer,
     dialect: &Dialect<'_>,
     column: u64,
     chars: &[u8],
-) -> Result<usize, TextFault>
-    requires { at ≤ length text.old }
-    ensures inside { IfOk result (λ end. end ≤ length text.new) }
-    ensures ok { IfOk result (λ end. Appended dialect.now.delimiter (take at text.old)
-        (chars_text dialect.now chars.now) (take end text.new)) }
-    ensures refused { IfErr result (RefusesValue column (chars_text dialect.now chars.now)) }
+) -> Result<(), TextFault>
+    ensures { AddsField dialect.now.delimiter column (chars_text dialect.now chars.now)
+        out.old.text out.new.text result }
 {
     if dialect.escapes_backslash() {
-        return Ok(put_doubled(text, at, dialect.delimiter(), chars)?);
+        return Ok(put_doubled(out, dialect.delimiter(), chars)?);
     }
     if chars == dialect.null().as_bytes() {
         return Err(TextFault::NoTextForm { column });
     }
-    Ok(put_field(text, at, dialect.delimiter(), chars)?)
+    Ok(put_field(out, dialect.delimiter(), chars)?)
 }
 
 // Whether the first `len` bytes do not begin as this text of null does.
@@ -218,132 +177,105 @@ fn begins_plainly(dialect: &Dialect<'_>, bytes: &[u8], len: usize) -> bool
     differs_from_null(dialect.null().as_bytes(), bytes, len)
 }
 
-// Writes a text as a field of CSV from `at` on, and returns where it ends. X3 where it is the text
-// of null, other than `\N`.
-#[inline(always)]
+/// Writes a text. X3 where it is the text of null, other than `\N`.
+#[inline(never)]
 pub(crate) fn put_text_field(
-    text: &mut [u8],
-    at: usize,
+    out: &mut TextBuffer,
     dialect: &Dialect<'_>,
     column: u64,
     chars: &[u8],
-) -> Result<usize, TextFault>
-    requires { at ≤ length text.old }
-    ensures inside { IfOk result (λ end. end ≤ length text.new) }
-    ensures ok { IfOk result (λ end. Appended dialect.now.delimiter (take at text.old)
-        (chars_text dialect.now chars.now) (take end text.new)) }
-    ensures refused { IfErr result (RefusesValue column (chars_text dialect.now chars.now)) }
+) -> Result<(), TextFault>
+    ensures { AddsField dialect.now.delimiter column (chars_text dialect.now chars.now)
+        out.old.text out.new.text result }
 {
     if !begins_plainly(dialect, chars, chars.len()) {
-        return put_like_null(text, at, dialect, column, chars);
+        return put_like_null(out, dialect, column, chars);
     }
-    Ok(put_field(text, at, dialect.delimiter(), chars)?)
+    Ok(put_field(out, dialect.delimiter(), chars)?)
 }
 
-// Writes a text of any length as a field of CSV, in a function of its own.
-#[inline(never)]
-fn put_long_text(
-    text: &mut [u8],
-    at: usize,
-    dialect: &Dialect<'_>,
-    column: u64,
-    chars: &[u8],
-) -> Result<usize, TextFault>
-    requires { at ≤ length text.old }
-    ensures inside { IfOk result (λ end. end ≤ length text.new) }
-    ensures ok { IfOk result (λ end. Appended dialect.now.delimiter (take at text.old)
-        (chars_text dialect.now chars.now) (take end text.new)) }
-    ensures refused { IfErr result (RefusesValue column (chars_text dialect.now chars.now)) }
-{
-    put_text_field(text, at, dialect, column, chars)
-}
-
-// Writes a text as a field of CSV from `at` on, and returns where it ends. The text is the first
-// bytes of those given: a short text is copied by one load of sixteen bytes, without a branch on
-// its length. X3 if it is the text of null, other than `\N`.
+/// Writes a text, the first `len` bytes of those given: a short text is copied by one load of
+/// sixteen bytes, without a branch on its length. X3 if it is the text of null, other than `\N`.
 #[inline(always)]
 pub(crate) fn put_front_field(
-    text: &mut [u8],
-    at: usize,
+    out: &mut TextBuffer,
     dialect: &Dialect<'_>,
     column: u64,
     bytes: &[u8],
     len: usize,
-) -> Result<usize, TextFault>
-    requires room { at + 16 ≤ length text.old }
+) -> Result<(), TextFault>
+    requires room { 16 ≤ out.old.room }
     requires inside { len ≤ length bytes.now }
-    ensures inside { IfOk result (λ end. end ≤ length text.new) }
-    ensures ok { IfOk result (λ end. Appended dialect.now.delimiter (take at text.old)
-        (chars_text dialect.now (take len bytes.now)) (take end text.new)) }
-    ensures refused { IfErr result
-        (RefusesValue column (chars_text dialect.now (take len bytes.now))) }
+    ensures { AddsField dialect.now.delimiter column (chars_text dialect.now (take len bytes.now))
+        out.old.text out.new.text result }
 {
     if len <= 16
         && 16 <= bytes.len()
         && begins_plainly(dialect, bytes, len)
-        && put_front_if_unquoted(text, at, dialect.delimiter(), bytes, len)
+        && out.put_front_if_plain(dialect.delimiter(), bytes, len)
     {
-        return Ok(at + len);
+        return Ok(());
     }
-    put_long_text(text, at, dialect, column, &bytes[..len])
+    put_text_field(out, dialect, column, &bytes[..len])
 }
 
-// Writes a signed number as a field of CSV from `at` on, and returns where it ends.
+/// Writes a signed number.
 #[inline(always)]
-pub(crate) fn put_signed_field(text: &mut [u8], at: usize, number: i64) -> usize
-    requires { at + 25 ≤ length text.old }
-    ensures inside { result ≤ length text.new }
-    ensures text { (d : Dialect) → take result text.new
-        ≡ with_field d.delimiter (take at text.old) (signed_decimal number) }
+pub(crate) fn put_signed_field(out: &mut TextBuffer, number: i64)
+    requires { 25 ≤ out.old.room }
+    ensures { (d : Dialect) → out.new.text
+        ≡ with_field d.delimiter out.old.text (signed_decimal number) }
 {
-    put_i64(text, at, number)
+    out.put_i64(number);
 }
 
-// Writes an unsigned number as a field of CSV from `at` on, and returns where it ends.
+/// Writes an unsigned number.
 #[inline(always)]
-pub(crate) fn put_unsigned_field(text: &mut [u8], at: usize, number: u64) -> usize
-    requires { at + 24 ≤ length text.old }
-    ensures inside { result ≤ length text.new }
-    ensures text { (d : Dialect) → take result text.new
-        ≡ with_field d.delimiter (take at text.old) (decimal number) }
+pub(crate) fn put_unsigned_field(out: &mut TextBuffer, number: u64)
+    requires { 24 ≤ out.old.room }
+    ensures { (d : Dialect) → out.new.text
+        ≡ with_field d.delimiter out.old.text (decimal number) }
 {
-    put_u64(text, at, number)
+    out.put_u64(number);
 }
 
-// Writes bytes as a field of CSV from `at` on, two lower-case hexadecimal digits for each, and
-// returns where it ends. X3 where there are none and the text of null is empty.
+// Whether some bytes and a text of null are empty.
+fn are_empty(bytes: &[u8], null: &[u8]) -> bool
+    ensures empty { IsTrue result → (bytes.now ≡ []) × (null.now ≡ []) }
+    ensures other { IsFalse result → bytes.now ≡ [] → null.now ≢ [] }
+{
+    matches!((bytes, null), ([], []))
+}
+
+/// Writes two lower-case hexadecimal digits for each byte. X3 where there are no bytes and the text
+/// of null is empty.
 #[inline(always)]
 pub(crate) fn put_bytes_field(
-    text: &mut [u8],
-    at: usize,
+    out: &mut TextBuffer,
     dialect: &Dialect<'_>,
     column: u64,
     bytes: &[u8],
-) -> Result<usize, TextFault>
-    requires { at ≤ length text.old }
-    ensures inside { IfOk result (λ end. end ≤ length text.new) }
-    ensures ok { IfOk result (λ end. Appended dialect.now.delimiter (take at text.old)
-        (unless_null dialect.now (encode_lower bytes.now)) (take end text.new)) }
-    ensures refused { IfErr result
-        (RefusesValue column (unless_null dialect.now (encode_lower bytes.now))) }
+) -> Result<(), TextFault>
+    ensures { AddsField dialect.now.delimiter column
+        (unless_null dialect.now (encode_lower bytes.now)) out.old.text out.new.text result }
 {
-    if bytes.is_empty() && dialect.null().is_empty() {
+    if are_empty(bytes, dialect.null().as_bytes()) {
         return Err(TextFault::NoTextForm { column });
     }
-    Ok(put_hexadecimal(text, at, bytes)?)
+    Ok(out.put_hexadecimal(bytes)?)
 }
 
-// Ends a record whose fields are the first `at` bytes, and returns where it ends: with a line feed,
-// and before it two quotes if the fields are empty.
-pub(crate) fn put_end(text: &mut [u8], at: usize) -> Result<usize, AllocError>
-    requires { at ≤ length text.old }
-    ensures inside { IfOk result (λ end. end ≤ length text.new) }
-    ensures ended { (delimiter : ℕ) → IfOk result
-        (λ end. Ended delimiter 0 (take at text.old) (take end text.new)) }
+/// Ends a record whose fields begin at `start`: with a line feed, and before it two quotes if the
+/// fields are empty.
+pub(crate) fn put_end(out: &mut TextBuffer, start: usize) -> Result<(), AllocError>
+    ensures { (delimiter : ℕ) → OnOk result (Ended delimiter start out.old.text out.new.text) }
 {
-    reserve(text, at, 3)?;
-    if at == 0 {
-        return Ok(put(text, 0, b"\"\"\n"));
+    let len = out.len();
+    out.reserve(3)?;
+    if len == start {
+        out.put(b"\"\"\n");
+        return Ok(());
     }
-    Ok(put(text, at, b"\n"))
+    out.put(b"\n");
+    Ok(())
 }

@@ -1,12 +1,11 @@
 //! Bytes as hexadecimal digits at a place, sixteen bytes at a time.
 //!
 //! A digit is reckoned and not looked up, so that the digits of sixteen bytes are found at once.
-ghost use Rattle.std.specs.Prelude.{◌≡◌, ◌≤◌, ◌<◌, ◌+◌, ◌*◌, ◌++◌, ◌∷◌, [], length, take, IfOk};
+ghost use Rattle.std.specs.Prelude.{◌≡◌, ◌≤◌, ◌<◌, ◌+◌, ◌*◌, ◌++◌, ◌∷◌, [], length, take};
 ghost use Rattle.std.specs.Char.{digit_char};
 ghost use Rattle.hex.specs.Hex.{encode_lower};
 
-use crate::bytes::{put_word, reserve};
-use std::alloc::AllocError;
+use crate::bytes::put_word;
 
 /// The digit of a number below 16, in lower case.
 #[inline(always)]
@@ -53,9 +52,9 @@ fn sixteen_digits(bytes: &[u8; 16]) -> [u8; 32]
     digits
 }
 
-// Writes two digits for each byte, sixteen bytes at a time, and returns where they end.
+/// Writes two digits for each byte, sixteen bytes at a time, and returns where they end.
 #[inline(always)]
-fn put_many_digits(text: &mut [u8], at: usize, bytes: &[u8]) -> usize
+pub fn put_digits_at(text: &mut [u8], at: usize, bytes: &[u8]) -> usize
     requires { at + 2 * length bytes.now ≤ length text.old }
     ensures end { result ≡ at + 2 * length bytes.now }
     ensures text { take result text.new ≡ take at text.old ++ encode_lower bytes.now }
@@ -67,20 +66,4 @@ fn put_many_digits(text: &mut [u8], at: usize, bytes: &[u8]) -> usize
         rest = more;
     }
     put_digits(text, end, rest)
-}
-
-/// Writes two lower-case digits for each byte from `at` on, and returns where they end. It refuses
-/// only where the buffer ends before.
-#[inline(always)]
-pub fn put_hexadecimal(text: &mut [u8], at: usize, bytes: &[u8]) -> Result<usize, AllocError>
-    requires { at ≤ length text.old }
-    ensures inside { IfOk result (λ end. end ≤ length text.new) }
-    ensures text { IfOk result (λ end. take end text.new
-        ≡ take at text.old ++ encode_lower bytes.now) }
-{
-    let Some(count) = bytes.len().checked_mul(2) else {
-        return Err(AllocError);
-    };
-    reserve(text, at, count)?;
-    Ok(put_many_digits(text, at, bytes))
 }

@@ -1,25 +1,27 @@
 //! Text on its way to a sink.
-ghost use Rattle.std.specs.Prelude.{◌≡◌, ◌≤◌, ◌+◌, ◌++◌, [], length, take, vec_len, IfErr, IfOk};
-ghost use Rattle.std.specs.Prelude.{IsFalse, IsTrue, MatchResult, OnOk, Some, None};
-ghost use Rattle.job_print.specs.Columns.{AreLent, IsApart, number_line};
-ghost use Rattle.job_print.specs.Forms.{HasLine, form_fault, line_of};
+ghost use Rattle.std.specs.Prelude.{◌≡◌, ◌≢◌, ◌++◌, [], length, take, IfErr, IfOk, OnOk};
+ghost use Rattle.std.specs.Prelude.{MatchResult, None, Some};
+ghost use Rattle.ipc_text_temporal.specs.declared.fault.TextFault.TheVariants.{OutOfMemory};
+ghost use Rattle.job_print.specs.Forms.{HasLine, LacksRecord, PutsLine, form_fault, line_of};
 ghost use Rattle.job_print.specs.LentRows.{HaveRow, row_at};
-ghost use Rattle.job_print.specs.Output.{PrintsAs, PrintsAt, output};
-ghost use Rattle.job_print.specs.Rows.{lines};
+ghost use Rattle.job_print.specs.Output.{PrintsAs, output};
 
-use crate::bytes::put_word;
 use crate::column_tree::ColumnReader;
+use crate::csv_row::csv_line;
 use crate::form::Form;
-use crate::line::add_line;
-use crate::number_rows::{NumberForm, print_number_rows};
-use ipc_column::Batch;
+use crate::json_row::json_line;
+use crate::text_buffer::TextBuffer;
 use ipc_device::{Failed, Sink, send_all};
 use ipc_model::Field;
+use ipc_text_temporal::TextFault;
 use std::alloc::{AllocError, Global};
 use std::marker::Model;
 
-// How many bytes of text are kept before they go to the sink.
-const BUFFER_LEN: usize = 1 << 16;
+// At how many bytes the text goes to the sink.
+const FULL_LEN: usize = 1 << 16;
+
+// How many bytes of text have room at first: a full text, and a line.
+const INITIAL_LEN: usize = FULL_LEN + (1 << 12);
 
 /// Why a text was not printed.
 #[derive(Clone, Copy, Debug, PartialEq, Eq)]
@@ -55,120 +57,115 @@ pub(crate) fn send<W: Sink>(sink: &mut W, text: &[u8]) -> Result<(), PrintFault>
     }
 }
 
-// Adds a text of any length after the first `start` bytes, and returns where it ends.
-fn put_text<W: Sink>(
-    sink: &mut W,
-    text: &mut [u8],
-    start: usize,
-    word: &[u8],
-) -> Result<usize, PrintFault>
-    requires { start ≤ length text.old }
-    ensures inside { IfOk result (λ end. end ≤ length text.new) }
-    ensures same_room { length text.new ≡ length text.old }
-    ensures puts { PrintsAt (output (W.written sink.old) (W.failures sink.old)
-        (take start text.old)) (W.written sink.new) (W.failures sink.new) text.new word.now result }
+// Adds the line of a row in this form. X3 in CSV, if the row has no line; then a beginning of the
+// line may have been added. `OutOfMemory` if memory ran out.
+#[inline(always)]
+fn add_line(
+    out: &mut TextBuffer,
+    form: Form<'_>,
+    fields: &[Field],
+    columns: &[ColumnReader<'_>],
+    row: usize,
+) -> Result<(), TextFault>
+    requires columns { length columns.now ≡ length fields.now }
+    requires row { HaveRow columns.now row }
+    requires fits { form_fault form fields.now ≡ None }
+    ensures text { OnOk result (out.new.text
+        ≡ out.old.text ++ line_of form.entry fields.now (row_at columns.now row)) }
+    ensures ok { OnOk result (HasLine form.entry fields.now (row_at columns.now row)) }
+    ensures refused { IfErr result (λ fault. fault ≢ OutOfMemory
+        → LacksRecord form.entry fields.now (row_at columns.now row) fault) }
+    ensures front { IfErr result (λ fault. fault ≢ OutOfMemory
+        → take (length out.old.text) out.new.text ≡ out.old.text) }
 {
-    if word.len() <= text.len() - start {
-        return Ok(put_word(text, start, word));
+    match form {
+        Form::Counts => Ok(()),
+        Form::Rows { shape, .. } => Ok(json_line(out, shape, fields, columns, row)?),
+        Form::Records(dialect) => csv_line(out, &dialect, fields, columns, row),
     }
-    send(sink, &text[..start])?;
-    if word.len() <= text.len() {
-        return Ok(put_word(text, 0, word));
-    }
-    send(sink, word)?;
-    Ok(0)
 }
 
 /// A text buffer before a sink. Contracts describe it by the text that it keeps.
 #[derive(Drop)]
 pub struct LineBuffer {
-    text: Vec<u8>,
-    at: usize,
-    ghost room: { 26003 ≤ vec_len text },
-    ghost inside: { at ≤ vec_len text },
+    text: TextBuffer,
 }
 
 impl Model for LineBuffer {
-    ghost use Rattle.std.specs.Prelude.{ℕ, List, take};
+    ghost use Rattle.std.specs.Prelude.{ℕ, List};
     ghost use Rattle.std.specs.Coded.{codes};
 
     ghost Value = { List ℕ };
 
     ghost coded = { Prim.hlevel codes };
 
-    ghost view = { λ l. take l.at l.text.items };
+    ghost view = { λ l. l.text.text };
 }
 
 impl LineBuffer {
-    /// Creates an empty buffer of 64 KiB. Returns an error if memory ran out.
+    /// Creates an empty buffer. Returns an error if memory ran out.
     pub fn new(alloc: Global) -> Result<LineBuffer, AllocError>
         ensures { IfOk result (λ lines. lines ≡ []) }
     {
         Ok(LineBuffer {
-            text: vec![in alloc; 0u8; BUFFER_LEN]?,
-            at: 0,
+            text: TextBuffer::new(alloc, INITIAL_LEN)?,
         })
     }
 
-    /// Adds a text. If it has no room after the kept text, that is sent to the sink first; a text
-    /// longer than the buffer is sent there itself. The only error is `Write`, if the sink failed;
+    /// Sends the kept text, if it has 64 KiB. The only error is `Write`, if the sink failed; then
+    /// the kept text is lost.
+    #[inline(always)]
+    #[tactic(auto, using(crate::proofs::Puts::puts_none))]
+    pub(crate) fn send_full<W: Sink>(&mut self, sink: &mut W) -> Result<(), PrintFault>
+        ensures { PrintsAs (output (W.written sink.old) (W.failures sink.old) self.old)
+            (W.written sink.new) (W.failures sink.new) self.new [] result }
+    {
+        if self.text.len() >= FULL_LEN {
+            send(sink, self.text.as_slice())?;
+            self.text.truncate(0);
+        }
+        Ok(())
+    }
+
+    /// Adds a text. `Write` is returned if the sink failed, and `OutOfMemory` if memory ran out;
     /// then the kept text is lost.
     pub fn put<W: Sink>(&mut self, sink: &mut W, text: &[u8]) -> Result<(), PrintFault>
         ensures { PrintsAs (output (W.written sink.old) (W.failures sink.old) self.old)
             (W.written sink.new) (W.failures sink.new) self.new text.now result }
     {
-        self.at = put_text(sink, &mut self.text, self.at, text)?;
-        Ok(())
+        self.text.reserve(text.len())?;
+        self.text.put(text);
+        self.send_full(sink)
     }
 
-    /// Adds the line of a row in this form. Returns false, and adds nothing, if the line does not
-    /// fit after the kept text, or if the row has no line.
+    /// Adds the line of a row in this form. Returns why there is none, and adds nothing, if the row
+    /// has no line. Returns an error if memory ran out.
     ///
     /// The caller gives the columns of a batch, a row below its `rows`, and the fields of the
     /// columns, which the form has a place for.
+    #[inline(always)]
     pub fn put_line(
         &mut self,
         form: Form<'_>,
         fields: &[Field],
         columns: &[ColumnReader<'_>],
         row: usize,
-    ) -> bool
+    ) -> Result<Option<TextFault>, AllocError>
         requires columns { length columns.now ≡ length fields.now }
         requires row { HaveRow columns.now row }
         requires fits { form_fault form fields.now ≡ None }
-        ensures line { IsTrue result
-            → self.new ≡ self.old ++ line_of form.entry fields.now (row_at columns.now row) }
-        ensures ok { IsTrue result → HasLine form.entry fields.now (row_at columns.now row) }
-        ensures none { IsFalse result → self.new ≡ self.old }
+        ensures { IfOk result (PutsLine form.entry fields.now (row_at columns.now row) self.old
+            self.new) }
     {
-        match add_line(form, &mut self.text, self.at, fields, columns, row) {
-            Ok(end) => {
-                self.at = end;
-                true
+        let start = self.text.len();
+        match add_line(&mut self.text, form, fields, columns, row) {
+            Ok(()) => Ok(None),
+            Err(TextFault::OutOfMemory) => Err(AllocError),
+            Err(fault) => {
+                self.text.truncate(start);
+                Ok(Some(fault))
             }
-            Err(_) => false,
         }
-    }
-
-    /// Adds the line of each row of a batch, whose columns have these numbers. Full text goes to
-    /// the sink. The only error is `Write`, if the sink failed; then a beginning of the rows went
-    /// out, and the kept text is lost.
-    pub(crate) fn put_numbers<W: Sink>(
-        &mut self,
-        sink: &mut W,
-        form: NumberForm,
-        columns: &[&[[u8; 8]]],
-        batch: &Batch,
-    ) -> Result<(), PrintFault>
-        requires apart { IsApart form }
-        requires lent { AreLent (λ c. c.now) columns.now batch.now.rows }
-        requires few { length columns.now ≤ 1000 }
-        ensures { PrintsAs (output (W.written sink.old) (W.failures sink.old) self.old)
-            (W.written sink.new) (W.failures sink.new) self.new
-            (lines (number_line form) batch.now.rows) result }
-    {
-        self.at = print_number_rows(sink, &mut self.text, self.at, form, columns, batch)?;
-        Ok(())
     }
 
     /// Sends what is kept, and flushes the sink. `Write` is answered where it failed, and nothing
@@ -182,8 +179,8 @@ impl LineBuffer {
         ensures puts { PrintsAs (output (W.written sink.old) (W.failures sink.old) self.old)
             (W.written sink.new) (W.failures sink.new) [] [] result }
     {
-        send(sink, &self.text[..self.at])?;
-        self.at = 0;
+        send(sink, self.text.as_slice())?;
+        self.text.truncate(0);
         match sink.flush() {
             Ok(()) => Ok(()),
             Err(_) => Err(PrintFault::Write),

@@ -279,7 +279,7 @@ fn print_open<R: Source, W: Sink, P: Progress>(
 /// - `Read`: the stream is refused, the source failed, or memory ran out in reading. It has the
 ///   number of the message; the schema's is 0. A required end-of-stream mark that is missing is F4
 ///   at the message after the last one.
-/// - `Text`: the columns or a row have no text in this form, or memory ran out in making one.
+/// - `Text`: the columns or a row have no text in this form.
 /// - `Write`: the sink failed, also if the source failed before it, or memory ran out in writing.
 pub fn print<R: Source, W: Sink, P: Progress>(
     alloc: Global,

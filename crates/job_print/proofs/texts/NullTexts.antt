@@ -9,7 +9,7 @@ use Rattle.ipc_text_csv.specs.Dialects.{standard_null}
 use Rattle.ipc_text_csv.specs.declared.dialect.Dialect.{Dialect}
 use Rattle.ipc_text_csv.specs.RowCsv.{with_backslash, chars_text, null_text}
 use Rattle.ipc_text_csv.proofs.NullText.{kept_text}
-use Rattle.job_print.specs.Unquoted.{BeginsApart}
+use Rattle.job_print.specs.NullTexts.{BeginsApart}
 
 apart_other : (null text : List ℕ) → BeginsApart null text → text ≢ null
 apart_other [] [] h e = h

@@ -1,5 +1,4 @@
-use Rattle.std.proofs.Common.{sym, take, arith}
-use Rattle.std.proofs.lemmas.List.{take_all}
+use Rattle.std.proofs.Common.{sym, take}
 use Rattle.job_print.proofs.Cells.{nothing_has, no_lines}
 use Rattle.job_print.proofs.Lines.{put_at}
 use Rattle.job_print.proofs.Puts.{puts_none}
@@ -12,6 +11,3 @@ returns-then-prints_no_rows g c =
       nothing_has c.args.fields.now rows,
       put_at _ _ _ _ (sym (no_lines c.args.fields.now rows)) (puts_none _),
     )
-
-pub returns : goal.returns
-returns g c = rw (take_all c.args.count c.args.batch.now.rows (omega (arith, c.rows.ensures))) c.print_all.ensures

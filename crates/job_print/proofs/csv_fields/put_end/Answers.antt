@@ -1,20 +1,14 @@
-use Rattle.std.proofs.Common.{◌≡◌, ◌<◌, ◌∙◌, ◌++◌, refl, ap, sym, List, ℕ, length, take, arith}
-use Rattle.std.proofs.lemmas.List.{length-take-le}
+use Rattle.std.proofs.Common.{◌≡◌, ◌∙◌, sym, refl, length}
 use Rattle.ipc_text_csv.proofs.Records.{ended}
-use Rattle.job_print.proofs.texts.RecordEnds.{end_of_none, end_of_some}
+use Rattle.job_print.proofs.texts.RecordEnds.{end_blank, end_other}
 use Rattle.job_print.proofs.csv_fields.put_end.Goals as goal
 
-pub returns-then-at-eq0-clause-ended : goal.returns-then-at-eq0-clause-ended
-returns-then-at-eq0-clause-ended c delimiter =
-    let before = take c.args.at c.args.text.now in
-    let none : length before ≡ 0 = length-take-le c.args.at c.args.text.now c.requires ∙ c.if-at-eq0.true in
-    let zero = c.if-at-eq0.true in
-    ended delimiter 0 before _ (c.put.ensures.text ∙ (rw zero refl ∙ ap (λ (t : List ℕ). before ++ t) (sym (end_of_none before none))))
+pub returns-then-len-start : goal.returns-then-len-start
+returns-then-len-start c delimiter =
+    let blank = end_blank c.args.start c.args.out.now.text (sym c.len-len.ensures ∙ c.if-len-start.true) in
+    ended delimiter c.args.start c.args.out.now.text _ (rw (c.put.ensures.text, c.reserve.ensures.text, blank) refl)
 
-pub returns-clause-ended : goal.returns-clause-ended
-returns-clause-ended c delimiter =
-    let before = take c.args.at c.args.text.now in
-    let size : length before ≡ c.args.at = length-take-le c.args.at c.args.text.now c.requires in
-    let other = c.if-at-eq0.false in
-    let some : 0 < length before = omega (arith, size, other) in
-    ended delimiter 0 before _ (c.put-2.ensures.text ∙ ap (λ (t : List ℕ). before ++ t) (sym (end_of_some before some)))
+pub returns : goal.returns
+returns c delimiter =
+    let other = end_other c.args.start c.args.out.now.text (λ e. c.if-len-start.false (c.len-len.ensures ∙ e)) in
+    ended delimiter c.args.start c.args.out.now.text _ (rw (c.put-2.ensures.text, c.reserve.ensures.text, other) refl)

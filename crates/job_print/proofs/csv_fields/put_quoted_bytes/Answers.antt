@@ -1,4 +1,4 @@
-use Rattle.std.proofs.Common.{append_assoc, get_or, refl, rules}
+use Rattle.std.proofs.Common.{append_assoc, get_or, refl}
 use Rattle.job_print.proofs.texts.Quotes.{all_between, between_from}
 use Rattle.job_print.proofs.csv_fields.put_quoted_bytes.Goals as goal
 
@@ -6,12 +6,10 @@ pub loop-byte-preserved : goal.loop-byte-preserved
 loop-byte-preserved c =
     let b = get_or c.args.field.now c.loop-byte.byte-index 0 in
     record {
-      inside = search rules;
-      text = rw c.put_quoted_byte-end.ensures.text
+      text = rw (c.put_quoted_byte.ensures, c.reserve.ensures.text)
           (simp append_assoc (rw (between_from c.args.field.now c.loop-byte.byte-index b c.loop-byte-test.true refl)
           at c.loop-byte.invariant.text));
     }
 
-pub returns-clause-text : goal.returns-clause-text
-returns-clause-text c =
-    all_between c.args.field.now _ _ c.loop-byte.byte-index c.loop-byte-test.false c.loop-byte.invariant.text
+pub returns : goal.returns
+returns c = all_between c.args.field.now _ _ c.loop-byte.byte-index c.loop-byte-test.false c.loop-byte.invariant.text

@@ -4,26 +4,26 @@ use Rattle.ipc_column.specs.declared.slot_view.Slot.TheVariants as slot
 use Rattle.job_print.proofs.texts.SlotTexts.{slot_json}
 use Rattle.job_print.proofs.json_row.put_leaf.Goals as goal
 
-pub returns-in-Int-clause-text : goal.returns-in-Int-clause-text
-returns-in-Int-clause-text c =
+pub returns-in-Int : goal.returns-in-Int
+returns-in-Int c =
     let fits : FitsSigned w64 c.in-Int.number = search rules in
     rw (slot_json c.args.shape c.args.field.now c.args.column.now c.args.slot (slot.Int c.in-Int.number)
     (rw c.in-Int.is at c.requires.value))
-    (rw (to_z-of_z w64 c.in-Int.number fits) at c.put_int.ensures.text)
+    (rw (to_z-of_z w64 c.in-Int.number fits) at c.put_int.ensures)
 
-pub returns-in-Bool-clause-text : goal.returns-in-Bool-clause-text
-returns-in-Bool-clause-text c =
+pub returns-in-Bool : goal.returns-in-Bool
+returns-in-Bool c =
     rw (slot_json c.args.shape c.args.field.now c.args.column.now c.args.slot (slot.Bool c.in-Bool.truth)
     (rw c.in-Bool.is at c.requires.value))
-    c.put_bool.ensures.text
+    c.put_bool.ensures
 
-pub returns-in-Bytes-clause-text : goal.returns-in-Bytes-clause-text
-returns-in-Bytes-clause-text c =
+pub returns-in-Bytes : goal.returns-in-Bytes
+returns-in-Bytes c =
     rw (slot_json c.args.shape c.args.field.now c.args.column.now c.args.slot (slot.Bytes c.in-Bytes.bytes)
     (rw c.in-Bytes.is at c.requires.value))
-    c.put_bytes.ensures.text
+    c.put_bytes.ensures
 
-pub returns-in-Null-clause-text : goal.returns-in-Null-clause-text
-returns-in-Null-clause-text c =
+pub returns-in-Null : goal.returns-in-Null
+returns-in-Null c =
     rw (slot_json c.args.shape c.args.field.now c.args.column.now c.args.slot slot.Null
-    (rw c.in-Null.is at c.requires.value)) c.put_null.ensures.text
+    (rw c.in-Null.is at c.requires.value)) c.put_null.ensures

@@ -8,10 +8,9 @@ use Rattle.job_print.proofs.json_row.put_nulls.Goals as goal
 
 pub loop-number-preserved : goal.loop-number-preserved
 loop-number-preserved c = record {
-  inside = c.put_null-at.ensures.inside;
   text = λ shape field. rw (later_next c.loop-number.number)
       (item_written (cell_json shape field) (replicate c.args.count v.Null) c.loop-number.number v.Null
       (nat_lt 0 c.loop-number.number) _ _ _
       (repeated_at v.Null c.args.count c.loop-number.number (omega arith)) (c.loop-number.invariant.text shape field)
-      (rw (json_null shape field) (rw c.in_ok-place.ensures.text at c.put_null-at.ensures.text)));
+      (rw (json_null shape field) (rw c.in_ok-start_item.ensures.text at c.put_null.ensures)));
 }

@@ -1,4 +1,4 @@
-use Rattle.std.proofs.Common.{◌≡◌, ◌≤◌, ◌++◌, drop, take, length, false, replicate}
+use Rattle.std.proofs.Common.{◌≡◌, ◌++◌, drop, false, replicate}
 use Rattle.std.specs.Prelude.{nat_lt}
 use Rattle.serde_json.specs.Written.{items_text}
 use Rattle.ipc_model.specs.declared.schema.Field.{Field}
@@ -10,8 +10,7 @@ use Rattle.job_print.proofs.json_row.put_nulls.Given as goal
 -- the first of the nulls were written
 abbrev pub invariant-loop-number : goal.invariant-loop-number
 invariant-loop-number l = record {
-  inside : l.at ≤ length l.text;
-  text : (shape : RowShape) → (field : Field) → take l.at l.text
+  text : (shape : RowShape) → (field : Field) → l.out.text
       ++ items_text (nat_lt 0 l.number) (items_json (cell_json shape field) (drop l.number (replicate l.count v.Null)))
-      ≡ take l.start l.initial.text ++ items_text false (items_json (cell_json shape field) (replicate l.count v.Null));
+      ≡ l.initial.out.text ++ items_text false (items_json (cell_json shape field) (replicate l.count v.Null));
 }

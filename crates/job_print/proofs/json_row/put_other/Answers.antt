@@ -5,13 +5,13 @@ use Rattle.job_print.proofs.json_row.put_other.Goals as goal
 pub put_front-requires-clause-inside : goal.put_front-requires-clause-inside
 put_front-requires-clause-inside c = (rw c.in-Text.is at c.entry_at.ensures).0
 
-pub returns-in-Text-clause-text : goal.returns-in-Text-clause-text
-returns-in-Text-clause-text c =
+pub returns-in-Text : goal.returns-in-Text
+returns-in-Text c =
     rw (told_json c.args.shape c.args.field.now c.args.column.now c.args.slot c.in-Text.bytes c.in-Text.len
     (rw c.in-Text.is at c.entry_at.ensures).1)
-    c.put_front.ensures.text
+    c.put_front.ensures
 
-pub returns-in-Null-clause-text : goal.returns-in-Null-clause-text
-returns-in-Null-clause-text c =
+pub returns-in-Null : goal.returns-in-Null
+returns-in-Null c =
     rw (slot_json c.args.shape c.args.field.now c.args.column.now c.args.slot slot.Null
-    (rw c.in-Null.is at c.entry_at.ensures)) c.put_null.ensures.text
+    (rw c.in-Null.is at c.entry_at.ensures)) c.put_null.ensures

@@ -10,4 +10,4 @@ returns-in_err-lines-clause-puts g c =
 
 pub returns-clause-puts : goal.returns-clause-puts
 returns-clause-puts g c =
-    then_sent _ _ _ _ _ c.flush.result (rw c.in_ok-lines.ensures at c.in_ok-print_front.ensures.puts) c.flush.ensures.puts
+    then_sent _ _ _ _ _ _ c.flush.result (rw c.in_ok-lines.ensures at c.in_ok-print_front.ensures.puts) c.flush.ensures.puts
