@@ -17,6 +17,13 @@ FILES = (
     ".TP", "share/doc/arrowstream/docs/FAULTS.md", "every refusal, and what to do",
 )
 
+# Where a reader finds more.
+SEE_ALSO = (
+    ".BR jq (1)",
+    ".PP",
+    "The format: https://arrow.apache.org/docs/format/Columnar.html#ipc\\-streaming\\-format",
+)
+
 
 def in_two(line):
     """The word of a line of a list, and what is said of it."""
@@ -66,16 +73,23 @@ def options_of(page):
         yield from (".TP", f"\\fB{escaped(words)}\\fR", escaped(text))
 
 
+def list_of(lines):
+    """A list of a page's notes, without its first line."""
+    yield from (".RS 4", ".nf", *(escaped(line.strip()) for line in lines[1:]), ".fi", ".RE")
+
+
 def notes_of(page):
     """The notes after the options: paragraphs, and lists whose first line ends in a colon."""
     for lines in page.notes:
         if lines[0].endswith(":"):
-            yield from (".PP", escaped(lines[0]), ".RS 4", ".nf")
-            yield from (escaped(line.strip()) for line in lines[1:])
-            yield from (".fi", ".RE")
+            yield from (".PP", escaped(lines[0]), *list_of(lines))
         else:
-            yield ".PP"
-            yield from map(escaped, lines)
+            yield from (".PP", *map(escaped, lines))
+
+
+def sections_of(page):
+    """The lists of a page's notes as sections, by their names in capitals."""
+    return {lines[0].rstrip(":").upper(): [*list_of(lines)] for lines in page.notes if lines[1:]}
 
 
 def manual(version, top, pages):
@@ -84,11 +98,13 @@ def manual(version, top, pages):
     lines += [f"arrowstream \\- {escaped(top.about)}", ".SH SYNOPSIS"]
     for page in pages:
         lines += [f"\\fB{escaped(page.usage)}\\fR", ".br"]
-    lines += [".SH DESCRIPTION", *notes_of(top), ".SH OPTIONS", *options_of(top)]
+    lines += [".SH DESCRIPTION", *map(escaped, top.notes[0]), ".SH OPTIONS", *options_of(top)]
     for page in pages:
         lines += [f".SH {escaped(page.name.upper())}", escaped(page.about), *options_of(page)]
         lines += notes_of(page)
-    lines += [".SH FILES", *FILES]
+    sections = {**sections_of(top), "FILES": FILES, "SEE ALSO": SEE_ALSO}
+    for name in ("EXIT STATUS", "FILES", "EXAMPLES", "SEE ALSO"):
+        lines += [f".SH {name}", *sections[name]]
     return "\n".join(lines) + "\n"
 
 
