@@ -4,7 +4,7 @@ use Rattle.std.proofs.Common.{◌++◌, length, take, drop, get_or, map, replica
 use Rattle.std.proofs.Common.{get_or-take, get_or-drop, length-take-le, take-take, take_at}
 use Rattle.std.specs.Prelude.{not}
 use Rattle.std.proofs.Math.Seq.{take-append-add}
-use Rattle.std.proofs.lemmas.Bool.{eqb-true, eqb-false, ltb-false, not-true, or_parts}
+use Rattle.std.proofs.lemmas.Bool.{eqb-true, ltb-false, not-true, or_parts}
 use Rattle.std.proofs.lemmas.Bool.Decides.{nat_tests}
 use Rattle.std.proofs.lemmas.Simd.{length-chunk, leading_from_mask_l, zip2_splat, mask_l-mod}
 use Rattle.std.proofs.lemmas.List.{length-map}
