@@ -1,6 +1,6 @@
 //! Text on its way to a sink.
-ghost use Rattle.std.specs.Prelude.{◌≡◌, ◌≢◌, ◌++◌, [], length, take, IfErr, IfOk, MatchResult, OnOk};
-ghost use Rattle.std.specs.Prelude.{None, Some};
+ghost use Rattle.std.specs.Prelude.{◌≡◌, ◌≢◌, ◌++◌, [], length, take, IfErr, IfOk, OnOk};
+ghost use Rattle.std.specs.Prelude.{MatchResult, None, Some};
 ghost use Rattle.ipc_text_temporal.specs.declared.fault.TextFault.TheVariants.{OutOfMemory};
 ghost use Rattle.job_print.specs.Forms.{HasLine, LacksRecord, PutsLine, form_fault, line_of};
 ghost use Rattle.job_print.specs.LentRows.{HaveRow, row_at};

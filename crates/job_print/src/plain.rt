@@ -76,7 +76,7 @@ fn put_any_length(text: &mut [u8], at: usize, mark: u8, chars: &[u8]) -> bool
     }
 }
 
-/// Writes a text from `at` on, and returns whether it is plain beside `mark`: the backslash in JSON,
+/// Writes a text from `at` on, and returns whether it is plain beside `mark`, the backslash in JSON
 /// and the delimiter in CSV.
 #[inline(always)]
 pub fn put_if_plain(text: &mut [u8], at: usize, mark: u8, chars: &[u8]) -> bool
