@@ -39,7 +39,8 @@ first_counts : (p : Bool) (n l : ℕ) → n ≤ l → cond p (1 + n) 0 ≡ suc l
 first_counts true n l h e = (refl, omega arith)
 first_counts false n l h e = absurd (omega arith)
 
-each_counts : (mark : ℕ) (xs : List ℕ) → prefix_len (plain mark) xs ≡ length xs → (k : ℕ) → k < length xs → plain mark (get_or xs k 0) ≡ true
+each_counts : (mark : ℕ) (xs : List ℕ) → prefix_len (plain mark) xs ≡ length xs → (k : ℕ) → k < length xs
+    → plain mark (get_or xs k 0) ≡ true
 each_counts mark [] e k inside = absurd (omega arith)
 each_counts mark (x ∷ xs) e zero inside = (first_counts (plain mark x) _ (length xs) (prefix_len-le-length (plain mark) xs) e).0
 each_counts mark (x ∷ xs) e (suc k) inside =
@@ -146,6 +147,7 @@ unquoted mark (x ∷ xs) all =
     ) refl
 
 -- beside a delimiter, they need no quotes in CSV
-pub plain_csv : (mark : ℕ) (b : Bool) (d : List ℕ) → OnTrue b (ArePlain mark d 0 (length d)) → OnTrue b (needs_quotes (writer mark) d ≡ false)
+pub plain_csv : (mark : ℕ) (b : Bool) (d : List ℕ) → OnTrue b (ArePlain mark d 0 (length d))
+    → OnTrue b (needs_quotes (writer mark) d ≡ false)
 plain_csv mark true d all = unquoted mark d all
 plain_csv mark false d all = tt
