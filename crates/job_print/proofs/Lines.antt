@@ -1,7 +1,6 @@
 -- Rows that are put, one by one.
-use Rattle.std.proofs.Common.{◌≡◌, ap, subst, ℕ, ◌+◌, ◌<◌, ◌≤◌, List, [], length, take, drop, Option, arith}
+use Rattle.std.proofs.Common.{◌≡◌, subst, ℕ, ◌+◌, ◌<◌, List, [], length, take, drop, Option}
 use Rattle.std.specs.Prelude.{slice_index_or}
-use Rattle.std.proofs.lemmas.List.{take_all}
 use Rattle.ipc_model.specs.declared.value.Value.{Value}
 use Rattle.job_print.specs.declared.line_buffer.PrintFault.{PrintFault}
 use Rattle.job_print.specs.Output.{Output, Puts, PutFails}
@@ -33,7 +32,3 @@ module _ (line_of : List Value → List ℕ) (rows : List (List Value)) where
       (lines_rest line_of rows (i + 1))
       (not_at a w n _ _ e (lines_more line_of rows i inside)
       (puts_not_then a b w n (lines line_of (take i rows)) (line_of (slice_index_or rows i [])) e p q))
-
-  -- where each row was put, all were
-  pub rows_end : (a b : Output) (i : ℕ) → length rows ≤ i → Puts a b (lines line_of (take i rows)) → Puts a b (lines line_of rows)
-  rows_end a b i all p = put_at a b _ _ (ap (lines line_of) (take_all i rows all)) p

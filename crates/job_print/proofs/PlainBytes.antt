@@ -4,7 +4,7 @@ use Rattle.std.proofs.Common.{◌++◌, length, take, drop, get_or, map, replica
 use Rattle.std.proofs.Common.{get_or-take, get_or-drop, length-take-le, take-take, take_at}
 use Rattle.std.specs.Prelude.{not}
 use Rattle.std.proofs.Math.Seq.{take-append-add}
-use Rattle.std.proofs.lemmas.Bool.{eqb-true, eqb-false, ltb-false, not-true, or_parts}
+use Rattle.std.proofs.lemmas.Bool.{eqb-true, ltb-false, not-true, or_parts}
 use Rattle.std.proofs.lemmas.Bool.Decides.{nat_tests}
 use Rattle.std.proofs.lemmas.Simd.{length-chunk, leading_from_mask_l, zip2_splat, mask_l-mod}
 use Rattle.std.proofs.lemmas.List.{length-map}
@@ -39,7 +39,8 @@ first_counts : (p : Bool) (n l : ℕ) → n ≤ l → cond p (1 + n) 0 ≡ suc l
 first_counts true n l h e = (refl, omega arith)
 first_counts false n l h e = absurd (omega arith)
 
-each_counts : (mark : ℕ) (xs : List ℕ) → prefix_len (plain mark) xs ≡ length xs → (k : ℕ) → k < length xs → plain mark (get_or xs k 0) ≡ true
+each_counts : (mark : ℕ) (xs : List ℕ) → prefix_len (plain mark) xs ≡ length xs → (k : ℕ) → k < length xs
+    → plain mark (get_or xs k 0) ≡ true
 each_counts mark [] e k inside = absurd (omega arith)
 each_counts mark (x ∷ xs) e zero inside = (first_counts (plain mark x) _ (length xs) (prefix_len-le-length (plain mark) xs) e).0
 each_counts mark (x ∷ xs) e (suc k) inside =
@@ -146,6 +147,7 @@ unquoted mark (x ∷ xs) all =
     ) refl
 
 -- beside a delimiter, they need no quotes in CSV
-pub plain_csv : (mark : ℕ) (b : Bool) (d : List ℕ) → OnTrue b (ArePlain mark d 0 (length d)) → OnTrue b (needs_quotes (writer mark) d ≡ false)
+pub plain_csv : (mark : ℕ) (b : Bool) (d : List ℕ) → OnTrue b (ArePlain mark d 0 (length d))
+    → OnTrue b (needs_quotes (writer mark) d ≡ false)
 plain_csv mark true d all = unquoted mark d all
 plain_csv mark false d all = tt

@@ -1,6 +1,6 @@
 -- Elements of lists.
 use Rattle.std.proofs.Common.{◌≡◌, ℕ, zero, suc, ◌<◌, List, [], ◌∷◌, ◌++◌, length, Some, arith}
-use Rattle.std.specs.Prelude.{slice_get, slice_index_or}
+use Rattle.std.specs.Prelude.{slice_get}
 use Rattle.std.specs.List.{AllByRecursion}
 
 module _ {X : Type 0} (P : X → Type 0) where
@@ -8,12 +8,6 @@ module _ {X : Type 0} (P : X → Type 0) where
   pub all_more : (xs : List X) (x : X) → AllByRecursion P xs → P x → AllByRecursion P (xs ++ x ∷ [])
   all_more [] x all one = (one, tt)
   all_more (y ∷ ys) x all one = (all.0, all_more ys x all.1 one)
-
-  -- what holds of all elements holds of the i-th
-  pub all_at : (xs : List X) (i : ℕ) (d : X) → i < length xs → AllByRecursion P xs → P (slice_index_or xs i d)
-  all_at [] i d inside all = absurd (omega (arith, inside))
-  all_at (x ∷ xs) zero d inside all = all.0
-  all_at (x ∷ xs) (suc i) d inside all = all_at xs i d (omega (arith, inside)) all.1
 
 -- where an element is found at i, i is below the length
 pub got_inside : {X : Type 0} (xs : List X) (i : ℕ) (x : X) → slice_get xs i ≡ Some x → i < length xs

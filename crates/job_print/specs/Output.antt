@@ -1,5 +1,5 @@
 -- How printing changes the sink and the text that is kept for it.
-use Rattle.std.specs.Prelude.{◌≡◌, ◌≢◌, ◌≤◌, ℕ, List, ◌++◌, length, take, Option, Some, None}
+use Rattle.std.specs.Prelude.{◌≡◌, ◌≢◌, ◌≤◌, ℕ, List, ◌++◌, length, Option, Some, None}
 use Rattle.std.specs.Prelude.{Result, Ok, Err, ⊤}
 use Rattle.job_print.specs.declared.line_buffer.PrintFault.{PrintFault}
 use Rattle.job_print.specs.declared.line_buffer.PrintFault.TheVariants.{Write}
@@ -44,9 +44,3 @@ abbrev pub PrintsAs : {T : Type 0} → Output → Option (List ℕ) → ℕ → 
     → Result T PrintFault → Type 0
 PrintsAs old written failures kept text (Ok x) = Puts old (output written failures kept) text
 PrintsAs old written failures kept text (Err fault) = PutFails old written failures text fault
-
--- the result of a call that puts this text: on success, the kept text ends at the returned place
-abbrev pub PrintsAt : Output → Option (List ℕ) → ℕ → List ℕ → List ℕ → Result ℕ PrintFault → Type 0
-PrintsAt old written failures kept text (Ok end) =
-    Puts old (output written failures (take end kept)) text
-PrintsAt old written failures kept text (Err fault) = PutFails old written failures text fault

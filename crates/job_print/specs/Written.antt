@@ -17,5 +17,6 @@ written_code =
 
 -- the text of a date, a time or a timestamp was appended; or there is none, and nothing was
 abbrev pub AddsMoment : List ℕ → List ℕ → Option (List ℕ) → Bool → Type 0
-AddsMoment before after moment true = (Some after ≡ option_map (λ m. before ++ m) moment) × IfSome moment IsPlain
+AddsMoment before after moment true =
+    (Some after ≡ option_map (λ m. before ++ m) moment) × IfSome moment IsPlain
 AddsMoment before after moment false = (moment ≡ None) × (after ≡ before)

@@ -51,8 +51,8 @@ fn put_temporal_field(
     number: i64,
 ) -> Result<(), TextFault>
     requires { 32 ≤ out.old.room }
-    ensures { (d : Dialect) → AddsField d.delimiter column (temporal_text kind.now number) out.old.text
-        out.new.text result }
+    ensures { (d : Dialect) → AddsField d.delimiter column (temporal_text kind.now number)
+        out.old.text out.new.text result }
 {
     if out.put_temporal(kind, number) {
         return Ok(());
@@ -64,8 +64,8 @@ fn put_temporal_field(
 #[inline(always)]
 fn put_int(out: &mut TextBuffer, column: u64, kind: &DataType, number: i64) -> Result<(), TextFault>
     requires { 32 ≤ out.old.room }
-    ensures { (d : Dialect) → AddsField d.delimiter column (int_text kind.now number) out.old.text
-        out.new.text result }
+    ensures { (d : Dialect) → AddsField d.delimiter column (int_text kind.now number)
+        out.old.text out.new.text result }
 {
     match kind {
         DataType::Date(_) | DataType::Time(_) | DataType::Timestamp { .. } => {

@@ -432,9 +432,11 @@ fn put_cell(
     }
 }
 
-// The cells of a row in its brackets and a line feed.
+/// Adds the JSON text of a row, in this shape, and a line feed. It fails only if memory ran out.
+///
+/// The caller gives the columns of a batch, a row below its `rows`, and the fields of the columns.
 #[inline(always)]
-fn put_line(
+pub fn json_line(
     out: &mut TextBuffer,
     shape: RowShape,
     fields: &[Field],
@@ -462,26 +464,4 @@ fn put_line(
     out.reserve(1)?;
     out.put(b"\n");
     Ok(())
-}
-
-/// Adds the JSON text of a row, in this shape, and a line feed. It fails only if memory ran out.
-///
-/// The caller gives the columns of a batch, a row below its `rows`, and the fields of the columns.
-pub fn json_line(
-    out: &mut TextBuffer,
-    shape: RowShape,
-    fields: &[Field],
-    columns: &[ColumnReader<'_>],
-    row: usize,
-) -> Result<(), AllocError>
-    requires columns { length columns.now ≡ length fields.now }
-    requires row { HaveRow columns.now row }
-    ensures { OnOk result (out.new.text ≡ out.old.text
-        ++ row_text shape fields.now (row_at columns.now row) ++ 10 ∷ []) }
-{
-    // Each arm is compiled for its shape, so that no value asks for it.
-    match shape {
-        RowShape::Array => put_line(out, RowShape::Array, fields, columns, row),
-        RowShape::Object => put_line(out, RowShape::Object, fields, columns, row),
-    }
 }

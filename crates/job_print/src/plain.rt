@@ -76,8 +76,8 @@ fn put_any_length(text: &mut [u8], at: usize, mark: u8, chars: &[u8]) -> bool
     }
 }
 
-/// Writes a text from `at` on, and returns whether it is plain beside `mark`: the backslash in
-/// JSON, and the delimiter in CSV.
+/// Writes a text from `at` on, and returns whether it is plain beside `mark`, the backslash in JSON
+/// and the delimiter in CSV.
 #[inline(always)]
 pub fn put_if_plain(text: &mut [u8], at: usize, mark: u8, chars: &[u8]) -> bool
     requires { at + length chars.now ≤ length text.old }

@@ -15,7 +15,7 @@ use Rattle.ipc_stream_read.specs.declared.end.End.TheVariants.{Mark, Closed}
 use Rattle.ipc_stream_read.specs.Ends.{as_required}
 use Rattle.ipc_stream_read.specs.Failures.{CountsFault}
 use Rattle.ipc_stream_read.specs.Reasons.{EndsReading as BreaksOff, IsOutside, Reads}
-use Rattle.ipc_stream_read.specs.Stream.{State, Event, schema, batch, Step, Run, done, more, Denotes, events_of}
+use Rattle.ipc_stream_read.specs.Stream.{State, Event, schema, Step, Run, done, more, Denotes, events_of}
 use Rattle.ipc_stream_read.proofs.OneReading.{step_one}
 use Rattle.ipc_stream_read.proofs.Reasons.{told_breaks}
 use Rattle.ipc_text_temporal.specs.declared.fault.TextFault.{TextFault}

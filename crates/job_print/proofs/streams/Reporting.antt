@@ -1,9 +1,8 @@
 -- The reports of the batches that were printed.
-use Rattle.std.specs.Prelude.{⊤}
-use Rattle.std.proofs.Common.{ℕ, List, Option, Result, Ok, Err}
+use Rattle.std.proofs.Common.{ℕ, List, Option, Ok}
 use Rattle.ipc_model.specs.declared.limits.Limits.{Limits}
 use Rattle.ipc_device.specs.Reports.{Report}
-use Rattle.ipc_stream_read.specs.Progress.{ReportsAll, ReportsSome}
+use Rattle.ipc_stream_read.specs.Progress.{ReportsSome}
 use Rattle.ipc_stream_read.specs.Reader.{Opens, Reader}
 use Rattle.ipc_stream_read.proofs.Reporting.{opened_some, some_of_all, some_of_before}
 use Rattle.job_print.specs.declared.stop.Outcome.{Outcome}

@@ -12,7 +12,7 @@ use Rattle.ipc_model.specs.declared.limits.Limits.{Limits}
 use Rattle.ipc_model.specs.declared.schema.Schema.{Schema}
 use Rattle.ipc_frame.proofs.OneFrame.{frame_one}
 use Rattle.ipc_stream_read.specs.Decoding.{ReportsLastEvent}
-use Rattle.ipc_stream_read.specs.Stream.{DictionaryInForce, InForce, State, Event, schema, batch, initial_state, Step, first, came, sets}
+use Rattle.ipc_stream_read.specs.Stream.{DictionaryInForce, InForce, State, Event, schema, Step, first, came, sets}
 use Rattle.ipc_stream_read.specs.Stream.{Run, done, more, IsMessage}
 use Rattle.ipc_stream_read.proofs.OneReading.{step_one}
 use Rattle.ipc_stream_read.proofs.Runs.{run_then}

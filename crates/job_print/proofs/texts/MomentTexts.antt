@@ -1,6 +1,6 @@
 -- Dates, times and points in time as what stands in a row.
-use Rattle.std.proofs.Common.{◌≡◌, ◌∙◌, refl, sym, ap, ℕ, ℤ, List, [], ◌∷◌, ◌++◌}
-use Rattle.std.proofs.Common.{append_assoc, Option, Some, None, inr, ◌+◌, ◌≤◌, take, length, arith, take-take, take_at, length-take-le}
+use Rattle.std.proofs.Common.{◌≡◌, ◌∙◌, refl, ap, ℕ, ℤ, List, [], ◌∷◌, ◌++◌}
+use Rattle.std.proofs.Common.{append_assoc, Option, Some, None}
 use Rattle.std.specs.Prelude.{IfSome, option_map, pos, negsuc}
 use Rattle.std.specs.Fmt.{signed_decimal}
 use Rattle.std.proofs.lemmas.Option.{same_Some}
@@ -8,8 +8,7 @@ use Rattle.serde_json.specs.Written.{compact_text}
 use Rattle.ipc_text_temporal.specs.ShortTexts.{IsPlain}
 use Rattle.ipc_text_json.specs.RowJson.{text_or_number}
 use Rattle.ipc_text_csv.specs.declared.dialect.Dialect.{Dialect}
-use Rattle.ipc_text_csv.specs.RowCsv.{Appended, RefusesValue}
-use Rattle.ipc_text_temporal.specs.declared.fault.TextFault.TheVariants.{NoTextForm}
+use Rattle.ipc_text_csv.specs.RowCsv.{Appended}
 use Rattle.job_print.proofs.texts.OwnBytes.{own_moment}
 use Rattle.job_print.proofs.texts.NumberFields.{moment_as_it_stands}
 
@@ -37,16 +36,3 @@ pub field_moment : (d : Dialect) (before after : List ℕ) (moment : Option (Lis
     → Some after ≡ option_map (λ m. before ++ m) moment → Appended d.delimiter before moment after
 field_moment d before after None plain is = absurd cc
 field_moment d before after (Some m) plain is = rw (moment_as_it_stands d.delimiter d.allowed.apart m plain) is
-
--- where there is none, CSV has no text
-pub lacks_moment : (before : List ℕ) (column : ℕ) (moment : Option (List ℕ)) → None ≡ option_map (λ m. before ++ m) moment
-    → RefusesValue column moment (NoTextForm column)
-lacks_moment before column None is = inr (refl, refl)
-lacks_moment before column (Some m) is = absurd cc
-
--- what stands before a place, where one byte more was written
-pub before_byte : (old new : List ℕ) (at : ℕ) (byte : ℕ) → at + 1 ≤ length old → take (at + 1) new ≡ take at old ++ byte ∷ []
-    → take at new ≡ take at old
-before_byte old new at byte room is =
-    sym (take-take at (at + 1) new (omega arith))
-    ∙ (ap (take at) is ∙ take_at (take at old) (byte ∷ []) at (length-take-le at old (omega (arith, room))))

@@ -1,5 +1,5 @@
 -- Numbers, dates and times are fields of CSV as they stand.
-use Rattle.std.proofs.Common.{◌≡◌, ◌≤◌, ◌<◌, ◌^◌, ℕ, suc, ℤ, pos, negsuc, true, false, List, [], ◌∷◌, FitsSigned, w64, refl, arith}
+use Rattle.std.proofs.Common.{◌≡◌, ◌<◌, ◌^◌, ℕ, suc, ℤ, pos, negsuc, true, false, List, [], ◌∷◌, FitsSigned, w64, refl, arith}
 use Rattle.std.specs.Prelude.{decimal}
 use Rattle.std.specs.Fmt.{signed_decimal}
 use Rattle.std.specs.Int.{IsInRange}
@@ -8,7 +8,7 @@ use Rattle.std.proofs.lemmas.Bool.Decides.{nat_tests}
 use Rattle.std.proofs.lemmas.Fmt.{decimal_is_IsNumeral}
 use Rattle.std.proofs.lemmas.Str.Parse.{digit_from_value}
 use Rattle.ipc_text_temporal.specs.ShortTexts.{IsPlain, is_plain_byte}
-use Rattle.csv.specs.Writing.{needs_quotes, needs_byte, field_text}
+use Rattle.csv.specs.Writing.{needs_quotes, field_text}
 use Rattle.ipc_text_csv.specs.Dialects.{is_delimiter, writer}
 use Rattle.ipc_text_csv.proofs.PlainDigits.{plain_byte}
 

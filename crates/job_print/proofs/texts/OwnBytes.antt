@@ -1,6 +1,5 @@
 -- Texts whose bytes stand for themselves.
-use Rattle.std.proofs.Common.{◌≡◌, ◌<◌, ◌≤◌, ◌/◌, ◌%◌, refl, ℕ, suc, slice_index, Bool, true, false, List, [], ◌∷◌, arith}
-use Rattle.std.specs.Bool.{OnTrue}
+use Rattle.std.proofs.Common.{◌≡◌, ◌<◌, ◌/◌, ◌%◌, refl, ℕ, suc, slice_index, true, false, List, [], ◌∷◌, arith}
 use Rattle.std.proofs.lemmas.Bool.{agree_below_at, or_parts}
 use Rattle.hex.specs.Hex.{IsBytes, encode_with, encode_lower, lower_digits}
 use Rattle.json.specs.Print.{escape, escape_byte}
@@ -43,8 +42,3 @@ short_own (b ∷ bs) plain = rw (letter_own b plain.0, short_own bs plain.1) ref
 -- the texts of dates and times stand in a text of JSON as they are
 pub own_moment : (bs : List ℕ) → IsPlain bs → escape bs ≡ bs
 own_moment bs plain = own_bytes bs (short_own bs plain)
-
--- what follows where a test is true
-pub where_own : (b : Bool) {P Q : Type 0} → (P → Q) → OnTrue b P → OnTrue b Q
-where_own true f h = f h
-where_own false f h = tt

@@ -21,8 +21,8 @@ end_blank start text is = let blank : (length text == start) ≡ true = grind (a
 pub end_other : (start : ℕ) (text : List ℕ) → length text ≢ start → end_behind start text ≡ 10 ∷ []
 end_other start text other = let some : (length text == start) ≡ false = grind (arith, nat_tests, other) in rw some refl
 
-whole_record : (d : Dialect) (r : Result (List (List ℕ)) TextFault) (before text new : List ℕ) → with_fields d.delimiter 0 before r ≡ Ok text
-    → Ended d.delimiter (length before) text new → AddsRecord (record_of d r) before new
+whole_record : (d : Dialect) (r : Result (List (List ℕ)) TextFault) (before text new : List ℕ)
+    → with_fields d.delimiter 0 before r ≡ Ok text → Ended d.delimiter (length before) text new → AddsRecord (record_of d r) before new
 whole_record d (Ok texts) before text new put end =
     let body : text ≡ before ++ row_body (writer d.delimiter) texts = cc in
     (row_text (writer d.delimiter) texts, refl, end before texts refl body)

@@ -1,4 +1,4 @@
-use Rattle.std.proofs.Common.{◌≡◌, ◌∙◌, sym, refl, length}
+use Rattle.std.proofs.Common.{◌∙◌, sym, refl}
 use Rattle.ipc_text_csv.proofs.Records.{ended}
 use Rattle.job_print.proofs.texts.RecordEnds.{end_blank, end_other}
 use Rattle.job_print.proofs.csv_fields.put_end.Goals as goal

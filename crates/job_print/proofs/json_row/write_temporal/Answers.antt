@@ -1,4 +1,4 @@
-use Rattle.std.proofs.Common.{◌≡◌, ◌∙◌, ◌++◌, [], ◌∷◌, List, ℕ, ap, refl, rules, sym, option_map, take_at, FitsSigned, w64}
+use Rattle.std.proofs.Common.{◌∙◌, ◌++◌, [], ◌∷◌, List, ℕ, ap, refl, rules, sym, option_map, take_at, FitsSigned, w64}
 use Rattle.std.proofs.lemmas.Int.{to_z-of_z}
 use Rattle.ipc_text_temporal.specs.Temporals.{temporal_text}
 use Rattle.job_print.proofs.texts.MomentTexts.{shown_moment, shown_number}

@@ -2,7 +2,7 @@ use Rattle.std.proofs.Common.{◌≡◌, ◌++◌, map, length}
 use Rattle.ipc_text_json.specs.RowJson.{row_field, row_text}
 use Rattle.job_print.specs.LentRows.{HaveRow, row_at}
 use Rattle.job_print.proofs.texts.CellTexts.{text_behind}
-use Rattle.job_print.proofs.json_row.put_line.Given as goal
+use Rattle.job_print.proofs.json_row.json_line.Given as goal
 
 -- what is left to write stands behind what was written
 abbrev pub invariant-loop-fields : goal.invariant-loop-fields
