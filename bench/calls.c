@@ -29,7 +29,7 @@ static double seconds(void) {
 }
 
 static arrowstream_reader *new_reader(void) {
-    arrowstream_limits limits;
+    arrowstream_limits limits = {.size = sizeof limits};
     arrowstream_reader *reader = NULL;
     arrowstream_limits_standard(&limits);
     arrowstream_reader_open(&limits, &reader);
@@ -38,7 +38,7 @@ static arrowstream_reader *new_reader(void) {
 }
 
 static arrowstream_writer *new_writer(void) {
-    arrowstream_limits limits;
+    arrowstream_limits limits = {.size = sizeof limits};
     arrowstream_writer *writer = NULL;
     arrowstream_limits_standard(&limits);
     arrowstream_writer_open(&limits, &writer);
@@ -54,7 +54,7 @@ static arrowstream_batch *one_batch(void) {
     arrowstream_writer *writer = new_writer();
     arrowstream_reader *reader = new_reader();
     arrowstream_batch *batch = NULL;
-    arrowstream_progress now = {0, 0, 0, ARROWSTREAM_NOTHING};
+    arrowstream_progress now = {.size = sizeof now};
     must(arrowstream_writer_int(writer, 1) == ARROWSTREAM_OK
              && arrowstream_writer_row(writer) == ARROWSTREAM_OK
              && arrowstream_writer_send(writer) == ARROWSTREAM_OK,
@@ -100,7 +100,7 @@ static double int_nanoseconds(void) {
 static void check(void) {
     static uint8_t bytes[PIECE];
     arrowstream_reader *reader = new_reader();
-    arrowstream_progress now = {0, 0, 0, ARROWSTREAM_NOTHING};
+    arrowstream_progress now = {.size = sizeof now};
     size_t rows = 0, length = 0;
     while (now.event != ARROWSTREAM_END && (length = fread(bytes, 1, sizeof bytes, stdin)) > 0)
         for (size_t from = 0; from < length && now.event != ARROWSTREAM_END; from += now.taken) {

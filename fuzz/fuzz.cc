@@ -104,7 +104,8 @@ static Answer answer(Bytes input, const arrowstream_limits &limits, size_t step)
     arrowstream_reader *reader = nullptr;
     arrowstream_reader_open(&limits, &reader);
     all.status = reader ? ARROWSTREAM_OK : ARROWSTREAM_OUT_OF_MEMORY;
-    arrowstream_progress progress = {0, 4, 0, ARROWSTREAM_NOTHING}, last;
+    arrowstream_progress progress = {sizeof progress, 0, 4, 0, ARROWSTREAM_NOTHING};
+    arrowstream_progress last = progress;
     while (all.status == ARROWSTREAM_OK && !all.is_marked && all.taken < input.count) {
         size_t left = input.count - all.taken;
         size_t size = step == WHOLE ? left : step == AS_WANTED ? progress.wanted : step;
@@ -133,7 +134,8 @@ static bool find(const arrowstream_batch *batch, std::vector<uint64_t> path, Sto
                                 second::FixedBinary, second::Binary, second::Utf8,
                                 second::List,        second::FixedList, second::Struct,
                                 second::Int};  // by ARROWSTREAM_LAYOUT_NULL to _INDICES
-    arrowstream_column facts;
+    arrowstream_column facts = {};
+    facts.size = sizeof facts;
     if (arrowstream_batch_column(batch, path.data(), path.size(), &facts) != ARROWSTREAM_OK)
         return false;
     const arrowstream_layout &layout = facts.layout;
@@ -255,7 +257,8 @@ static second::Batch batch_of(const arrowstream_batch *batch, Store &store) {
 // The stream of batches that were read, and the numbers of those that it has. A batch whose values
 // do not fit its schema is refused, as one with a null in a field that is not nullable.
 static std::vector<uint8_t> written(const Answer &read, std::vector<size_t> &sent) {
-    arrowstream_limits limits;
+    arrowstream_limits limits = {};
+    limits.size = sizeof limits;
     arrowstream_limits_standard(&limits);
     arrowstream_writer *writer = nullptr;
     arrowstream_writer_open(&limits, &writer);
@@ -284,7 +287,8 @@ static void write_back(const Answer &read, const second::Stream &meant) {
     LAW(stream.batches.size() == sent.size());
     for (size_t i = 0; i < sent.size(); i++)
         compare_batches(stream.batches[i], meant.batches[sent[i]]);
-    arrowstream_limits limits;
+    arrowstream_limits limits = {};
+    limits.size = sizeof limits;
     arrowstream_limits_standard(&limits);
     Answer again = answer({bytes.data(), bytes.size()}, limits, WHOLE);
     LAW(again.status == ARROWSTREAM_OK && again.schema == read.schema);
@@ -317,8 +321,8 @@ extern "C" int LLVMFuzzerTestOneInput(const uint8_t *data, size_t size) {
     Bytes input = {data, size};
     uint64_t hash = hash_of(input);
     second::Limits least = limits_for(hash);
-    arrowstream_limits limits = {least.metadata, least.body,  least.slots, least.fields,
-                                 least.depth,    least.text, least.pairs};
+    arrowstream_limits limits = {sizeof limits, least.metadata, least.body, least.slots,
+                                 least.fields,  least.depth,    least.text, least.pairs};
     second::Stream meant = second::read(input, least);
     Answer read = answer(input, limits, WHOLE);
     LAW((read.status == ARROWSTREAM_OK) == meant.is_accepted);

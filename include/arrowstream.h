@@ -23,8 +23,13 @@
  *   - malloc, realloc and free are one allocator, and malloc aligns as C demands.
  *
  * A call at NULL returns ARROWSTREAM_MISUSE if it returns a status, and else 0, and does nothing
- * else. A `wanted` is then 0, a progress is all zeros, and arrowstream_reader_take sets NULL. To
- * free NULL does nothing.
+ * else. A `wanted` is then 0, the members of a progress after its `size` are zeros, and
+ * arrowstream_reader_take and arrowstream_batch_clone set NULL. To free NULL does nothing.
+ *
+ * Structs that may grow in later versions begin with `size`: set it to sizeof the struct before
+ * the call. A library reads and writes no byte after the first `size` bytes. If `size` is less than
+ * in this version, the struct stays as it is, and the call returns ARROWSTREAM_MISUSE and does
+ * nothing else.
  *
  * Bytes are copied, never lent: no pointer into a reader, a batch or a writer leaves the
  * library. */
@@ -64,6 +69,7 @@ uint32_t arrowstream_version(void);
 /* The most that a reader accepts and a writer makes. A value above its maximum counts as the
  * maximum. */
 typedef struct {
+    size_t size;       /* sizeof(arrowstream_limits) */
     uint64_t metadata; /* bytes of a message's metadata: at most 2^28 */
     uint64_t body;     /* bytes of a message's body: at most 2^42 */
     uint64_t slots;    /* rows of a batch, and slots of a column: at most 2^31 - 1 */
@@ -74,8 +80,9 @@ typedef struct {
 } arrowstream_limits;
 
 /* Sets limits that fit what is written in practice: 2^24 bytes of metadata, 2^40 of a body,
- * 2^31 - 1 slots, 65,536 fields, a depth of 64, 2^26 bytes of text and 2^20 pairs. */
-void arrowstream_limits_standard(arrowstream_limits *out);
+ * 2^31 - 1 slots, 65,536 fields, a depth of 64, 2^26 bytes of text and 2^20 pairs. Returns
+ * ARROWSTREAM_OK. */
+uint32_t arrowstream_limits_standard(arrowstream_limits *out);
 
 /* ---- reader ---------------------------------------------------------------------------------- */
 
@@ -92,14 +99,15 @@ enum {
 };
 
 typedef struct {
+    size_t size;       /* sizeof(arrowstream_progress) */
     size_t taken;      /* bytes that the call took: pass the others to the next call */
     size_t wanted;     /* bytes before the next decision; 0 after the end and after a refusal */
     uint64_t messages; /* messages that came, with those of the schema and of dictionaries */
     uint64_t event;    /* what came, one of the constants above */
 } arrowstream_progress;
 
-/* Sets `out` to a new reader at the beginning of a stream, or to NULL if memory ran out. Free it by
- * arrowstream_reader_free. */
+/* Sets `out` to a new reader at the beginning of a stream, or to NULL if memory ran out or the
+ * `size` of the limits is too small. Free it by arrowstream_reader_free. */
 void arrowstream_reader_open(const arrowstream_limits *limits, arrowstream_reader **out);
 
 /* Takes a beginning of the `length` bytes, up to the first event. After ARROWSTREAM_BATCH call
@@ -130,6 +138,7 @@ uint32_t arrowstream_reader_schema(const arrowstream_reader *reader, uint8_t *te
                                    size_t *wanted);
 
 typedef struct {
+    size_t size;          /* sizeof(arrowstream_field) */
     uint32_t is_nullable; /* 1 if values may be null, else 0 */
     uint32_t index_bits;  /* 8, 16, 32 or 64 for the indices of a dictionary, else 0 */
     uint32_t is_signed;   /* 1 for indices in two's complement, else 0 */
@@ -226,6 +235,7 @@ typedef struct {
 } arrowstream_layout;
 
 typedef struct {
+    size_t size; /* sizeof(arrowstream_column) */
     arrowstream_layout layout;
     size_t slots;    /* a column of a batch has a slot for each row */
     uint64_t nulls;  /* slots that the validity bitmap marks as null, or 0 without a bitmap */
@@ -263,6 +273,12 @@ uint32_t arrowstream_batch_buffer(const arrowstream_batch *batch, const uint64_t
                                   size_t steps, uint32_t buffer, uint8_t *bytes, size_t length,
                                   size_t *wanted);
 
+/* Sets `out` to another handle of the same batch. The two share the memory of the body, and two
+ * threads may use them at the same time. Free each of them.
+ *
+ * Returns ARROWSTREAM_OK, or ARROWSTREAM_OUT_OF_MEMORY; then `out` is NULL. */
+uint32_t arrowstream_batch_clone(const arrowstream_batch *batch, arrowstream_batch **out);
+
 /* Frees a batch. */
 void arrowstream_batch_free(arrowstream_batch *batch);
 
@@ -285,8 +301,8 @@ typedef struct arrowstream_writer arrowstream_writer;
  * If a call returns another status than ARROWSTREAM_OK, the writer is as it was, unless the call
  * states otherwise. */
 
-/* Sets `out` to a new writer, or to NULL if memory ran out. All that it makes is within the limits.
- * Free it by arrowstream_writer_free. */
+/* Sets `out` to a new writer, or to NULL if memory ran out or the `size` of the limits is too
+ * small. All that it makes is within the limits. Free it by arrowstream_writer_free. */
 void arrowstream_writer_open(const arrowstream_limits *limits, arrowstream_writer **out);
 
 /* Begins the stream of the schema that the JSON text of `length` bytes states (docs/SCHEMA.md). The

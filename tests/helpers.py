@@ -101,6 +101,15 @@ def is_answered(want, line):
     return line in [f"refused {cause}{message}{number}" for cause in causes]
 
 
+def raised(call):
+    """The name and the line of the exception that a call raises."""
+    try:
+        call()
+    except Exception as error:  # pylint: disable=broad-except
+        return type(error).__name__, str(error)
+    return "none", ""
+
+
 def tries():
     """The name of each section of the cases, with each stream that it speaks of, its limits and the
     wanted lines."""

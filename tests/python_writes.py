@@ -4,7 +4,7 @@ import datetime
 import io
 import subprocess
 
-from helpers import tries
+from helpers import raised, tries
 
 UTC = datetime.timezone.utc
 DAY, TIME = datetime.date(2024, 2, 29), datetime.time(23, 59, 59, 125000)
@@ -216,15 +216,6 @@ def failed_refusals(arrowstream, answer):
     return seen, failed
 
 
-def raised(call):
-    """The name of the exception that a call raises."""
-    try:
-        call()
-    except Exception as fault:  # pylint: disable=broad-except
-        return type(fault).__name__
-    return "none"
-
-
 def misuses(arrowstream):
     """Calls that raise other exceptions, with their names."""
     field = arrowstream.Field
@@ -267,7 +258,7 @@ def failed_states(arrowstream):
     """How many calls in a state that does not allow them were tried, and how many raise otherwise
     than they should."""
     schema = schema_of(arrowstream, arrowstream.Field("a", ("int", 64)))
-    found = [(raised(call), wanted) for call, wanted in misuses(arrowstream)]
+    found = [(raised(call)[0], wanted) for call, wanted in misuses(arrowstream)]
     file = io.BytesIO()
     writer = arrowstream.Writer(file, schema)
     sizes = [len(file.getvalue())]
@@ -278,14 +269,14 @@ def failed_states(arrowstream):
     found.append((str(sorted(set(sizes)) == sizes and sizes[0] > 0), "True"))
     writer.close()
     writer.close()
-    found.append((raised(lambda: writer.write_row((3,))), "ValueError"))
-    found.append((raised(writer.send), "ValueError"))
+    found.append((raised(lambda: writer.write_row((3,)))[0], "ValueError"))
+    found.append((raised(writer.send)[0], "ValueError"))
     try:
         with arrowstream.Writer(io.BytesIO(), schema) as aborted:
             aborted.write_row((1,))
             raise KeyError
     except KeyError:
-        found.append((raised(aborted.send), "ValueError"))
+        found.append((raised(aborted.send)[0], "ValueError"))
     wrong = [pair for pair in found if pair[0] != pair[1]]
     for name, wanted in wrong:
         print(f"python: {name} was raised, wanted {wanted}")
@@ -300,7 +291,7 @@ def failed_files(arrowstream):
     stream, failed = written(arrowstream, schema, batches), 0
     for room in range(0, len(stream), 5):
         file = Failing(room)
-        error = raised(lambda file=file: arrowstream.write(file, schema, batches))
+        error, _ = raised(lambda file=file: arrowstream.write(file, schema, batches))
         if error != "OSError" or file.taken != stream[:room]:
             failed += 1
             print(f"python: {error} after {len(file.taken)} of {room} bytes")
@@ -309,7 +300,7 @@ def failed_files(arrowstream):
     failed += whole.taken != stream
     writer = arrowstream.Writer(broken := Failing(len(stream)), schema)
     broken.room = 0
-    found = [raised(writer.send), raised(writer.send)]
+    found = [raised(writer.send)[0], raised(writer.send)[0]]
     if found != ["OSError", "ValueError"]:
         failed += 1
         print(f"python: {found} of a file that fails")

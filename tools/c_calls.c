@@ -111,8 +111,7 @@ static void read_field_text(arrowstream_reader *reader, const uint64_t *path, si
 
 /* Reads the field at a path and all below it. */
 static void read_field(arrowstream_reader *reader, uint64_t *path, size_t steps, answer *all) {
-    arrowstream_field field, none;
-    memset(&field, 0, sizeof field);
+    arrowstream_field field = {.size = sizeof field}, none = {.size = sizeof none};
     is_done(arrowstream_reader_field(reader, path, steps, &field), ARROWSTREAM_OK);
     mix(all, &field, sizeof field);
     uint32_t values = field.index_bits ? ARROWSTREAM_OK : ARROWSTREAM_ABSENT;
@@ -153,10 +152,9 @@ static void read_buffer(arrowstream_batch *batch, const uint64_t *path, size_t s
 }
 
 static void read_column(arrowstream_batch *batch, uint64_t *path, size_t steps, answer *all) {
-    arrowstream_column column, none;
+    arrowstream_column column = {.size = sizeof column}, none = {.size = sizeof none};
     uint8_t byte = 0;
     size_t wanted = 1;
-    memset(&column, 0, sizeof column);
     is_done(arrowstream_batch_column(batch, path, steps, &column), ARROWSTREAM_OK);
     mix(all, &column, sizeof column);
     read_buffer(batch, path, steps, ARROWSTREAM_BUFFER_VALIDITY, column.validity, all);
@@ -179,7 +177,7 @@ static void read_column(arrowstream_batch *batch, uint64_t *path, size_t steps, 
 
 static void read_batch(arrowstream_batch *batch, answer *all) {
     uint64_t path[MOST_STEPS];
-    arrowstream_column column;
+    arrowstream_column column = {.size = sizeof column};
     copied pairs = text_of(NULL, NULL, batch, arrowstream_batch_pairs, ARROWSTREAM_OK);
     mix(all, pairs.bytes, pairs.count);
     free(pairs.bytes);
@@ -187,7 +185,18 @@ static void read_batch(arrowstream_batch *batch, answer *all) {
         read_column(batch, path, 1, all);
     is_done(arrowstream_batch_column(batch, path, 1, &column), ARROWSTREAM_ABSENT);
     is_done(arrowstream_batch_column(batch, NULL, 0, &column), ARROWSTREAM_ABSENT);
+    column.size--;
+    is_done(arrowstream_batch_column(batch, NULL, 0, &column), ARROWSTREAM_MISUSE);
     all->rows += arrowstream_batch_rows(batch);
+}
+
+/* Reads a batch by a clone, or without memory for one by itself. */
+static void read_clone(arrowstream_batch *batch, answer *all) {
+    arrowstream_batch *copy = NULL;
+    int is_made = is_done(arrowstream_batch_clone(batch, &copy), ARROWSTREAM_OK);
+    if (is_made != (copy != NULL)) stop("a clone and another status");
+    read_batch(copy ? copy : batch, all);
+    arrowstream_batch_free(copy);
 }
 
 /* Takes the batch that came. Each batch is read when the next one has come, and given back. */
@@ -197,7 +206,7 @@ static arrowstream_batch *take(arrowstream_reader *reader, arrowstream_batch *la
     if (is_taken != (batch != NULL)) stop("a batch and another status");
     if (arrowstream_reader_take(reader, &none) != ARROWSTREAM_ABSENT || none) stop("a batch twice");
     if (last) {
-        read_batch(last, all);
+        read_clone(last, all);
         arrowstream_reader_reuse(reader, last);
     }
     arrowstream_reader_reuse(reader, NULL);
@@ -207,7 +216,7 @@ static arrowstream_batch *take(arrowstream_reader *reader, arrowstream_batch *la
 
 static uint32_t feed(arrowstream_reader *reader, const uint8_t *bytes, size_t count, size_t piece,
                      answer *all, arrowstream_batch **last) {
-    arrowstream_progress now = {0, 0, 0, ARROWSTREAM_NOTHING};
+    arrowstream_progress now = {.size = sizeof now};
     is_done(arrowstream_reader_feed(reader, NULL, 0, &now), ARROWSTREAM_OK);
     if (now.taken != 0 || now.wanted == 0) stop("no bytes are wanted");
     while (count > 0 && now.event != ARROWSTREAM_END) {
@@ -243,7 +252,7 @@ static void print(const answer *all, uint32_t status, const copied *text) {
 /* Reads a stream once. Returns the status of its end or of its refusal. */
 static uint32_t read_stream(const uint8_t *bytes, size_t count, size_t piece, int prints) {
     answer all = {0, UINT64_C(0xcbf29ce484222325), 0, 0, 0};
-    arrowstream_limits limits;
+    arrowstream_limits limits = {.size = sizeof limits};
     arrowstream_reader *reader = NULL;
     arrowstream_batch *last = NULL;
     arrowstream_limits_standard(&limits);
@@ -252,7 +261,7 @@ static uint32_t read_stream(const uint8_t *bytes, size_t count, size_t piece, in
         told++;
         return ARROWSTREAM_OUT_OF_MEMORY;
     }
-    arrowstream_field none;
+    arrowstream_field none = {.size = sizeof none};
     is_done(arrowstream_reader_field(reader, NULL, 0, &none), ARROWSTREAM_ABSENT);
     uint32_t status = feed(reader, bytes, count, piece, &all, &last);
     told += status == ARROWSTREAM_OUT_OF_MEMORY;
@@ -308,8 +317,8 @@ static int is_nowhere(const arrowstream_progress *now) {
 /* Makes each call at NULL. */
 static void call_at_null(void) {
     const uint64_t path[] = {0};
-    arrowstream_progress fed = {1, 1, 1, 1}, closed = {1, 1, 1, 1};
-    arrowstream_batch *batch = (arrowstream_batch *)&fed;
+    arrowstream_progress fed = {sizeof fed, 1, 1, 1, 1}, closed = fed;
+    arrowstream_batch *batch = (arrowstream_batch *)&fed, *copy = batch;
     arrowstream_column column;
     uint8_t byte = FILL, as_it_was[sizeof column];
     size_t wanted[4] = {1, 1, 1, 1};
@@ -320,6 +329,8 @@ static void call_at_null(void) {
         stop("a reader at NULL");
     if (arrowstream_reader_take(NULL, &batch) != ARROWSTREAM_MISUSE || batch)
         stop("a batch of NULL");
+    if (arrowstream_batch_clone(NULL, &copy) != ARROWSTREAM_MISUSE || copy)
+        stop("a clone of NULL");
     arrowstream_reader_reuse(NULL, NULL);
     if (arrowstream_reader_schema(NULL, &byte, 1, &wanted[0]) != ARROWSTREAM_MISUSE
         || arrowstream_reader_line(NULL, &byte, 1, &wanted[1]) != ARROWSTREAM_MISUSE
@@ -332,7 +343,7 @@ static void call_at_null(void) {
     if (arrowstream_batch_column(NULL, path, 1, &column) != ARROWSTREAM_MISUSE
         || memcmp(as_it_was, &column, sizeof column) != 0)
         stop("a column of NULL");
-    arrowstream_field field = {7, 7, 7, 7, 7, 7, 7};
+    arrowstream_field field = {sizeof field, 7, 7, 7, 7, 7, 7, 7};
     if (arrowstream_reader_field(NULL, path, 1, &field) != ARROWSTREAM_MISUSE || field.pairs != 7
         || arrowstream_reader_field_text(NULL, path, 1, 0, 0, &byte, 1, &wanted[0])
                != ARROWSTREAM_MISUSE
@@ -342,11 +353,42 @@ static void call_at_null(void) {
     arrowstream_batch_free(NULL);
 }
 
+/* Makes each call that has a struct with `size` one byte too small: nothing else is looked at. */
+static void call_with_small_structs(void) {
+    arrowstream_limits limits = {.size = sizeof limits};
+    arrowstream_progress now = {.size = sizeof now - 1}, was = now;
+    arrowstream_field field = {.size = sizeof field - 1};
+    arrowstream_reader *reader = NULL, *none = (arrowstream_reader *)&now;
+    arrowstream_writer *writer = (arrowstream_writer *)&now;
+    if (arrowstream_limits_standard(&limits) != ARROWSTREAM_OK || limits.depth != 64)
+        stop("the standard limits");
+    arrowstream_reader_open(&limits, &reader);
+    limits.size--;
+    limits.depth = 1;
+    if (arrowstream_limits_standard(&limits) != ARROWSTREAM_MISUSE || limits.depth != 1)
+        stop("small limits");
+    arrowstream_reader_open(&limits, &none);
+    arrowstream_writer_open(&limits, &writer);
+    if (!reader || none || writer) stop("a reader or writer of small limits");
+    if (arrowstream_reader_feed(reader, (const uint8_t *)"none", 4, &now) != ARROWSTREAM_MISUSE
+        || arrowstream_reader_close(reader, &now) != ARROWSTREAM_MISUSE
+        || arrowstream_reader_close(NULL, &now) != ARROWSTREAM_MISUSE
+        || memcmp(&now, &was, sizeof now) != 0)
+        stop("a small progress");
+    if (arrowstream_reader_field(reader, NULL, 0, &field) != ARROWSTREAM_MISUSE)
+        stop("a small field");
+    now.size++;
+    if (arrowstream_reader_feed(reader, NULL, 0, &now) != ARROWSTREAM_OK || now.wanted != 4)
+        stop("a reader after a small progress");
+    arrowstream_reader_free(reader);
+}
+
 int main(int count, char **words) {
     static char line[2 * MOST + 2];
     if (count != 3) return 2;
     size_t piece = strtoull(words[2], NULL, 10);
     call_at_null();
+    call_with_small_structs();
     while (fgets(line, sizeof line, stdin)) {
         size_t bytes = decode(line);
         uint8_t *stream = __real_malloc(bytes + 1);

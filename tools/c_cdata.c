@@ -257,7 +257,7 @@ static void print_ready(arrowstream_writer *writer) {
 
 /* Copies a stream. Prints the copy or the error, if it is to be printed. */
 static int answer(const uint8_t *bytes, size_t length, int is_printed) {
-    arrowstream_limits limits;
+    arrowstream_limits limits = {.size = sizeof limits};
     arrowstream_writer *writer = NULL;
     arrowstream_message message = {""};
     memory_source source = {bytes, length, 0};

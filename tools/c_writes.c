@@ -210,7 +210,7 @@ static int run(arrowstream_writer *writer, int writes) {
 
 /* Runs the script. Returns whether memory ran out. */
 static int write_stream(int writes) {
-    arrowstream_limits limits;
+    arrowstream_limits limits = {.size = sizeof limits};
     arrowstream_writer *writer = NULL;
     arrowstream_limits_standard(&limits);
     arrowstream_writer_open(&limits, &writer);
@@ -265,10 +265,10 @@ static void copy_batch(arrowstream_reader *reader, arrowstream_writer *writer) {
 static void copy_stream(void) {
     static uint8_t bytes[MOST];
     size_t length = fread(bytes, 1, sizeof bytes, stdin), from = 0;
-    arrowstream_limits limits;
+    arrowstream_limits limits = {.size = sizeof limits};
     arrowstream_reader *reader = NULL;
     arrowstream_writer *writer = NULL;
-    arrowstream_progress now = {0, 0, 0, ARROWSTREAM_NOTHING};
+    arrowstream_progress now = {.size = sizeof now};
     arrowstream_limits_standard(&limits);
     arrowstream_reader_open(&limits, &reader);
     arrowstream_writer_open(&limits, &writer);

@@ -150,7 +150,7 @@ static int export_below(schema_source *from, size_t steps, const arrowstream_fie
 /* Exports the field at a path to zeroed memory. What was exported is released by the caller, also
  * after an error. */
 static int export_field(schema_source *from, size_t steps, struct ArrowSchema *out) {
-    arrowstream_field facts;
+    arrowstream_field facts = {.size = sizeof facts};
     out->release = release_schema;
     if (arrowstream_reader_field(from->reader, from->path, steps, &facts) != ARROWSTREAM_OK)
         return fail(from->message, EINVAL, "the reader has no schema");
@@ -285,8 +285,7 @@ static void begin_array(array_source *from, size_t length, size_t nulls, struct 
 /* Exports the column at a path, or only counts it. A dictionary without values has no column. */
 static void export_column(array_source *from, size_t steps, const struct ArrowSchema *schema,
                           struct ArrowArray *out) {
-    arrowstream_column facts;
-    memset(&facts, 0, sizeof facts);
+    arrowstream_column facts = {.size = sizeof facts};
     arrowstream_batch_column(from->batch, from->path, steps, &facts);
     int64_t count = buffers_of(schema->format);
     begin_array(from, facts.slots, count == 0 ? facts.slots : facts.nulls, out);
@@ -335,7 +334,7 @@ struct arrowstream_exporter {
 
 /* Has the reader take the bytes that the writer made. They end with an event of the reader. */
 static int read_back(arrowstream_exporter *exporter, uint64_t event, arrowstream_message *message) {
-    arrowstream_progress progress = {.event = ARROWSTREAM_NOTHING};
+    arrowstream_progress progress = {.size = sizeof progress};
     while (arrowstream_writer_ready(exporter->writer) > 0) {
         size_t count = arrowstream_writer_take(exporter->writer, exporter->piece, PIECE);
         for (size_t done = 0; done < count; done += progress.taken) {
@@ -352,6 +351,7 @@ static int begin_exporter(arrowstream_exporter *exporter, const uint8_t *schema,
                           arrowstream_message *message) {
     arrowstream_limits most;
     memset(&most, 0xff, sizeof most);
+    most.size = sizeof most;
     exporter->piece = malloc(PIECE);
     arrowstream_writer_open(&most, &exporter->writer);
     arrowstream_reader_open(&most, &exporter->reader);
@@ -509,6 +509,7 @@ int arrowstream_export_stream(const arrowstream_limits *limits, arrowstream_read
     out->release = NULL;
     if (!state) return no_memory(message);
     state->piece = malloc(PIECE);
+    state->progress.size = sizeof state->progress;
     arrowstream_reader_open(limits, &state->reader);
     if (!state->piece || !state->reader) {
         free_state(state);

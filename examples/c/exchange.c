@@ -57,7 +57,7 @@ static int copy_stream(struct ArrowArrayStream *stream, arrowstream_writer *writ
 }
 
 int main(void) {
-    arrowstream_limits limits;
+    arrowstream_limits limits = {.size = sizeof limits};
     arrowstream_writer *writer = NULL;
     arrowstream_message message = {"out of memory"};
     struct ArrowArrayStream stream;

@@ -39,6 +39,7 @@ static void free_copy(column_copy *column) {
 
 static int copy_column(arrowstream_batch *batch, const uint64_t *path, size_t steps,
                        column_copy *out) {
+    out->facts.size = sizeof out->facts;
     if (arrowstream_batch_column(batch, path, steps, &out->facts) != ARROWSTREAM_OK) abort();
     out->validity =
         copy_buffer(batch, path, steps, ARROWSTREAM_BUFFER_VALIDITY, out->facts.validity);
@@ -131,7 +132,7 @@ static int print_column(arrowstream_batch *batch, uint64_t *path, size_t steps) 
         status = print_column(batch, path, steps + 1);
     }
     path[steps] = ARROWSTREAM_DICTIONARY;
-    arrowstream_column values;
+    arrowstream_column values = {.size = sizeof values};
     if (status == DONE && facts->layout.kind == ARROWSTREAM_LAYOUT_INDICES
         && arrowstream_batch_column(batch, path, steps + 1, &values) == ARROWSTREAM_OK)
         status = print_column(batch, path, steps + 1);
@@ -181,7 +182,7 @@ typedef struct {
 /* Feeds all bytes of a piece, and prints what they complete. */
 static int feed_piece(arrowstream_reader *reader, const uint8_t *bytes, size_t count, counts *all) {
     while (count > 0 && !all->is_over) {
-        arrowstream_progress now;
+        arrowstream_progress now = {.size = sizeof now};
         int status = DONE;
         uint32_t number = arrowstream_reader_feed(reader, bytes, count, &now);
         if (number != ARROWSTREAM_OK) return refuse(reader, number);
@@ -199,7 +200,7 @@ static int feed_piece(arrowstream_reader *reader, const uint8_t *bytes, size_t c
 
 static int read_stream(arrowstream_reader *reader, uint8_t *bytes, size_t piece) {
     counts all = {0, 0, 0, 0};
-    arrowstream_progress now;
+    arrowstream_progress now = {.size = sizeof now};
     size_t count;
     while (!all.is_over && (count = fread(bytes, 1, piece, stdin)) > 0) {
         int status = feed_piece(reader, bytes, count, &all);
@@ -216,7 +217,7 @@ static int read_stream(arrowstream_reader *reader, uint8_t *bytes, size_t piece)
 int main(int count, char **words) {
     size_t piece = count > 1 ? strtoull(words[1], NULL, 10) : 65536;
     if (piece == 0 || arrowstream_version() != ARROWSTREAM_VERSION) return USAGE;
-    arrowstream_limits limits;
+    arrowstream_limits limits = {.size = sizeof limits};
     arrowstream_reader *reader = NULL;
     arrowstream_limits_standard(&limits);
     arrowstream_reader_open(&limits, &reader);

@@ -113,7 +113,7 @@ static int write_table(arrowstream_writer *writer, int64_t batches) {
 int main(int count, char **words) {
     int64_t batches = count > 1 ? strtoll(words[1], NULL, 10) : 2;
     if (batches < 0 || arrowstream_version() != ARROWSTREAM_VERSION) return USAGE;
-    arrowstream_limits limits;
+    arrowstream_limits limits = {.size = sizeof limits};
     arrowstream_writer *writer = NULL;
     arrowstream_limits_standard(&limits);
     arrowstream_writer_open(&limits, &writer);

@@ -25,7 +25,16 @@ DICTIONARY = 2**64 - 1
 _ROOM = 1 << 12
 
 
-class Limits(ctypes.Structure):
+class _Sized(ctypes.Structure):
+    """A struct that begins with its size."""
+
+    _fields_ = [("size", ctypes.c_size_t)]
+
+    def __init__(self) -> None:
+        super().__init__(ctypes.sizeof(self))
+
+
+class Limits(_Sized):
     """`arrowstream_limits`."""
 
     _fields_ = [
@@ -34,7 +43,7 @@ class Limits(ctypes.Structure):
     ]
 
 
-class Progress(ctypes.Structure):
+class Progress(_Sized):
     """`arrowstream_progress`."""
 
     taken: int
@@ -60,7 +69,7 @@ class Layout(ctypes.Structure):
     ]
 
 
-class ColumnFacts(ctypes.Structure):
+class ColumnFacts(_Sized):
     """`arrowstream_column`."""
 
     slots: int
@@ -96,7 +105,7 @@ _BYTES = [_HANDLE, ctypes.c_char_p, _SIZE]
 _MESSAGE = ctypes.POINTER(Message)
 _CALLS: dict[str, tuple[Any, list[Any]]] = {
     "arrowstream_version": (_STATUS, []),
-    "arrowstream_limits_standard": (None, [ctypes.POINTER(Limits)]),
+    "arrowstream_limits_standard": (_STATUS, [ctypes.POINTER(Limits)]),
     "arrowstream_reader_open": (None, [ctypes.POINTER(Limits), ctypes.POINTER(_HANDLE)]),
     "arrowstream_reader_feed": (_STATUS, [_HANDLE, _HANDLE, _SIZE, ctypes.POINTER(Progress)]),
     "arrowstream_reader_close": (_STATUS, [_HANDLE, ctypes.POINTER(Progress)]),

@@ -3,7 +3,9 @@ Layout")."""
 
 from __future__ import annotations
 
+import contextlib
 import datetime
+import gc
 import operator
 import re
 import zoneinfo
@@ -102,9 +104,23 @@ def _fixed_binaries(column: Column) -> list[bytes | None]:
     return _filled(column, _slices(column.values.tobytes(), bounds))
 
 
+@contextlib.contextmanager
+def _without_collections() -> Iterator[None]:
+    """Pauses the collector of garbage, which would look at each list and dict of a column again and
+    again while more of them are made."""
+    was_enabled = gc.isenabled()
+    gc.disable()
+    try:
+        yield
+    finally:
+        if was_enabled:
+            gc.enable()
+
+
 def _lists(column: Column, as_stored: bool) -> list[list[Any] | None]:
     items = column.child(0).to_list(as_stored=as_stored)
-    return _filled(column, _slices(items, _bounds(column)))
+    with _without_collections():
+        return _filled(column, _slices(items, _bounds(column)))
 
 
 def _structs(column: Column, as_stored: bool) -> list[Any]:
@@ -114,7 +130,8 @@ def _structs(column: Column, as_stored: bool) -> list[Any]:
         pairs = (list(zip(names, row)) for row in zip(*members))
         return _filled(column, [pair for _, pair in zip(range(len(column)), pairs)])
     empty = dict.fromkeys(names)
-    rows = [empty.copy() for _ in range(len(column))]
+    with _without_collections():
+        rows = [empty.copy() for _ in range(len(column))]
     for name, member in zip(names, members):
         for row, value in zip(rows, member):
             row[name] = value

@@ -3,7 +3,9 @@
 use crate::ffi;
 use crate::reader::text_of;
 use crate::Error;
-use std::ptr::NonNull;
+use std::mem::{size_of, size_of_val};
+use std::ptr::{null_mut, NonNull};
+use std::slice;
 
 /// The step of a path from a column of indices to the values of its dictionary.
 pub const DICTIONARY: u64 = u64::MAX;
@@ -85,6 +87,31 @@ pub enum Buffer {
     Values = 2,
 }
 
+/// A type of numbers that a column stores: the signed and unsigned integers of 8 to 64 bits.
+pub trait Number: Copy + Default + private::Sealed {
+    /// The number of bits.
+    const BITS: u32;
+    /// Whether it is stored in two's complement.
+    const SIGNED: bool;
+}
+
+mod private {
+    pub trait Sealed {}
+}
+
+macro_rules! numbers {
+    ($($number:ty),*) => {$(
+        impl private::Sealed for $number {}
+
+        impl Number for $number {
+            const BITS: u32 = <$number>::BITS;
+            const SIGNED: bool = <$number>::MIN != 0;
+        }
+    )*};
+}
+
+numbers!(i8, i16, i32, i64, u8, u16, u32, u64);
+
 fn layout_of(layout: ffi::Layout) -> Layout {
     let (bits, signed) = (layout.bits, layout.is_signed == 1);
     match layout.kind {
@@ -111,6 +138,15 @@ impl Batch {
         self.batch.as_ptr()
     }
 
+    /// Returns another handle of the same batch, for use by another thread. The two share the memory
+    /// of the body.
+    pub fn try_clone(&self) -> Result<Batch, Error> {
+        let mut batch = null_mut();
+        // SAFETY: the batch was not freed, and `batch` may be written.
+        unsafe { ffi::arrowstream_batch_clone(self.batch.as_ptr(), &mut batch) };
+        NonNull::new(batch).map(Batch::new).ok_or(Error::OutOfMemory)
+    }
+
     /// Returns the number of rows.
     pub fn rows(&self) -> usize {
         // SAFETY: the batch was not freed.
@@ -135,7 +171,7 @@ impl Batch {
     /// Describes the column to which a path leads: the number of a column, and then the number of
     /// a child, or [`DICTIONARY`], for each step down. Returns `None` if there is no such column.
     pub fn column(&self, path: &[u64]) -> Option<Column> {
-        let mut column = ffi::Column::default();
+        let mut column = ffi::Column::new();
         // SAFETY: the batch was not freed; `path` has this length.
         let status = unsafe {
             ffi::arrowstream_batch_column(
@@ -174,6 +210,26 @@ impl Batch {
             )
         };
         (status == ffi::OK).then_some(wanted)
+    }
+
+    /// Returns the numbers or indices that the column to which a path leads stores, one for each
+    /// slot. Those of null slots have no meaning. Returns `None` if there is no such column, or if
+    /// it stores other values than numbers of this type.
+    pub fn numbers<T: Number>(&self, path: &[u64]) -> Option<Vec<T>> {
+        let column = self.column(path)?;
+        match column.layout {
+            Layout::Numbers { bits, signed } | Layout::Indices { bits, signed, .. }
+                if bits == T::BITS && signed == T::SIGNED => {}
+            _ => return None,
+        }
+        let mut numbers = vec![T::default(); column.values.div_ceil(size_of::<T>())];
+        // SAFETY: the numbers are these bytes, and any bytes are numbers.
+        let bytes = unsafe {
+            slice::from_raw_parts_mut(numbers.as_mut_ptr().cast::<u8>(), size_of_val(&numbers[..]))
+        };
+        self.copy_buffer(path, Buffer::Values, bytes)?;
+        numbers.truncate(column.slots);
+        Some(numbers)
     }
 
     /// Returns a buffer of the column to which a path leads, or `None` if there is no such column.

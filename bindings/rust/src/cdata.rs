@@ -63,12 +63,7 @@ impl ArrowSchema {
 
 impl ArrowArray {
     fn released() -> ArrowArray {
-        ArrowArray {
-            _counts: [0; 5],
-            _below: [null_mut(); 3],
-            release: None,
-            _private: null_mut(),
-        }
+        ArrowArray { _counts: [0; 5], _below: [null_mut(); 3], release: None, _private: null_mut() }
     }
 
     /// Moves an array out of memory of another library, which has a released one after.
@@ -177,9 +172,7 @@ impl<W: Write> Writer<W> {
     ) -> Result<(), Error> {
         self.send_by(|writer| {
             // SAFETY: the writer was not freed; the array is one of this schema.
-            call(|message| unsafe {
-                ffi::arrowstream_import_batch(writer, schema, array, message)
-            })
+            call(|message| unsafe { ffi::arrowstream_import_batch(writer, schema, array, message) })
         })
     }
 }

@@ -4,6 +4,7 @@
 
 use crate::cdata::{ArrowArray, ArrowSchema};
 use std::marker::{PhantomData, PhantomPinned};
+use std::mem::size_of;
 
 pub(crate) const OK: u32 = 0;
 pub(crate) const OUT_OF_MEMORY: u32 = 37;
@@ -47,12 +48,31 @@ pub(crate) struct Message {
 }
 
 #[repr(C)]
+pub(crate) struct Limits {
+    size: usize,
+    pub(crate) values: crate::Limits,
+}
+
+impl Limits {
+    pub(crate) fn new(values: crate::Limits) -> Limits {
+        Limits { size: size_of::<Limits>(), values }
+    }
+}
+
+#[repr(C)]
 #[derive(Default)]
 pub(crate) struct Progress {
+    size: usize,
     pub(crate) taken: usize,
     pub(crate) wanted: usize,
     pub(crate) messages: u64,
     pub(crate) event: u64,
+}
+
+impl Progress {
+    pub(crate) fn new() -> Progress {
+        Progress { size: size_of::<Progress>(), ..Progress::default() }
+    }
 }
 
 #[repr(C)]
@@ -68,6 +88,7 @@ pub(crate) struct Layout {
 #[repr(C)]
 #[derive(Default)]
 pub(crate) struct Column {
+    size: usize,
     pub(crate) layout: Layout,
     pub(crate) slots: usize,
     pub(crate) nulls: u64,
@@ -77,9 +98,15 @@ pub(crate) struct Column {
     pub(crate) values: usize,
 }
 
+impl Column {
+    pub(crate) fn new() -> Column {
+        Column { size: size_of::<Column>(), ..Column::default() }
+    }
+}
+
 extern "C" {
-    pub(crate) fn arrowstream_limits_standard(out: *mut crate::Limits);
-    pub(crate) fn arrowstream_reader_open(limits: *const crate::Limits, out: *mut *mut Reader);
+    pub(crate) fn arrowstream_limits_standard(out: *mut Limits) -> u32;
+    pub(crate) fn arrowstream_reader_open(limits: *const Limits, out: *mut *mut Reader);
     pub(crate) fn arrowstream_reader_feed(
         reader: *mut Reader,
         bytes: *const u8,
@@ -125,8 +152,9 @@ extern "C" {
         length: usize,
         wanted: *mut usize,
     ) -> u32;
+    pub(crate) fn arrowstream_batch_clone(batch: *const Batch, out: *mut *mut Batch) -> u32;
     pub(crate) fn arrowstream_batch_free(batch: *mut Batch);
-    pub(crate) fn arrowstream_writer_open(limits: *const crate::Limits, out: *mut *mut Writer);
+    pub(crate) fn arrowstream_writer_open(limits: *const Limits, out: *mut *mut Writer);
     pub(crate) fn arrowstream_writer_schema(
         writer: *mut Writer,
         text: *const u8,

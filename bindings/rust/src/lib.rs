@@ -10,6 +10,8 @@
 //!     let batch = batch?;
 //!     let column = batch.column(&[0]).ok_or("no columns")?;
 //!     assert_eq!((batch.rows(), column.nulls), (3, 1));
+//!     let numbers = batch.numbers::<i32>(&[0]).ok_or("no numbers")?;
+//!     assert_eq!((numbers[0], numbers.len()), (1, 3));
 //!     let values = batch.buffer(&[0], Buffer::Values).ok_or("no columns")?;
 //!     assert_eq!(&values[..4], &1i32.to_le_bytes());
 //! }
@@ -100,7 +102,7 @@ mod ffi;
 mod reader;
 mod writer;
 
-pub use batch::{Batch, Buffer, Column, Layout, DICTIONARY};
+pub use batch::{Batch, Buffer, Column, Layout, Number, DICTIONARY};
 pub use cdata::{ArrowArray, ArrowSchema, Exporter};
 pub use error::Error;
 pub use reader::{End, Limits, Reader};

@@ -33,11 +33,18 @@ pub struct Limits {
 impl Limits {
     /// Returns limits that fit what is written in practice.
     pub fn standard() -> Limits {
-        let mut limits =
-            Limits { metadata: 0, body: 0, slots: 0, fields: 0, depth: 0, text: 0, pairs: 0 };
+        let mut limits = ffi::Limits::new(Limits {
+            metadata: 0,
+            body: 0,
+            slots: 0,
+            fields: 0,
+            depth: 0,
+            text: 0,
+            pairs: 0,
+        });
         // SAFETY: `limits` may be written.
         unsafe { ffi::arrowstream_limits_standard(&mut limits) };
-        limits
+        limits.values
     }
 }
 
@@ -101,8 +108,8 @@ impl<R: Read> Reader<R> {
     /// by four calls of the source or more.
     pub fn open(source: R, limits: &Limits) -> Result<Reader<R>, Error> {
         let mut reader = null_mut();
-        // SAFETY: `limits` may be read, and `reader` be written.
-        unsafe { ffi::arrowstream_reader_open(limits, &mut reader) };
+        // SAFETY: `reader` may be written.
+        unsafe { ffi::arrowstream_reader_open(&ffi::Limits::new(*limits), &mut reader) };
         let reader = Handle(NonNull::new(reader).ok_or(Error::OutOfMemory)?);
         let room = vec![0; PIECE];
         let (schema, end) = (None, None);
@@ -150,7 +157,7 @@ impl<R: Read> Reader<R> {
     // Feeds the first bytes of the room, at most as many as are wanted. Returns the event.
     fn feed(&mut self, count: usize) -> Result<u64, Error> {
         let piece = &self.room[..count];
-        let mut progress = ffi::Progress::default();
+        let mut progress = ffi::Progress::new();
         // SAFETY: the reader was not freed; `piece` has this length.
         let status = unsafe {
             let reader = self.reader.0.as_ptr();
@@ -168,7 +175,7 @@ impl<R: Read> Reader<R> {
 
     // Ends the input.
     fn close(&mut self) -> Result<u64, Error> {
-        let mut progress = ffi::Progress::default();
+        let mut progress = ffi::Progress::new();
         // SAFETY: the reader was not freed.
         let status =
             unsafe { ffi::arrowstream_reader_close(self.reader.0.as_ptr(), &mut progress) };

@@ -79,8 +79,8 @@ impl<W: Write> Writer<W> {
     // A writer without a schema.
     fn new(sink: W, limits: &Limits) -> Result<Writer<W>, Error> {
         let mut writer = null_mut();
-        // SAFETY: `limits` may be read, and `writer` be written.
-        unsafe { ffi::arrowstream_writer_open(limits, &mut writer) };
+        // SAFETY: `writer` may be written.
+        unsafe { ffi::arrowstream_writer_open(&ffi::Limits::new(*limits), &mut writer) };
         let writer = Handle(NonNull::new(writer).ok_or(Error::OutOfMemory)?);
         Ok(Writer { sink, writer, room: vec![0; PIECE], waiting: false, failed: false })
     }

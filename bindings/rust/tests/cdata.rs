@@ -28,8 +28,7 @@ fn moved_arrays_outlive_what_made_them() {
             (ArrowArray::from_raw(array.as_mut_ptr()), ArrowSchema::from_raw(schema.as_mut_ptr()))
         }
     };
-    let mut writer =
-        Writer::open_for(Vec::new(), &schema, &Limits::standard()).expect("a schema");
+    let mut writer = Writer::open_for(Vec::new(), &schema, &Limits::standard()).expect("a schema");
     writer.row(&[Cell::Text("first")]).expect("a row");
     // SAFETY: the array is of this schema.
     unsafe { writer.write_array(&schema, &moved) }.expect("a batch");

@@ -86,3 +86,19 @@ fn a_body_is_read_into_the_memory_of_a_batch() {
     assert_eq!(kept.buffer(&[0], Buffer::Values), values);
     reader.reuse(kept);
 }
+
+#[test]
+fn numbers_have_the_type_of_their_column() {
+    let bytes = stream(&[1000]);
+    let mut reader = Reader::open(&bytes[..], &Limits::standard()).expect("a reader");
+    let batch = reader.next().expect("a batch").expect("no refusal");
+    let values = batch.buffer(&[0], Buffer::Values).expect("values");
+    let numbers = batch.numbers::<i64>(&[0]).expect("numbers");
+    assert_eq!(numbers.len(), 1000);
+    for (number, stored) in numbers.iter().zip(values.chunks_exact(8)) {
+        assert_eq!(number.to_le_bytes(), stored);
+    }
+    assert_eq!(batch.numbers::<u64>(&[0]), None);
+    assert_eq!(batch.numbers::<i32>(&[0]), None);
+    assert_eq!(batch.numbers::<i64>(&[1]), None);
+}

@@ -1,6 +1,6 @@
 //! Batches that change their thread.
 
-use arrowstream::{Buffer, Cell, Limits, Reader, Writer, DICTIONARY};
+use arrowstream::{Batch, Buffer, Cell, Limits, Reader, Writer, DICTIONARY};
 use std::thread;
 
 // One column of texts with a dictionary.
@@ -37,4 +37,21 @@ fn batches_are_read_while_the_reader_goes_on() {
     for (text, wanted) in texts.expect("values").iter().zip(wanted) {
         assert!(text.starts_with(&wanted));
     }
+}
+
+#[test]
+fn clones_of_a_batch_are_read_at_the_same_time() {
+    let stream = stream(1);
+    let mut reader = Reader::open(&stream[..], &Limits::standard()).expect("a reader");
+    let batch = reader.next().expect("a batch").expect("a batch");
+    let copy = batch.try_clone().expect("a clone");
+    let read = |batch: Batch| {
+        (0..1000).map(|_| batch.buffer(&[0, DICTIONARY], Buffer::Values)).collect::<Vec<_>>()
+    };
+    let (first, second) = thread::scope(|scope| {
+        let first = scope.spawn(move || read(batch));
+        let second = scope.spawn(move || read(copy));
+        (first.join().expect("a thread"), second.join().expect("a thread"))
+    });
+    assert!(first.iter().chain(&second).all(|values| *values == first[0] && values.is_some()));
 }

@@ -1,5 +1,5 @@
 -- A handle that C gives: null, or a value in a block of its own.
-use Rattle.std.proofs.Common.{◌≡◌, refl, ℕ, List, ◌∷◌}
+use Rattle.std.proofs.Common.{refl, ℕ, List, ◌∷◌}
 use Rattle.std.specs.Prelude.{Option, Some, None}
 use Rattle.std.specs.Box.Ownership.{box_owns}
 use Rattle.std.specs.declared.alloc.Global.{Global}
@@ -10,7 +10,7 @@ use mir.Raw.{raw as bare}
 use base.Fraction.{full_share}
 use base.Fml.{Fml}
 use base.Logic.{ent, via, fst∗, snd∗, never, guard, guard_i}
-use contract.Monad.{fact, fact_use}
+use contract.Monad.{fact_use}
 use types.Kit.{‵, Item, Goal, Seq, given, ◌$◌, use1, learn, fpick, feq_l, regoal}
 use types.Logic.{Logic, sem}
 use denote.Memory.{lone}

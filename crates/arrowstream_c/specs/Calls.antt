@@ -1,5 +1,5 @@
 -- What each export answers, and which state it leaves.
-use Rattle.std.specs.Prelude.{◌≡◌, ⊤, ℕ, List, length, Option, Some, None, Result, Ok, Err}
+use Rattle.std.specs.Prelude.{◌≡◌, ◌≤◌, ⊤, ℕ, List, length, Option, Some, None, Result, Ok, Err}
 use Rattle.std.specs.Prelude.{string_bytes}
 use Rattle.std.specs.declared.alloc.Global.{Global}
 use Rattle.std.specs.declared.string.String.{String}
@@ -20,46 +20,61 @@ use Rattle.ipc_stream_session.specs.Copies.{Copies}
 use Rattle.ipc_stream_session.specs.Fields.{FindsFieldIn, FindsTextIn}
 use Rattle.ipc_stream_session.specs.Paths.{FindsBuffer, FindsColumn}
 use Rattle.ipc_stream_session.specs.Sessions as s
+use Rattle.arrowstream_c.specs.Handles.{Refuses}
 use Rattle.arrowstream_c.specs.declared.answers.Column.{Column}
 use Rattle.arrowstream_c.specs.declared.answers.FieldNumbers.{FieldNumbers}
 use Rattle.arrowstream_c.specs.declared.answers.Progress.{Progress}
 use Rattle.arrowstream_c.specs.declared.answers.ReadLimits.{ReadLimits}
-use Rattle.arrowstream_c.specs.Numbers.{absent, AreCapped, Shows}
+use Rattle.arrowstream_c.specs.Numbers.{absent, AreCapped, BySize, Shows}
 use Rattle.arrowstream_c.specs.Numbers.{ShowsField, arrival_number, end_number, IsBuffer}
-use Rattle.arrowstream_c.specs.Numbers.{IsFieldText}
+use Rattle.arrowstream_c.specs.Numbers.{IsFieldText, limits_size, progress_size, column_size}
+use Rattle.arrowstream_c.specs.Numbers.{field_size}
 
--- a new reader within the limits that were asked for, or none because memory ran out
+-- a new reader within the limits that were asked for, or none: memory ran out, or the limits are in
+-- a struct that is too small
 abbrev pub OpensReader : ReadLimits → Option ReadSession → Type 0
 OpensReader asked None = ⊤
-OpensReader asked (Some made) =
-    AreCapped asked made.decoder.limits × s.IsNew made.decoder.limits made
+OpensReader asked (Some made) = (limits_size ≤ asked.size)
+    × AreCapped asked made.decoder.limits × s.IsNew made.decoder.limits made
 
--- what C is told of a reader, the bytes that it took and the number of what came
-pub record IsAt (reader : ReadSession) (taken event : ℕ) (out : Progress) : Type 0 where
+-- the progress of a reader that took this number of bytes, with the number of what came, in a
+-- struct of this size
+pub record IsAt (reader : ReadSession) (taken event size : ℕ) (out : Progress) : Type 0 where
+  pub size_is : out.size ≡ size
   pub taken_is : out.taken ≡ taken
   pub wanted : Wants reader.decoder.limits reader.decoder.stage out.wanted
   pub messages : out.messages ≡ reader.decoder.messages
   pub event_is : out.event ≡ event
 
 -- the status is 0 with what came, or the number of the refusal
-abbrev pub IsFed : Result (ℕ × Arrival) Fault → ReadSession → Progress → ℕ → Type 0
-IsFed (Ok r) is out status = (status ≡ 0) × IsAt is r.0 (arrival_number r.1) out
-IsFed (Err fault) is out status = (status ≡ fault_number fault) × IsAt is 0 0 out
+abbrev pub IsFed : Result (ℕ × Arrival) Fault → ReadSession → ℕ → Progress → ℕ → Type 0
+IsFed (Ok r) is size out status = (status ≡ 0) × IsAt is r.0 (arrival_number r.1) size out
+IsFed (Err fault) is size out status = (status ≡ fault_number fault) × IsAt is 0 0 size out
 
--- the session takes the piece, and C is told what it answers
-abbrev pub Feeds : ReadSession → List ℕ → ReadSession → Progress → ℕ → Type 0
-Feeds was piece is out status = (answer : Result (ℕ × Arrival) Fault)
-    × s.Feeds was piece is answer × IsFed answer is out status
+-- the session takes the piece, and status and progress are those of its answer
+abbrev pub TakesPiece : ReadSession → List ℕ → ReadSession → ℕ → Progress → ℕ → Type 0
+TakesPiece was piece is size out status = (answer : Result (ℕ × Arrival) Fault)
+    × s.Feeds was piece is answer × IsFed answer is size out status
+
+-- the session takes the piece if the struct has room for the progress
+abbrev pub Feeds : ReadSession → List ℕ → ReadSession → Progress → Progress → ℕ → Type 0
+Feeds was piece is old new status = BySize old.size progress_size
+    (TakesPiece was piece is old.size new status) ((is ≡ was) × Refuses old new status)
 
 -- the status is 0 with the end, or the number of the refusal
-abbrev pub IsClosed : Result End Fault → ReadSession → Progress → ℕ → Type 0
-IsClosed (Ok end) is out status = (status ≡ 0) × IsAt is 0 (end_number end) out
-IsClosed (Err fault) is out status = (status ≡ fault_number fault) × IsAt is 0 0 out
+abbrev pub IsClosed : Result End Fault → ReadSession → ℕ → Progress → ℕ → Type 0
+IsClosed (Ok end) is size out status = (status ≡ 0) × IsAt is 0 (end_number end) size out
+IsClosed (Err fault) is size out status = (status ≡ fault_number fault) × IsAt is 0 0 size out
 
--- the session ends the input, and C is told what it answers
-abbrev pub Closes : ReadSession → ReadSession → Progress → ℕ → Type 0
-Closes was is out status = (answer : Result End Fault)
-    × s.Closes was is answer × IsClosed answer is out status
+-- the session ends the input, and status and progress are those of its answer
+abbrev pub EndsInput : ReadSession → ReadSession → ℕ → Progress → ℕ → Type 0
+EndsInput was is size out status = (answer : Result End Fault)
+    × s.Closes was is answer × IsClosed answer is size out status
+
+-- the session ends the input if the struct has room for the progress
+abbrev pub Closes : ReadSession → ReadSession → Progress → Progress → ℕ → Type 0
+Closes was is old new status = BySize old.size progress_size
+    (EndsInput was is old.size new status) ((is ≡ was) × Refuses old new status)
 
 -- a text is copied; without a text nothing is copied
 abbrev pub GivesText : Result (Option (String Global)) Fault → List ℕ → List ℕ → ℕ → ℕ → Type 0
@@ -84,13 +99,18 @@ CopiesLine was is old new wanted status = (is ≡ was)
 -- the numbers of the field that was found, if there is one
 abbrev pub IsFieldAnswer : Option FieldFacts → FieldNumbers → FieldNumbers → ℕ → Type 0
 IsFieldAnswer None old new status = (status ≡ absent) × (new ≡ old)
-IsFieldAnswer (Some facts) old new status = (status ≡ 0) × ShowsField facts new
+IsFieldAnswer (Some facts) old new status = (status ≡ 0) × ShowsField facts old.size new
 
--- C is told of the field to which the path leads; the reader stays
+-- the field to which the path leads is described, if it leads to one
+abbrev pub FillsField : ReadSession → List ℕ → FieldNumbers → FieldNumbers → ℕ → Type 0
+FillsField s path old new status = (answer : Option FieldFacts)
+    × FindsFieldIn (schema_of s.decoder.state) path answer × IsFieldAnswer answer old new status
+
+-- a field is described if the struct has room for it; the reader stays
 abbrev pub DescribesField : ReadSession → List ℕ → ReadSession → FieldNumbers → FieldNumbers → ℕ
     → Type 0
-DescribesField was path is old new status = (is ≡ was) × ((answer : Option FieldFacts)
-    × FindsFieldIn (schema_of was.decoder.state) path answer × IsFieldAnswer answer old new status)
+DescribesField was path is old new status = (is ≡ was)
+    × BySize old.size field_size (FillsField was path old new status) (Refuses old new status)
 
 -- a text of the field to which the path leads is copied, if there is such a text
 abbrev pub GivesFieldText : ReadSession → List ℕ → Option FieldText → List ℕ → List ℕ → ℕ → ℕ
@@ -128,6 +148,10 @@ abbrev pub TakesBack : Option ReadBatch → ReadSession → ReadSession → Type
 TakesBack None was is = is ≡ was
 TakesBack (Some batch) was is = s.TakesBack was is
 
+-- another handle of the batch is made, unless memory ran out; the batch stays
+abbrev pub ClonesBatch : ReadBatch → ReadBatch → Option ReadBatch → ℕ → Type 0
+ClonesBatch was is made status = (is ≡ was) × MayHold was made status
+
 -- the number of rows; the batch stays
 abbrev pub AreRows : ReadBatch → ReadBatch → ℕ → Type 0
 AreRows was is rows = (is ≡ was) × (rows ≡ length was.batch.rows)
@@ -151,12 +175,17 @@ CopiesPairs was is old new wanted status = (is ≡ was)
 -- the numbers of the column that was found, if there is one
 abbrev pub IsColumnAnswer : Option ColumnFacts → Column → Column → ℕ → Type 0
 IsColumnAnswer None old new status = (status ≡ absent) × (new ≡ old)
-IsColumnAnswer (Some facts) old new status = (status ≡ 0) × Shows facts new
+IsColumnAnswer (Some facts) old new status = (status ≡ 0) × Shows facts old.size new
 
--- C is told of the column to which the path leads; the batch stays
+-- the column to which the path leads is described, if it leads to one
+abbrev pub FillsColumn : ReadBatch → List ℕ → Column → Column → ℕ → Type 0
+FillsColumn b path old new status = (answer : Option ColumnFacts)
+    × FindsColumn b.batch path answer × IsColumnAnswer answer old new status
+
+-- a column is described if the struct has room for it; the batch stays
 abbrev pub DescribesColumn : ReadBatch → List ℕ → ReadBatch → Column → Column → ℕ → Type 0
-DescribesColumn was path is old new status = (is ≡ was) × ((answer : Option ColumnFacts)
-    × FindsColumn was.batch path answer × IsColumnAnswer answer old new status)
+DescribesColumn was path is old new status = (is ≡ was)
+    × BySize old.size column_size (FillsColumn was path old new status) (Refuses old new status)
 
 -- the number of bytes of the buffer that was found, if there is one
 abbrev pub IsBufferLength : Option ℕ → ℕ → ℕ → Type 0

@@ -36,6 +36,10 @@ writer_or_null p x = held_or_null writing.the_row p x
 abbrev pub misuse : ℕ
 misuse = 65
 
+-- the call is refused, and what it would fill stays
+abbrev pub Refuses : {T : Type 0} → T → T → ℕ → Type 0
+Refuses old new status = (status ≡ misuse) × (new ≡ old)
+
 -- what a call does with the value at a handle, or what it answers at null
 abbrev pub OfHandle : {T : Type 0} → (T → T → Type 0) → Type 0 → Option T → Option T → Type 0
 OfHandle Call AtNull None None = AtNull

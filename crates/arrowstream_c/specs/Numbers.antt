@@ -18,6 +18,7 @@ use Rattle.ipc_stream_session.specs.declared.column.ColumnFacts.{ColumnFacts}
 use Rattle.ipc_stream_session.specs.declared.field.FieldFacts.{FieldFacts}
 use Rattle.ipc_stream_session.specs.declared.field.FieldText.{FieldText}
 use Rattle.ipc_stream_session.specs.declared.field.FieldText.TheVariants as text
+use Rattle.arrowstream_c.specs.Handles.{Refuses}
 use Rattle.arrowstream_c.specs.declared.answers.Column.{Column}
 use Rattle.arrowstream_c.specs.declared.answers.FieldNumbers.{FieldNumbers}
 use Rattle.arrowstream_c.specs.declared.answers.LayoutNumbers.{LayoutNumbers}
@@ -26,6 +27,28 @@ use Rattle.arrowstream_c.specs.declared.answers.ReadLimits.{ReadLimits}
 -- the status of a call that finds nothing
 abbrev pub absent : ℕ
 absent = 64
+
+-- the number of bytes of a struct of limits
+abbrev pub limits_size : ℕ
+limits_size = 64
+
+-- the number of bytes of a progress
+abbrev pub progress_size : ℕ
+progress_size = 40
+
+-- the number of bytes of a struct that describes a column
+abbrev pub column_size : ℕ
+column_size = 80
+
+-- the number of bytes of a struct that describes a field
+abbrev pub field_size : ℕ
+field_size = 48
+
+-- what a call does with a struct of the caller of at least the size of this version, and what with
+-- a smaller one
+pub record BySize (size least : ℕ) (Large Small : Type 0) : Type 0 where
+  pub large : least ≤ size → Large
+  pub small : size < least → Small
 
 -- the value, or the most that it may be
 pub record Caps (value most result : ℕ) : Type 0 where
@@ -48,6 +71,11 @@ pub record AreStandard (out : ReadLimits) : Type 0 where
   pub standard : IsStandard limits
   pub values : HaveLimitValues limits out.metadata out.body out.slots out.fields out.depth out.text
       out.pairs
+
+-- the limits are the standard ones if the struct has room for them
+abbrev pub SetsStandard : ReadLimits → ReadLimits → ℕ → Type 0
+SetsStandard old new status = BySize old.size limits_size
+    ((status ≡ 0) × (new.size ≡ old.size) × AreStandard new) (Refuses old new status)
 
 -- the number of what came
 abbrev pub arrival_number : Arrival → ℕ
@@ -104,8 +132,9 @@ IsLayout (l.FixedLists size) n = HasNumbers n 7 0 0 size (pos 0)
 IsLayout l.Structs n = HasNumbers n 8 0 0 0 (pos 0)
 IsLayout (l.Indices bits signed id) n = HasNumbers n 9 (width bits) (bit_of signed) 0 id
 
--- the numbers of a column are these facts
-pub record Shows (facts : ColumnFacts) (c : Column) : Type 0 where
+-- the numbers of a column are these facts, in a struct of this size
+pub record Shows (facts : ColumnFacts) (size : ℕ) (c : Column) : Type 0 where
+  pub size_is : c.size ≡ size
   pub layout : IsLayout facts.layout c.layout
   pub slots : c.slots ≡ facts.slots
   pub nulls : c.nulls ≡ facts.nulls
@@ -128,8 +157,9 @@ ShowsDictionary None n = HasIndices n 0 0 0 (pos 0)
 ShowsDictionary (Some d) n =
     HasIndices n (width d.index.bits) (bit_of d.index.signed) (bit_of d.ordered) d.id
 
--- the numbers of a field are these facts
-pub record ShowsField (facts : FieldFacts) (n : FieldNumbers) : Type 0 where
+-- the numbers of a field are these facts, in a struct of this size
+pub record ShowsField (facts : FieldFacts) (size : ℕ) (n : FieldNumbers) : Type 0 where
+  pub size_is : n.size ≡ size
   pub nullable : n.is_nullable ≡ bit_of facts.nullable
   pub dictionary : ShowsDictionary facts.dictionary n
   pub children : n.children ≡ facts.children

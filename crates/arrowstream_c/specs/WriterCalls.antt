@@ -1,5 +1,5 @@
 -- What each export of a writer answers, and which state it leaves.
-use Rattle.std.specs.Prelude.{◌≡◌, ⊤, ℕ, ℤ, not, ◌==◌, List, Option, Some, None, Result}
+use Rattle.std.specs.Prelude.{◌≡◌, ◌≤◌, ⊤, ℕ, ℤ, not, ◌==◌, List, Option, Some, None, Result}
 use Rattle.std.specs.declared.alloc.Global.{Global}
 use Rattle.std.specs.declared.string.String.{String}
 use Rattle.ipc_model.specs.declared.fault.Fault.{Fault}
@@ -9,13 +9,15 @@ use Rattle.ipc_stream_session.specs.declared.cells.Nesting.TheVariants as nestin
 use Rattle.ipc_stream_session.specs.declared.write_session.WriteSession.{WriteSession}
 use Rattle.ipc_stream_session.specs.Writes as s
 use Rattle.arrowstream_c.specs.Calls.{GivesText}
-use Rattle.arrowstream_c.specs.Numbers.{AreCapped}
+use Rattle.arrowstream_c.specs.Numbers.{AreCapped, limits_size}
 use Rattle.arrowstream_c.specs.declared.answers.ReadLimits.{ReadLimits}
 
--- a new writer within the limits that were asked for, or none because memory ran out
+-- a new writer within the limits that were asked for, or none: memory ran out, or the limits are in
+-- a struct that is too small
 abbrev pub OpensWriter : ReadLimits → Option WriteSession → Type 0
 OpensWriter asked None = ⊤
-OpensWriter asked (Some made) = AreCapped asked made.limits × s.IsNew made.limits made
+OpensWriter asked (Some made) =
+    (limits_size ≤ asked.size) × AreCapped asked made.limits × s.IsNew made.limits made
 
 -- the status is that of the session's call
 abbrev pub BeginsStream : WriteSession → List ℕ → WriteSession → ℕ → Type 0

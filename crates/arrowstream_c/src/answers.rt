@@ -1,8 +1,8 @@
 //! The structs that C passes and reads, and the numbers in them.
 ghost use Rattle.std.specs.Prelude.{◌≡◌};
 ghost use Rattle.ipc_model.specs.Numbering.{fault_number};
-ghost use Rattle.arrowstream_c.specs.Numbers.{AreCapped, AreStandard, Caps, IsLayout, Shows};
-ghost use Rattle.arrowstream_c.specs.Numbers.{ShowsDictionary, ShowsField, arrival_number};
+ghost use Rattle.arrowstream_c.specs.Numbers.{AreCapped, AreStandard, Caps, IsLayout, SetsStandard};
+ghost use Rattle.arrowstream_c.specs.Numbers.{Shows, ShowsDictionary, ShowsField, arrival_number};
 ghost use Rattle.arrowstream_c.specs.Numbers.{end_number};
 
 use ipc_model::{
@@ -18,10 +18,21 @@ pub(crate) const ABSENT: u32 = 64;
 /// The status of a call that the state of a writer does not allow, and of one at null.
 pub(crate) const MISUSE: u32 = 65;
 
+// The numbers of bytes of the structs that may grow. A smaller struct is left as it is.
+pub(crate) const LIMITS_SIZE: usize = size_of::<ReadLimits>();
+
+pub(crate) const PROGRESS_SIZE: usize = size_of::<Progress>();
+
+pub(crate) const COLUMN_SIZE: usize = size_of::<Column>();
+
+pub(crate) const FIELD_SIZE: usize = size_of::<FieldNumbers>();
+
 /// Limits on what a reader accepts, in the units of `ipc_model::Limits`.
 #[repr(C)]
 #[derive(Drop)]
 pub struct ReadLimits {
+    /// The number of bytes of the struct, which the caller sets.
+    pub size: usize,
     /// The maximum number of bytes of a message's metadata.
     pub metadata: u64,
     /// The maximum number of bytes of a message's body.
@@ -42,6 +53,8 @@ pub struct ReadLimits {
 #[repr(C)]
 #[derive(Drop)]
 pub struct Progress {
+    /// The number of bytes of the struct, which the caller sets.
+    pub size: usize,
     /// The number of bytes that the call took.
     pub taken: usize,
     /// The number of bytes before the next decision.
@@ -74,6 +87,8 @@ pub struct LayoutNumbers {
 #[repr(C)]
 #[derive(Drop)]
 pub struct Column {
+    /// The number of bytes of the struct, which the caller sets.
+    pub size: usize,
     /// The layout.
     pub layout: LayoutNumbers,
     /// The number of slots.
@@ -94,6 +109,8 @@ pub struct Column {
 #[repr(C)]
 #[derive(Drop)]
 pub struct FieldNumbers {
+    /// The number of bytes of the struct, which the caller sets.
+    pub size: usize,
     /// 1 if its values may be null, else 0.
     pub is_nullable: u32,
     /// The number of bits of its dictionary's indices, or 0 if it has no dictionary.
@@ -133,8 +150,9 @@ pub(crate) fn cap_limits(asked: &ReadLimits) -> Limits
 }
 
 // Sets the standard limits.
-pub(crate) fn set_standard(out: &mut ReadLimits)
-    ensures { AreStandard out.new }
+fn fill_standard(out: &mut ReadLimits)
+    ensures standard { AreStandard out.new }
+    ensures size { out.new.size ≡ out.old.size }
 {
     let standard = Limits::standard();
     out.metadata = standard.metadata;
@@ -144,6 +162,17 @@ pub(crate) fn set_standard(out: &mut ReadLimits)
     out.depth = standard.depth;
     out.text = standard.text;
     out.pairs = standard.pairs;
+}
+
+// Sets the standard limits, if the struct has room for them.
+pub(crate) fn set_standard(out: &mut ReadLimits) -> u32
+    ensures { SetsStandard out.old out.new result }
+{
+    if out.size < LIMITS_SIZE {
+        return MISUSE;
+    }
+    fill_standard(out);
+    0
 }
 
 // The status of a refusal: the number after its letter F.
@@ -216,11 +245,12 @@ fn layout_numbers(layout: Layout) -> LayoutNumbers
 }
 
 impl Column {
-    // The numbers of a column.
-    pub(crate) fn of(facts: &ColumnFacts) -> Column
-        ensures { Shows facts.now result }
+    // The numbers of a column, in a struct of this number of bytes.
+    pub(crate) fn of(size: usize, facts: &ColumnFacts) -> Column
+        ensures { Shows facts.now size result }
     {
         Column {
+            size,
             layout: layout_numbers(facts.layout),
             slots: facts.slots,
             nulls: facts.nulls,
@@ -233,11 +263,12 @@ impl Column {
 }
 
 impl FieldNumbers {
-    // The numbers of a field.
-    pub(crate) fn of(facts: &FieldFacts) -> FieldNumbers
-        ensures { ShowsField facts.now result }
+    // The numbers of a field, in a struct of this number of bytes.
+    pub(crate) fn of(size: usize, facts: &FieldFacts) -> FieldNumbers
+        ensures { ShowsField facts.now size result }
     {
         let mut numbers = dictionary_numbers(facts.dictionary);
+        numbers.size = size;
         numbers.is_nullable = u32::from(facts.nullable);
         numbers.children = facts.children;
         numbers.pairs = facts.pairs;
@@ -250,6 +281,7 @@ fn dictionary_numbers(dictionary: Option<Dictionary>) -> FieldNumbers
     ensures { ShowsDictionary dictionary result }
 {
     let mut numbers = FieldNumbers {
+        size: FIELD_SIZE,
         is_nullable: 0,
         index_bits: 0,
         is_signed: 0,

@@ -1,8 +1,8 @@
 //! What calls answer at a null handle, where they have more to answer than a number.
-ghost use Rattle.arrowstream_c.specs.AtNull.{IsNowhere, RefusesColumn, RefusesField, RefusesText};
-ghost use Rattle.arrowstream_c.specs.AtNull.{TakesNothing};
+ghost use Rattle.arrowstream_c.specs.AtNull.{IsNowhere, RefusesText, TakesNothing};
+ghost use Rattle.arrowstream_c.specs.Handles.{Refuses};
 
-use crate::answers::{Column, FieldNumbers, MISUSE, Progress};
+use crate::answers::{Column, FieldNumbers, MISUSE, PROGRESS_SIZE, Progress};
 
 // Copies no byte, and wants none.
 pub(crate) fn no_text(text: &mut [u8], wanted: &mut usize) -> u32
@@ -15,7 +15,7 @@ pub(crate) fn no_text(text: &mut [u8], wanted: &mut usize) -> u32
 
 // Describes no column.
 pub(crate) fn no_column(out: &mut Column) -> u32
-    ensures { RefusesColumn out.old out.new result }
+    ensures { Refuses out.old out.new result }
 {
     let _out = out;
     MISUSE
@@ -23,20 +23,22 @@ pub(crate) fn no_column(out: &mut Column) -> u32
 
 // Describes no field.
 pub(crate) fn no_field(out: &mut FieldNumbers) -> u32
-    ensures { RefusesField out.old out.new result }
+    ensures { Refuses out.old out.new result }
 {
     let _out = out;
     MISUSE
 }
 
-// Says that nothing was taken, and that nothing came.
+// Reports that nothing was taken, and that nothing came.
 pub(crate) fn no_progress(out: &mut Progress) -> u32
-    ensures { IsNowhere out.new result }
+    ensures { IsNowhere out.old out.new result }
 {
-    out.taken = 0;
-    out.wanted = 0;
-    out.messages = 0;
-    out.event = 0;
+    if out.size >= PROGRESS_SIZE {
+        out.taken = 0;
+        out.wanted = 0;
+        out.messages = 0;
+        out.event = 0;
+    }
     MISUSE
 }
 

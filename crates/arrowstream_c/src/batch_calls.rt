@@ -1,9 +1,10 @@
 //! What each export of a batch does with it.
-ghost use Rattle.arrowstream_c.specs.Calls.{AreColumns, AreRows, CopiesBuffer, CopiesPairs};
-ghost use Rattle.arrowstream_c.specs.Calls.{DescribesColumn, GivesPairs};
+ghost use Rattle.arrowstream_c.specs.Calls.{AreColumns, AreRows, ClonesBatch, CopiesBuffer};
+ghost use Rattle.arrowstream_c.specs.Calls.{CopiesPairs, DescribesColumn, GivesPairs};
 ghost use Rattle.arrowstream_c.specs.Numbers.{IsBuffer};
 
-use crate::answers::{ABSENT, Column};
+use crate::answers::{ABSENT, COLUMN_SIZE, Column, MISUSE, status_of};
+use crate::batch::BatchHandle;
 use crate::block::Block;
 use crate::reader_calls::give;
 use ipc_model::Fault;
@@ -12,6 +13,15 @@ use std::alloc::Global;
 
 pub(crate) fn free_batch(batch: Block<ReadBatch, Global>) {
     batch.into_box().drop();
+}
+
+pub(crate) fn share(alloc: Global, batch: &mut ReadBatch) -> BatchHandle
+    ensures { ClonesBatch batch.old batch.new result.held result.status }
+{
+    match batch.clone() {
+        Ok(copy) => BatchHandle::holding(alloc, copy),
+        Err(_) => BatchHandle::none(status_of(&Fault::OutOfMemory)),
+    }
 }
 
 pub(crate) fn rows(batch: &mut ReadBatch) -> usize
@@ -45,9 +55,12 @@ pub(crate) fn pairs(batch: &mut ReadBatch, text: &mut [u8], wanted: &mut usize) 
 pub(crate) fn column(batch: &mut ReadBatch, path: &[u64], out: &mut Column) -> u32
     ensures { DescribesColumn batch.old path.now batch.new out.old out.new result }
 {
+    if out.size < COLUMN_SIZE {
+        return MISUSE;
+    }
     match batch.column(path) {
         Some(facts) => {
-            *out = Column::of(&facts);
+            *out = Column::of(out.size, &facts);
             0
         }
         None => ABSENT,

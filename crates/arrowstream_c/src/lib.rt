@@ -1,5 +1,5 @@
 //! Arrow IPC streams for C, and for each language that calls C: a reader, its batches and a writer
-//! behind opaque pointers. `include/arrowstream.h` is the header.
+//! as opaque pointers. `include/arrowstream.h` is the header.
 //!
 //! Every export that takes a pointer requires what the pointer owns, and returns it at the value
 //! that its clause names. A null pointer owns nothing, and is answered by `MISUSE` or 0. C makes
@@ -11,15 +11,14 @@ ghost use Rattle.std.specs.Borrow.{sem};
 ghost use Rattle.ipc_stream_session.specs.declared.batch.ReadBatch.{ReadBatch};
 ghost use Rattle.ipc_stream_session.specs.declared.session.ReadSession.{ReadSession};
 ghost use Rattle.ipc_stream_session.specs.declared.write_session.WriteSession.{WriteSession};
-ghost use Rattle.arrowstream_c.specs.AtNull.{IsNowhere, RefusesColumn, RefusesField, RefusesText};
-ghost use Rattle.arrowstream_c.specs.AtNull.{TakesNothing};
-ghost use Rattle.arrowstream_c.specs.Calls.{AreRows, AreColumns, Closes, CopiesBuffer};
+ghost use Rattle.arrowstream_c.specs.AtNull.{IsNowhere, RefusesText, TakesNothing};
+ghost use Rattle.arrowstream_c.specs.Calls.{AreRows, AreColumns, ClonesBatch, Closes, CopiesBuffer};
 ghost use Rattle.arrowstream_c.specs.Calls.{CopiesFieldText, CopiesLine, CopiesPairs, CopiesSchema};
 ghost use Rattle.arrowstream_c.specs.Calls.{DescribesColumn, DescribesField, Feeds, OpensReader};
 ghost use Rattle.arrowstream_c.specs.Calls.{TakesBack, TakesBatch};
-ghost use Rattle.arrowstream_c.specs.Handles.{OfHandle, OfHandles, batch_or_null, misuse};
+ghost use Rattle.arrowstream_c.specs.Handles.{OfHandle, OfHandles, Refuses, batch_or_null, misuse};
 ghost use Rattle.arrowstream_c.specs.Handles.{reader_or_null, writer_or_null};
-ghost use Rattle.arrowstream_c.specs.Numbers.{AreStandard};
+ghost use Rattle.arrowstream_c.specs.Numbers.{SetsStandard};
 ghost use Rattle.arrowstream_c.specs.WriterCalls as w;
 
 mod answers;
@@ -49,16 +48,17 @@ pub extern "C" fn arrowstream_version() -> u32
     1
 }
 
-/// Sets limits that fit what is written in practice, those of `Limits::standard`.
+/// Sets limits that fit what is written in practice, those of `Limits::standard`. Returns 0, or
+/// `MISUSE` if `size` is too small.
 #[unsafe(no_mangle)]
-pub extern "C" fn arrowstream_limits_standard(out: &mut ReadLimits)
-    ensures { AreStandard out.new }
+pub extern "C" fn arrowstream_limits_standard(out: &mut ReadLimits) -> u32
+    ensures { SetsStandard out.old out.new result }
 {
-    answers::set_standard(out);
+    answers::set_standard(out)
 }
 
-/// Makes a reader at the beginning of a stream, and sets `out` to it, or to null if memory ran out.
-/// A limit above its maximum is as the maximum.
+/// Makes a reader at the beginning of a stream, and sets `out` to it, or to null if memory ran out
+/// or `size` is too small. A limit above its maximum is as the maximum.
 #[unsafe(no_mangle)]
 pub extern "C" fn arrowstream_reader_open(alloc: Global, limits: &ReadLimits, out: &mut *mut u8)
     ensures* { ∃ₛ (λ (made : Option ReadSession). sem 𝓛 (reader_or_null out.new made)
@@ -94,8 +94,8 @@ pub unsafe extern "C" fn arrowstream_reader_feed(
     ghost was: { Option ReadSession }
     requires* { sem 𝓛 (reader_or_null reader was) }
     ensures* { ∃ₛ (λ (is : Option ReadSession). sem 𝓛 (reader_or_null reader is)
-        ∗ ⌜ OfHandle (λ was is. Feeds was bytes.now is out.new result)
-        (IsNowhere out.new result) was is ⌝) }
+        ∗ ⌜ OfHandle (λ was is. Feeds was bytes.now is out.old out.new result)
+        (IsNowhere out.old out.new result) was is ⌝) }
 {
     if reader.is_null() {
         return at_null::no_progress(out);
@@ -109,8 +109,8 @@ pub unsafe extern "C" fn arrowstream_reader_close(reader: *mut u8, out: &mut Pro
     ghost was: { Option ReadSession }
     requires* { sem 𝓛 (reader_or_null reader was) }
     ensures* { ∃ₛ (λ (is : Option ReadSession). sem 𝓛 (reader_or_null reader is)
-        ∗ ⌜ OfHandle (λ was is. Closes was is out.new result)
-        (IsNowhere out.new result) was is ⌝) }
+        ∗ ⌜ OfHandle (λ was is. Closes was is out.old out.new result)
+        (IsNowhere out.old out.new result) was is ⌝) }
 {
     if reader.is_null() {
         return at_null::no_progress(out);
@@ -150,7 +150,7 @@ pub unsafe extern "C" fn arrowstream_reader_field(
     requires* { sem 𝓛 (reader_or_null reader was) }
     ensures* { ∃ₛ (λ (is : Option ReadSession). sem 𝓛 (reader_or_null reader is)
         ∗ ⌜ OfHandle (λ was is. DescribesField was path.now is out.old out.new result)
-        (RefusesField out.old out.new result) was is ⌝) }
+        (Refuses out.old out.new result) was is ⌝) }
 {
     if reader.is_null() {
         return at_null::no_field(out);
@@ -258,6 +258,30 @@ pub unsafe extern "C" fn arrowstream_reader_reuse(alloc: Global, reader: *mut u8
     );
 }
 
+/// Sets `out` to another handle of the same batch, which shares its body. Returns 0, or 37 if
+/// memory ran out; then `out` is null.
+#[unsafe(no_mangle)]
+pub unsafe extern "C" fn arrowstream_batch_clone(
+    alloc: Global,
+    batch: *mut u8,
+    out: &mut *mut u8,
+) -> u32
+    ghost was: { Option ReadBatch }
+    requires* { sem 𝓛 (batch_or_null batch was) }
+    ensures* { ∃ₛ (λ (is : Option ReadBatch). ∃ₛ (λ (made : Option ReadBatch).
+        sem 𝓛 (batch_or_null batch is) ∗ (sem 𝓛 (batch_or_null out.new made)
+        ∗ ⌜ OfHandle (λ was is. ClonesBatch was is made result)
+        ((made ≡ None) × (result ≡ misuse)) was is ⌝))) }
+{
+    if batch.is_null() {
+        *out = null_mut();
+        return MISUSE;
+    }
+    let BatchHandle { at, status } = batch_calls::share(alloc, &mut *(batch as *mut ReadBatch));
+    *out = at;
+    status
+}
+
 /// Frees a batch.
 #[unsafe(no_mangle)]
 pub unsafe extern "C" fn arrowstream_batch_free(alloc: Global, batch: *mut u8)
@@ -331,7 +355,7 @@ pub unsafe extern "C" fn arrowstream_batch_column(
     requires* { sem 𝓛 (batch_or_null batch was) }
     ensures* { ∃ₛ (λ (is : Option ReadBatch). sem 𝓛 (batch_or_null batch is)
         ∗ ⌜ OfHandle (λ was is. DescribesColumn was path.now is out.old out.new result)
-        (RefusesColumn out.old out.new result) was is ⌝) }
+        (Refuses out.old out.new result) was is ⌝) }
 {
     if batch.is_null() {
         return at_null::no_column(out);
@@ -362,8 +386,8 @@ pub unsafe extern "C" fn arrowstream_batch_buffer(
     batch_calls::buffer(&mut *(batch as *mut ReadBatch), path, buffer, bytes, wanted)
 }
 
-/// Makes a writer without a schema, and sets `out` to it, or to null if memory ran out. A limit
-/// above its maximum is as the maximum.
+/// Makes a writer without a schema, and sets `out` to it, or to null if memory ran out or `size` is
+/// too small. A limit above its maximum is as the maximum.
 #[unsafe(no_mangle)]
 pub extern "C" fn arrowstream_writer_open(alloc: Global, limits: &ReadLimits, out: &mut *mut u8)
     ensures* { ∃ₛ (λ (made : Option WriteSession). sem 𝓛 (writer_or_null out.new made)

@@ -5,7 +5,7 @@ ghost use Rattle.ipc_stream_session.specs.contracts.session.ReadSession as sessi
 ghost use Rattle.ipc_stream_session.specs.declared.session.ReadSession.{ReadSession};
 ghost use Rattle.arrowstream_c.specs.Calls.{OpensReader};
 
-use crate::answers::{ReadLimits, cap_limits};
+use crate::answers::{LIMITS_SIZE, ReadLimits, cap_limits};
 use crate::block::Block;
 use ipc_stream_session::ReadSession;
 use std::alloc::Global;
@@ -25,10 +25,13 @@ impl Model for ReaderHandle {
 }
 
 impl ReaderHandle {
-    // A new reader, or null if memory ran out.
+    // A new reader, or null if memory ran out or the struct is too small.
     pub(crate) fn fresh(alloc: Global, limits: &ReadLimits) -> ReaderHandle
         ensures { OpensReader limits.now result.held }
     {
+        if limits.size < LIMITS_SIZE {
+            return ReaderHandle::none();
+        }
         match Box::new(alloc, ReadSession::new(alloc, cap_limits(limits))) {
             Ok(whole) => ReaderHandle::of(Block::out_of(whole)),
             Err(_) => ReaderHandle::none(),

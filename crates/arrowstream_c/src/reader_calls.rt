@@ -4,7 +4,10 @@ ghost use Rattle.arrowstream_c.specs.Calls.{Closes, CopiesFieldText, CopiesLine,
 ghost use Rattle.arrowstream_c.specs.Calls.{DescribesField, Feeds, GivesText, IsAt, TakesBatch};
 ghost use Rattle.arrowstream_c.specs.Numbers.{IsFieldText};
 
-use crate::answers::{ABSENT, FieldNumbers, Progress, arrival_number, end_number, status_of};
+use crate::answers::{
+    ABSENT, FIELD_SIZE, FieldNumbers, MISUSE, PROGRESS_SIZE, Progress, arrival_number, end_number,
+    status_of,
+};
 use crate::batch::BatchHandle;
 use crate::block::Block;
 use ipc_model::Fault;
@@ -15,9 +18,9 @@ pub(crate) fn free_reader(reader: Block<ReadSession, Global>) {
     reader.into_box().drop();
 }
 
-// Says how far a reader has come.
+// Reports how far a reader has come.
 fn report(reader: &ReadSession, taken: usize, event: u64, out: &mut Progress)
-    ensures { IsAt reader.now taken event out.new }
+    ensures { IsAt reader.now taken event out.old.size out.new }
 {
     out.taken = taken;
     out.wanted = reader.wants();
@@ -26,8 +29,11 @@ fn report(reader: &ReadSession, taken: usize, event: u64, out: &mut Progress)
 }
 
 pub(crate) fn feed(reader: &mut ReadSession, bytes: &[u8], out: &mut Progress) -> u32
-    ensures { Feeds reader.old bytes.now reader.new out.new result }
+    ensures { Feeds reader.old bytes.now reader.new out.old out.new result }
 {
+    if out.size < PROGRESS_SIZE {
+        return MISUSE;
+    }
     match reader.feed(bytes) {
         Ok((taken, arrival)) => {
             report(reader, taken, arrival_number(arrival), out);
@@ -41,8 +47,11 @@ pub(crate) fn feed(reader: &mut ReadSession, bytes: &[u8], out: &mut Progress) -
 }
 
 pub(crate) fn close(reader: &mut ReadSession, out: &mut Progress) -> u32
-    ensures { Closes reader.old reader.new out.new result }
+    ensures { Closes reader.old reader.new out.old out.new result }
 {
+    if out.size < PROGRESS_SIZE {
+        return MISUSE;
+    }
     match reader.close() {
         Ok(end) => {
             report(reader, 0, end_number(end), out);
@@ -88,9 +97,12 @@ pub(crate) fn schema(reader: &mut ReadSession, text: &mut [u8], wanted: &mut usi
 pub(crate) fn field(reader: &mut ReadSession, path: &[u64], out: &mut FieldNumbers) -> u32
     ensures { DescribesField reader.old path.now reader.new out.old out.new result }
 {
+    if out.size < FIELD_SIZE {
+        return MISUSE;
+    }
     match reader.field(path) {
         Some(facts) => {
-            *out = FieldNumbers::of(&facts);
+            *out = FieldNumbers::of(out.size, &facts);
             0
         }
         None => ABSENT,

@@ -5,7 +5,7 @@ ghost use Rattle.ipc_stream_session.specs.contracts.write_session.WriteSession a
 ghost use Rattle.ipc_stream_session.specs.declared.write_session.WriteSession.{WriteSession};
 ghost use Rattle.arrowstream_c.specs.WriterCalls.{OpensWriter};
 
-use crate::answers::{ReadLimits, cap_limits};
+use crate::answers::{LIMITS_SIZE, ReadLimits, cap_limits};
 use crate::block::Block;
 use ipc_stream_session::WriteSession;
 use std::alloc::Global;
@@ -25,10 +25,13 @@ impl Model for WriterHandle {
 }
 
 impl WriterHandle {
-    // A new writer, or null if memory ran out.
+    // A new writer, or null if memory ran out or the struct is too small.
     pub(crate) fn fresh(alloc: Global, limits: &ReadLimits) -> WriterHandle
         ensures { OpensWriter limits.now result.held }
     {
+        if limits.size < LIMITS_SIZE {
+            return WriterHandle::none();
+        }
         match Box::new(alloc, WriteSession::new(alloc, cap_limits(limits))) {
             Ok(whole) => WriterHandle::of(Block::out_of(whole)),
             Err(_) => WriterHandle::none(),

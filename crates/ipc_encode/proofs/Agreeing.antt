@@ -14,6 +14,7 @@ holds_agreeing known others limits fields rows builder same h = record {
   limits_are = h.limits_are;
   works = h.works;
   count = h.count;
-  columns_are = columns_agree known others limits (shape_of fields) builder.nodes.items (row_columns rows) same h.columns_are;
+  bounded = h.bounded;
+  columns_are = columns_agree known others builder.bounds (shape_of fields) builder.nodes.items (row_columns rows) same h.columns_are;
   within = h.within;
 }

@@ -20,6 +20,7 @@ use Rattle.ipc_encode.specs.Built.{AreNodes, IsColumn, IsNode, IsPushRefused, Ar
 use Rattle.ipc_encode.specs.Cells.{nulls}
 use Rattle.ipc_encode.specs.Columns.{bits_length, padded_length, validity_length, offsets_length, values_length, data_in}
 use Rattle.ipc_encode.specs.Columns.{ExceedsOffsets}
+use Rattle.ipc_encode.specs.Limits.{IsWithin}
 use Rattle.ipc_encode.specs.Limits.{HasLongData, HasLongItems, HasLongNode, HasExcessData, AreRowsRefused, SomeColumn, SomeExcessData}
 use Rattle.ipc_encode.specs.Numbers.{Numbering}
 use Rattle.ipc_encode.specs.Writing.{Adds}
@@ -483,6 +484,14 @@ refused_more limits fields rows more fault.TooManyRows (inr (inr items)) =
     (long_items_grow (shape_of fields) (row_columns rows) (row_columns more) items)))
 refused_more limits fields rows more fault.OutOfMemory h = h
 refused_more limits fields rows more _ h = h
+
+-- rows are within the limits where they are with others behind them
+pub fewer_within : (limits : Limits) (fields : List Field) (rows more : List (List Value)) → IsWithin limits fields (rows ++ more)
+    → IsWithin limits fields rows
+fewer_within limits fields rows more h = record {
+  few = λ many. h.few (refused_more limits fields rows more fault.TooManyRows many);
+  short = λ long. h.short (refused_more limits fields rows more fault.TooLong long);
+}
 
 -- ---- the first so many of several columns
 

@@ -1,6 +1,6 @@
 -- Rows that columns hold, within the limits.
 use Rattle.std.proofs.Common.{refl, ◌≡◌, ◌∙◌, sym, ap, subst, ℕ, suc, ◌+◌, ◌<◌, ◌≤◌, List, [], ◌∷◌, ◌++◌, length, take, drop, arith, inl}
-use Rattle.std.proofs.Common.{inr, append_assoc, Result, Ok, Err, IfErr}
+use Rattle.std.proofs.Common.{inr, append_assoc, false, Result, Ok, Err, IfErr}
 use Rattle.std.proofs.lemmas.Bool.{cases_lt}
 use Rattle.std.proofs.lemmas.List.{take-append-drop}
 use Rattle.ipc_model.specs.declared.fault.WriteFault.TheVariants as fault
@@ -8,9 +8,10 @@ use Rattle.ipc_model.specs.declared.layout.Layout.{Layout}
 use Rattle.ipc_model.specs.declared.limits.Limits.{Limits}
 use Rattle.ipc_model.specs.declared.schema.Field.{Field}
 use Rattle.ipc_model.specs.declared.value.Value.{Value}
-use Rattle.ipc_column.specs.Shapes.{Shape, bare, field, shape_of}
+use Rattle.ipc_column.specs.Shapes.{Shape, bare, field, node_count, shape_of}
 use Rattle.ipc_encode.specs.Buffers.{child_values, row_columns, rows_body, column_buffers, padded_bytes}
 use Rattle.ipc_encode.specs.Built.{HoldColumns, HoldsRows, StoresRows, AreColumnsWithin, ArePushesRefused, AreCountsOf, IsPushRefused}
+use Rattle.ipc_encode.specs.Built.{AreShares}
 use Rattle.ipc_encode.specs.Cells.{cell, cells}
 use Rattle.ipc_encode.specs.ColumnSizes.{as_rows}
 use Rattle.ipc_encode.specs.Faults.{write_fault}
@@ -24,6 +25,7 @@ use Rattle.ipc_encode.specs.declared.fault.PushFault.TheVariants as push
 use Rattle.ipc_encode.specs.declared.tree.Node.{Node, out-Node}
 use Rattle.ipc_encode.proofs.Growing.{refused_grow, held_few, held_short, all_refused, first_refused, own_refused, parts_length}
 use Rattle.ipc_encode.proofs.Growing.{few_leaf, short_leaf}
+use Rattle.ipc_encode.proofs.Shares.{columns_share, columns_wider}
 use Rattle.ipc_encode.proofs.Sizes.{data_some, held_stored, items_some}
 use Rattle.ipc_encode.proofs.Steps.{cells_append, cells_length}
 
@@ -38,7 +40,19 @@ columns_push rows row = λ d j. sym (cells_append j rows (row ∷ [])) d
 pub stored_held : (known : Numbering) (limits : Limits) (fields : List Field) (rows : List (List Value)) (builder : Builder)
     → StoresRows known limits fields rows builder → HoldsRows known limits fields rows builder
 stored_held known limits fields rows builder h =
-    record { limits_are = h.limits_are; works = h.works; count = h.count; columns_are = h.columns_are }
+    record { limits_are = h.limits_are; works = h.works; count = h.count; bounded = h.bounded; columns_are = h.columns_are }
+
+-- a builder that holds rows within the limits stores them
+pub still_stored : (known : Numbering) (limits : Limits) (fields : List Field) (rows : List (List Value)) (builder : Builder)
+    → IsWithin limits fields rows → HoldsRows known limits fields rows builder → StoresRows known limits fields rows builder
+still_stored known limits fields rows builder within h = record {
+  limits_are = h.limits_are;
+  works = h.works;
+  count = h.count;
+  bounded = h.bounded;
+  columns_are = h.columns_are;
+  within = within;
+}
 
 -- the texts of all columns are UTF-8
 pub all_stored : (known : Numbering) (limits : Limits) (shape : Shape) (nodes : List Node) (given : ℕ → List Value)
@@ -77,6 +91,40 @@ built_within known limits fields rows nodes few h short = record { few = not_man
     not_many (inr (inl long)) = held_few known limits (shape_of fields) nodes (row_columns rows) h long
     not_many (inr (inr items)) = held_short known limits (shape_of fields) nodes (row_columns rows) h
         (items_some (shape_of fields) (row_columns rows) items)
+
+-- columns that keep to shares of a body
+pub shared_within : (known : Numbering) (limits bounds : Limits) (fields : List Field) (rows : List (List Value)) (nodes : List Node)
+    → length rows ≤ limits.slots → bounds.slots ≤ limits.slots → bounds.body ≤ limits.body
+    → AreShares limits (node_count (shape_of fields)) bounds → HoldColumns known bounds (shape_of fields) nodes (row_columns rows)
+    → IsWithin limits fields rows
+shared_within known limits bounds fields rows nodes few narrow less shares h =
+    let wide = columns_wider known bounds limits narrow less (shape_of fields) nodes (row_columns rows) h in
+    built_within known limits fields rows nodes few wide not_long
+  where
+    not_long : AreColumnsTooLong limits fields rows → ⊥
+    not_long (inl long) = held_short known bounds (shape_of fields) nodes (row_columns rows) h
+        (data_some (shape_of fields) (row_columns rows) long)
+    not_long (inr more) =
+        let share = columns_share known bounds (shape_of fields) nodes (row_columns rows) h in omega (arith, share, shares, more)
+
+-- the columns of a builder that shares nothing any more
+pub unshared : (known : Numbering) (limits : Limits) (fields : List Field) (rows : List (List Value)) (old new : Builder)
+    → new ≡ record old { bounds = old.limits; is_shared = false } → StoresRows known limits fields rows old
+    → HoldsRows known limits fields rows new
+unshared known limits fields rows old new e h =
+    subst (λ (b : Builder). HoldsRows known limits fields rows b) (sym e) (record {
+      limits_are = h.limits_are;
+      works = h.works;
+      count = h.count;
+      bounded = record {
+        few = omega (arith, ap (λ (l : Limits). l.slots) h.limits_are);
+        less = omega (arith, ap (λ (l : Limits). l.body) h.limits_are);
+        shared = λ never. absurd cc;
+      };
+      columns_are = subst (λ (l : Limits). HoldColumns known l (shape_of fields) old.nodes.items (row_columns rows)) (sym h.limits_are)
+          (columns_wider known old.bounds limits h.bounded.few h.bounded.less (shape_of fields) old.nodes.items (row_columns rows)
+          h.columns_are);
+    })
 
 -- columns that are built leave so much of a body
 pub not_too_long : (known : Numbering) (limits : Limits) (fields : List Field) (rows : List (List Value)) (nodes : List Node) (left : ℕ)

@@ -188,6 +188,7 @@ module _ (known others : Numbering) where
     slots_are = h.slots_are;
     nulls_are = h.nulls_are;
     few = h.few;
+    short = h.short;
     validity_are = h.validity_are;
     holds = held_agrees vs column.data (subst (λ (l : Layout). InColumn Same l vs) (sym h.laid) same) h.holds;
   }

@@ -1,6 +1,7 @@
 pub mod Bits
 pub mod Steps
 pub mod Sizes
+pub mod Shares
 pub mod Growing
 pub mod Beginnings
 pub mod Held

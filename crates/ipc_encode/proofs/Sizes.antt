@@ -119,7 +119,7 @@ content_data utf8 (v ∷ vs) =
     let size = length-append (content v) (slots Content vs) in
     omega (arith, more, size)
 
-same_data : (bits : IntBits) (signed : Bool) (id : ℤ) (vs : List Value)
+pub same_data : (bits : IntBits) (signed : Bool) (id : ℤ) (vs : List Value)
     → data_in (l.Numbers bits signed) vs ≡ data_in (l.Indices bits signed id) vs
 same_data bits signed id [] = refl
 same_data bits signed id (v ∷ vs) = ap (λ (n : ℕ). number_bytes bits + n) (same_data bits signed id vs)

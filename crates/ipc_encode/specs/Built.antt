@@ -1,5 +1,5 @@
 -- The rows that a builder stores (Message.fbs, RecordBatch).
-use Rattle.std.specs.Prelude.{◌≡◌, ℕ, suc, ◌<◌, ◌≤◌, true, false}
+use Rattle.std.specs.Prelude.{◌≡◌, ℕ, suc, ◌+◌, ◌*◌, ◌<◌, ◌≤◌, true, false}
 use Rattle.std.specs.Prelude.{List, [], ◌∷◌, ◌++◌, length, ◌⊎◌, ⊤, IfErr, OnOk, Result}
 use Rattle.std.specs.List.{AllByRecursion}
 use Rattle.ipc_model.specs.Limits.{max_data}
@@ -16,7 +16,7 @@ use Rattle.ipc_encode.specs.declared.column.ColumnData.TheVariants as kind
 use Rattle.ipc_encode.specs.declared.fault.PushFault.{PushFault}
 use Rattle.ipc_encode.specs.declared.fault.PushFault.TheVariants as fault
 use Rattle.ipc_encode.specs.declared.tree.Node.{Node, out-Node}
-use Rattle.ipc_column.specs.Shapes.{Shape, bare, field, shape_of}
+use Rattle.ipc_column.specs.Shapes.{Shape, bare, field, node_count, shape_of}
 use Rattle.ipc_encode.specs.Buffers.{child_values, row_columns, padded_bytes, column_buffers}
 use Rattle.ipc_encode.specs.Buffers.{buffers_of, column_nulls}
 use Rattle.ipc_encode.specs.Bitmaps.{bitmap}
@@ -79,6 +79,12 @@ HoldsValues indices values (kind.Indices held) =
     held.indices.items ≡ indices_of (indices held.id) values
 HoldsValues indices values _ = ⊤
 
+-- the bytes of a column of fixed or variable width are within a body
+abbrev pub AreBytesWithin : Limits → Layout → ℕ → Type 0
+AreBytesWithin limits (l.FixedBytes width) amount = amount ≤ limits.body
+AreBytesWithin limits (l.VariableBytes utf8) amount = amount ≤ limits.body
+AreBytesWithin limits _ amount = ⊤
+
 -- a column of this layout with these values, which are within the limits
 pub record IsColumn (indices : Numbering) (limits : Limits) (layout : Layout) (values : List Value)
     (column : ColumnBuilder) : Type 0 where
@@ -86,6 +92,7 @@ pub record IsColumn (indices : Numbering) (limits : Limits) (layout : Layout) (v
   pub slots_are : column.slots ≡ length values
   pub nulls_are : column.nulls ≡ column_nulls layout values
   pub few : ¬ (limits.slots < length values)
+  pub short : AreBytesWithin limits layout (data_in layout values)
   pub validity_are : column.validity.items ≡ validity_in layout values
   pub holds : HoldsValues indices values column.data
 
@@ -125,6 +132,18 @@ pub record AreColumnsWithin (limits : Limits) (shape : Shape) (given : ℕ → L
   pub short : ¬ SomeExcessData shape given
   pub body : length (padded_bytes (buffers_of shape given)) ≤ limits.body
 
+-- this number of columns that keep to these bounds is within a body: a slot takes at most nine
+-- bytes of validity, offsets and numbers, and a column at most 32 more beside its data
+abbrev pub AreShares : Limits → ℕ → Limits → Type 0
+AreShares limits columns bounds =
+    columns * (9 * bounds.slots + bounds.body + 32) ≤ limits.body
+
+-- the bounds of the builder's columns are within the limits, and shares of a body if it shares one
+pub record HasBounds (limits : Limits) (shape : Shape) (builder : Builder) : Type 0 where
+  pub few : builder.bounds.slots ≤ limits.slots
+  pub less : builder.bounds.body ≤ limits.body
+  pub shared : builder.is_shared ≡ true → AreShares limits (node_count shape) builder.bounds
+
 -- the columns of the builder hold exactly these rows of these fields; `indices` gives the index of
 -- each dictionary value
 pub record HoldsRows (indices : Numbering) (limits : Limits) (fields : List Field) (rows : List
@@ -133,7 +152,8 @@ pub record HoldsRows (indices : Numbering) (limits : Limits) (fields : List Fiel
   pub limits_are : builder.limits ≡ limits
   pub works : builder.failed ≡ false
   pub count : builder.rows ≡ length rows
-  pub columns_are : HoldColumns indices limits (shape_of fields) builder.nodes.items
+  pub bounded : HasBounds limits (shape_of fields) builder
+  pub columns_are : HoldColumns indices builder.bounds (shape_of fields) builder.nodes.items
       (row_columns rows)
 
 -- the columns of the builder begin with these rows of these fields, and then perhaps have some of
@@ -143,7 +163,9 @@ pub record BeginsWithRows (indices : Numbering) (limits : Limits) (fields : List
     (builder : Builder) : Type 0 where
   pub limits_are : builder.limits ≡ limits
   pub count : builder.rows ≡ length rows
-  pub columns_begin : AreNodes (BeginsWith indices limits) (shape_of fields) builder.nodes.items
+  pub bounded : HasBounds limits (shape_of fields) builder
+  pub columns_begin : AreNodes (BeginsWith indices builder.bounds) (shape_of fields)
+      builder.nodes.items
       (row_columns rows)
 
 -- the builder stores exactly these rows of these fields, which are within the limits; `indices`
@@ -154,7 +176,8 @@ pub record StoresRows (indices : Numbering) (limits : Limits) (fields : List Fie
   pub limits_are : builder.limits ≡ limits
   pub works : builder.failed ≡ false
   pub count : builder.rows ≡ length rows
-  pub columns_are : HoldColumns indices limits (shape_of fields) builder.nodes.items
+  pub bounded : HasBounds limits (shape_of fields) builder
+  pub columns_are : HoldColumns indices builder.bounds (shape_of fields) builder.nodes.items
       (row_columns rows)
   pub within : IsWithin limits fields rows
 
@@ -183,9 +206,9 @@ ArePushesRefused limits shape given fault.Failed = ⊥
 -- what a call does that adds values to columns of this shape, which held `given`: `Ok` where they
 -- hold `all`. A fault is true of `all`, and unless memory ran out the columns still begin with
 -- `given`
-pub record Appends (indices : Numbering) (limits : Limits) (shape : Shape) (given all : ℕ
-    → List Value)
-    (nodes : List Node) (result : Result Unit PushFault) : Type 0 where
+pub record Appends {T : Type 0} (indices : Numbering) (limits : Limits) (shape : Shape)
+    (given all : ℕ → List Value)
+    (nodes : List Node) (result : Result T PushFault) : Type 0 where
   pub appended : OnOk result (HoldColumns indices limits shape nodes all)
   pub refused : IfErr result (ArePushesRefused limits shape all)
   pub begun : IfErr result (λ e. ¬ (e ≡ fault.OutOfMemory)
@@ -193,9 +216,10 @@ pub record Appends (indices : Numbering) (limits : Limits) (shape : Shape) (give
 
 -- what a call does that adds values to a column of this layout and to its children, which held
 -- `values`, as `Appends` says it of several columns
-pub record AppendsTo (indices : Numbering) (limits : Limits) (layout : Layout) (children : Shape)
+pub record AppendsTo {T : Type 0} (indices : Numbering) (limits : Limits) (layout : Layout)
+    (children : Shape)
     (values all : List Value)
-    (node : Node) (result : Result Unit PushFault) : Type 0 where
+    (node : Node) (result : Result T PushFault) : Type 0 where
   pub appended : OnOk result (IsNode (IsColumn indices limits) layout children node all)
   pub refused : IfErr result (ArePushesRefused limits (field layout children bare) (λ j. all))
   pub begun : IfErr result (λ e. ¬ (e ≡ fault.OutOfMemory)

@@ -5,6 +5,7 @@ pub mod Buffers
 pub mod Columns
 pub mod Limits
 pub mod Writing
+pub mod Fitting
 pub mod Built
 pub mod Numbers
 pub mod Indices

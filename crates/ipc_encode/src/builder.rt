@@ -1,7 +1,7 @@
 //! Builds a record batch from rows.
 ghost use Rattle.std.specs.List.{AllByRecursion};
 ghost use Rattle.std.specs.Prelude.{◌≡◌, ◌≤◌, ◌<◌, ◌↔◌, ◌++◌, List, [], ◌∷◌, pos, length, IsTrue};
-ghost use Rattle.std.specs.Prelude.{Err, IfOk, IfErr, OnOk};
+ghost use Rattle.std.specs.Prelude.{Err, IfOk, IfErr, OnErr, OnOk, false};
 ghost use Rattle.ipc_model.specs.Entries.{entries};
 ghost use Rattle.ipc_model.specs.Fits.{RowFits};
 ghost use Rattle.ipc_model.specs.WellFormed.{IsFieldWellFormed};
@@ -10,10 +10,10 @@ ghost use Rattle.ipc_model.specs.declared.schema.Field.{Field};
 ghost use Rattle.ipc_model.specs.declared.value.Value.{Value};
 ghost use Rattle.ipc_column.specs.Dictionaries.{Dictionaries};
 ghost use Rattle.ipc_column.specs.Rows.{Rows};
-ghost use Rattle.ipc_column.specs.Shapes.{Shape, shape_of};
+ghost use Rattle.ipc_column.specs.Shapes.{Shape, node_count, shape_of};
 ghost use Rattle.ipc_encode.specs.Buffers.{AreLaidOut, row_columns};
-ghost use Rattle.ipc_encode.specs.Built.{HoldColumns, ArePushesRefused, HasFailed, HoldsRows};
-ghost use Rattle.ipc_encode.specs.Built.{BeginsWithRows, HoldsAgreeing, StoresRows};
+ghost use Rattle.ipc_encode.specs.Built.{AreShares, ArePushesRefused, HasFailed, HoldColumns};
+ghost use Rattle.ipc_encode.specs.Built.{BeginsWithRows, HoldsAgreeing, HoldsRows, StoresRows};
 ghost use Rattle.ipc_encode.specs.Faults.{write_fault};
 ghost use Rattle.ipc_encode.specs.Indices.{FindsRows};
 ghost use Rattle.ipc_encode.specs.Limits.{AreRowsRefused, AreColumnsTooLong, IsWithin};
@@ -22,7 +22,7 @@ ghost use Rattle.ipc_encode.specs.Writing.{IsDrafted};
 
 use crate::cut::cut_nodes;
 use crate::fault::PushFault;
-use crate::fitting::remaining_all;
+use crate::fitting::{column_count, remaining_all, shares};
 use crate::index::{IndexOf, Renumber, SameNumbers};
 use crate::parts::{BufferPool, Draft, Parts, add_nodes};
 use crate::tree::{Node, append_parts, new_nodes};
@@ -40,6 +40,9 @@ pub struct Builder {
     nodes: Vec<Node>,
     rows: usize,
     limits: Limits,
+    // What each column keeps to: the limits, or a share of them with which no body is too long.
+    bounds: Limits,
+    is_shared: bool,
     failed: bool,
     // What it holds has no meaning; the body takes its room.
     body: Vec<u8>,
@@ -63,6 +66,7 @@ fn check_len(nodes: &[Node], limits: &Limits) -> Result<(), WriteFault>
 
 // Takes rows, one after another, into columns without values.
 fn push_rows<I: IndexOf>(
+    fields: &[Field],
     nodes: &mut [Node],
     rows: &[Row],
     limits: &Limits,
@@ -80,9 +84,26 @@ fn push_rows<I: IndexOf>(
         → IfErr result (ArePushesRefused limits.now shape (row_columns rows.now)) }
 {
     for row in rows {
-        append_parts(row.as_slice(), nodes, limits, indices)?;
+        append_parts(row.as_slice(), nodes, fields, limits, indices)?;
     }
     Ok(())
+}
+
+// Returns what each of these columns may have, and whether no body is too long with that.
+fn bounds_of(nodes: &[Node], limits: &Limits) -> (Limits, bool)
+    ensures few { result.0.slots ≤ limits.now.slots }
+    ensures less { result.0.body ≤ limits.now.body }
+    ensures shared { (known : Numbering) (kept : Limits) (shape : Shape)
+        → HoldColumns known kept shape nodes.now (λ j. [])
+        → IsTrue result.1 → AreShares limits.now (node_count shape) result.0 }
+{
+    let Some(columns) = column_count(nodes) else {
+        return (*limits, false);
+    };
+    match shares(limits, columns) {
+        Some(bounds) => (bounds, true),
+        None => (*limits, false),
+    }
 }
 
 // The nodes and the buffers of the columns. The body takes the room of a list.
@@ -138,10 +159,13 @@ impl Builder {
         let BufferPool { nodes, body } = room;
         let nodes = new_nodes(fields, nodes, alloc)?;
         check_len(&nodes, limits)?;
+        let (bounds, is_shared) = bounds_of(&nodes, limits);
         Ok(Builder {
             nodes,
             rows: 0,
             limits: *limits,
+            bounds,
+            is_shared,
             failed: false,
             body,
         })
@@ -164,12 +188,14 @@ impl Builder {
             return Err(WriteFault::TooManyRows);
         }
         let mut nodes = new_nodes(fields, Vec::new(alloc), alloc)?;
-        push_rows(&mut nodes, rows, limits, indices)?;
+        push_rows(fields, &mut nodes, rows, limits, indices)?;
         check_len(&nodes, limits)?;
         Ok(Builder {
             nodes,
             rows: rows.len(),
             limits: *limits,
+            bounds: *limits,
+            is_shared: false,
             failed: false,
             body: Vec::new(alloc),
         })
@@ -191,31 +217,42 @@ impl Builder {
         self.rows >= self.limits.slots as usize
     }
 
-    // Appends a row to the columns. After any error but `OutOfMemory` nothing of it is left.
+    // Appends a row to the columns. Returns true only if it fits the fields. After any error but
+    // `OutOfMemory` nothing of it is left.
     #[inline(always)]
-    fn append<I: IndexOf>(&mut self, row: &[Value], indices: &I) -> Result<(), PushFault>
+    fn append<I: IndexOf>(
+        &mut self,
+        fields: &[Field],
+        row: &[Value],
+        indices: &I,
+    ) -> Result<bool, PushFault>
         requires { self.old.rows < self.old.limits.slots }
         ensures appended { (limits : Limits) (fields : List Field) (rows : List (List Value))
             → HoldsRows (index_or_zero (I.IndexOf.index indices.now)) limits fields rows self.old
             → OnOk result (HoldsRows (index_or_zero (I.IndexOf.index indices.now)) limits fields
             (rows ++ row.now ∷ []) self.new) }
+        ensures fits { IfOk result (λ all. IsTrue all → RowFits fields.now row.now) }
         ensures refused { (limits : Limits) (fields : List Field) (rows : List (List Value))
             → HoldsRows (index_or_zero (I.IndexOf.index indices.now)) limits fields rows self.old
-            → IfErr result (λ fault. AreRowsRefused limits fields (rows ++ row.now ∷ [])
-            (write_fault fault)) }
+            → IfErr result (λ fault. AreRowsRefused self.old.bounds fields
+            (rows ++ row.now ∷ []) (write_fault fault)) }
         ensures kept { (limits : Limits) (fields : List Field) (rows : List (List Value))
             → HoldsRows (index_or_zero (I.IndexOf.index indices.now)) limits fields rows self.old
             → IfErr result (λ fault. ¬ (fault ≡ PushFault.OutOfMemory)
             → HoldsRows (index_or_zero (I.IndexOf.index indices.now)) limits fields rows self.new) }
         ensures fails { IfErr result
             (λ fault. fault ≡ PushFault.OutOfMemory → HasFailed self.new) }
+        ensures count { OnErr result (self.new.rows ≡ self.old.rows) }
+        ensures limits { self.new.limits ≡ self.old.limits }
+        ensures bounds { self.new.bounds ≡ self.old.bounds }
+        ensures shared { self.new.is_shared ≡ self.old.is_shared }
     {
         self.failed = true;
-        match append_parts(row, &mut self.nodes, &self.limits, indices) {
-            Ok(()) => {
+        match append_parts(row, &mut self.nodes, fields, &self.bounds, indices) {
+            Ok(all) => {
                 self.rows += 1;
                 self.failed = false;
-                Ok(())
+                Ok(all)
             }
             Err(PushFault::OutOfMemory) => Err(PushFault::OutOfMemory),
             Err(fault) => {
@@ -229,18 +266,34 @@ impl Builder {
     #[cold]
     #[inline(never)]
     fn cut_row(&mut self)
-        ensures { (known : Numbering) (limits : Limits) (fields : List Field)
+        ensures rows { (known : Numbering) (limits : Limits) (fields : List Field)
             (rows : List (List Value))
             → BeginsWithRows known limits fields rows self.old
             → HoldsRows known limits fields rows self.new }
+        ensures count { self.new.rows ≡ self.old.rows }
+        ensures limits { self.new.limits ≡ self.old.limits }
+        ensures bounds { self.new.bounds ≡ self.old.bounds }
+        ensures shared { self.new.is_shared ≡ self.old.is_shared }
     {
         cut_nodes(&mut self.nodes, self.rows);
         self.failed = false;
     }
 
+    // Lets the columns have all that the limits allow. From then on the lengths of the buffers
+    // decide whether a row is within a body.
+    fn unshare(&mut self)
+        ensures { self.new ≡ record self.old { bounds = self.old.limits; is_shared = false } }
+    {
+        self.bounds = self.limits;
+        self.is_shared = false;
+    }
+
     /// Appends one row. For each value other than null in a field with a dictionary it looks up the
-    /// index, or writes 0 if it has none. The row must conform to the fields, and each index must
-    /// fit the field's index type.
+    /// index, or writes 0 if it has none. Each index must fit the field's index type.
+    ///
+    /// `fields` must be those of the builder. Returns true only if the row fits them, as `conforms`
+    /// defines it. If it returns false the row is appended too, so test it by `conforms`, and drop
+    /// it by `pop` if it does not fit.
     ///
     /// Errors, where after W6 and W8 the rows are as before the call:
     ///
@@ -251,11 +304,17 @@ impl Builder {
     /// - W11 `OutOfMemory`: memory for a list ran out. The builder has failed.
     /// - W10 `Failed`: the call comes after W11.
     #[inline(always)]
-    pub fn push<I: IndexOf>(&mut self, row: &[Value], indices: &I) -> Result<(), PushFault>
+    pub fn push<I: IndexOf>(
+        &mut self,
+        fields: &[Field],
+        row: &[Value],
+        indices: &I,
+    ) -> Result<bool, PushFault>
         ensures pushed { (limits : Limits) (fields : List Field) (rows : List (List Value))
             → StoresRows (index_or_zero (I.IndexOf.index indices.now)) limits fields rows self.old
             → OnOk result (StoresRows (index_or_zero (I.IndexOf.index indices.now)) limits fields
             (rows ++ row.now ∷ []) self.new) }
+        ensures fits { IfOk result (λ all. IsTrue all → RowFits fields.now row.now) }
         ensures refused { (limits : Limits) (fields : List Field) (rows : List (List Value))
             → StoresRows (index_or_zero (I.IndexOf.index indices.now)) limits fields rows self.old
             → IfErr result (λ fault. AreRowsRefused limits fields (rows ++ row.now ∷ [])
@@ -275,16 +334,65 @@ impl Builder {
         if self.is_full() {
             return Err(PushFault::TooMany);
         }
+        if !self.is_shared {
+            return self.push_exactly(fields, row, indices);
+        }
+        match self.append(fields, row, indices) {
+            Ok(all) => Ok(all),
+            Err(PushFault::OutOfMemory) => Err(PushFault::OutOfMemory),
+            Err(_) => self.push_exactly(fields, row, indices),
+        }
+    }
+
+    // Appends a row, if the lengths of all buffers are then within a body.
+    #[cold]
+    #[inline(never)]
+    fn push_exactly<I: IndexOf>(
+        &mut self,
+        fields: &[Field],
+        row: &[Value],
+        indices: &I,
+    ) -> Result<bool, PushFault>
+        requires { self.old.rows < self.old.limits.slots }
+        ensures pushed { (limits : Limits) (fields : List Field) (rows : List (List Value))
+            → StoresRows (index_or_zero (I.IndexOf.index indices.now)) limits fields rows self.old
+            → OnOk result (StoresRows (index_or_zero (I.IndexOf.index indices.now)) limits fields
+            (rows ++ row.now ∷ []) self.new) }
+        ensures fits { IfOk result (λ all. IsTrue all → RowFits fields.now row.now) }
+        ensures refused { (limits : Limits) (fields : List Field) (rows : List (List Value))
+            → StoresRows (index_or_zero (I.IndexOf.index indices.now)) limits fields rows self.old
+            → IfErr result (λ fault. AreRowsRefused limits fields (rows ++ row.now ∷ [])
+            (write_fault fault)) }
+        ensures kept { (limits : Limits) (fields : List Field) (rows : List (List Value))
+            → StoresRows (index_or_zero (I.IndexOf.index indices.now)) limits fields rows self.old
+            → IfErr result (λ fault. ¬ (fault ≡ PushFault.OutOfMemory)
+            → StoresRows (index_or_zero (I.IndexOf.index indices.now)) limits fields rows
+            self.new) }
+        ensures fails { IfErr result
+            (λ fault. fault ≡ PushFault.OutOfMemory → HasFailed self.new) }
+    {
+        self.unshare();
         let rows = self.rows;
-        self.append(row, indices)?;
+        let all = self.append(fields, row, indices)?;
         match check_len(&self.nodes, &self.limits) {
-            Ok(()) => Ok(()),
+            Ok(()) => Ok(all),
             Err(_) => {
                 self.rows = rows;
                 self.cut_row();
                 Err(PushFault::TooLong)
             }
         }
+    }
+
+    /// Drops the last row. Without rows the builder is unchanged. It takes no memory.
+    pub fn pop(&mut self)
+        ensures { (known : Numbering) (limits : Limits) (fields : List Field)
+            (rows : List (List Value)) (row : List Value)
+            → StoresRows known limits fields (rows ++ row ∷ []) self.old
+            → StoresRows known limits fields rows self.new }
+    {
+        self.rows = self.rows.saturating_sub(1);
+        self.cut_row();
     }
 
     /// Returns the parts of the rows. Each index under which a value was pushed is replaced by its

@@ -10,8 +10,8 @@ ghost use Rattle.ipc_model.specs.declared.layout.Layout.TheVariants.{Lists, Vari
 ghost use Rattle.ipc_model.specs.declared.limits.Limits.{Limits};
 ghost use Rattle.ipc_model.specs.declared.value.Value.{Value};
 ghost use Rattle.ipc_encode.specs.Buffers.{column_nulls};
-ghost use Rattle.ipc_encode.specs.Built.{AreContents, AreListEnds, HoldsValues, data_layout};
-ghost use Rattle.ipc_encode.specs.Built.{IsColumn, IsPushRefused};
+ghost use Rattle.ipc_encode.specs.Built.{AreBytesWithin, AreContents, AreListEnds, HoldsValues};
+ghost use Rattle.ipc_encode.specs.Built.{IsColumn, IsPushRefused, data_layout};
 ghost use Rattle.ipc_encode.specs.Cells.{slot_bytes};
 ghost use Rattle.ipc_encode.specs.Columns.{validity_in, data_in};
 ghost use Rattle.ipc_encode.specs.Numbers.{Numbering, index_of, index_or_zero, indices_of};
@@ -133,6 +133,8 @@ fn push_content(
     ensures pushed { (vs : List Value) → AreContents vs offsets.old.items values.old.items
         → OnOk result
         (AreContents (vs ++ value.now ∷ []) offsets.new.items values.new.items) }
+    ensures bytes { (vs : List Value) → AreContents vs offsets.old.items values.old.items
+        → OnOk result (data_in (VariableBytes utf8) (vs ++ value.now ∷ []) ≤ limits.now.body) }
     ensures refused { (vs : List Value) → AreContents vs offsets.old.items values.old.items
         → IfErr result (IsPushRefused limits.now (VariableBytes utf8) (vs ++ value.now ∷ [])) }
     ensures kept { (vs : List Value) → AreContents vs offsets.old.items values.old.items
@@ -340,6 +342,10 @@ impl ColumnData {
             → OnOk result (HoldsValues (index_or_zero (I.IndexOf.index indices.now))
             (vs ++ value.now ∷ []) self.new) }
         ensures layout { data_layout self.new ≡ data_layout self.old }
+        ensures bytes { (vs : List Value)
+            → HoldsValues (index_or_zero (I.IndexOf.index indices.now)) vs self.old
+            → OnOk result (AreBytesWithin limits.now (data_layout self.old)
+            (data_in (data_layout self.old) (vs ++ value.now ∷ []))) }
         ensures refused { (vs : List Value)
             → HoldsValues (index_or_zero (I.IndexOf.index indices.now)) vs self.old
             → length vs ≡ slots

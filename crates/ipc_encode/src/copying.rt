@@ -291,7 +291,7 @@ fn take_each<I: IndexOf>(
     let alloc = *node.children.allocator();
     for row in 0..batch.rows() {
         let value = cell_at(alloc, batch, row, column)?;
-        append(&value, node, limits, indices)?;
+        append(&value, node, None, limits, indices)?;
     }
     Ok(())
 }

@@ -6,7 +6,7 @@ ghost use Rattle.ipc_model.specs.declared.layout.Layout.{Layout};
 ghost use Rattle.ipc_model.specs.declared.limits.Limits.{Limits};
 ghost use Rattle.ipc_model.specs.declared.value.Value.{Value};
 ghost use Rattle.ipc_encode.specs.Buffers.{column_buffers, padded_bytes};
-ghost use Rattle.ipc_encode.specs.Built.{IsColumn, AreCountsOf, IsPushRefused};
+ghost use Rattle.ipc_encode.specs.Built.{AreBytesWithin, AreCountsOf, IsColumn, IsPushRefused};
 ghost use Rattle.ipc_encode.specs.Cells.{nulls, is_set, number_bits, content, items};
 ghost use Rattle.ipc_encode.specs.Cells.{HasUtf8};
 ghost use Rattle.ipc_encode.specs.Columns.{data_in, value_len, ExceedsOffsets, offsets_length};
@@ -106,6 +106,7 @@ pub(crate) fn check_amount(layout: Layout, amount: usize, limits: &Limits) -> Re
     ensures refused { (values : List Value) → data_in layout values ≡ amount
         → IfErr result (IsPushRefused limits.now layout values) }
     ensures few { OnOk result (amount ≤ max_body) }
+    ensures bytes { OnOk result (AreBytesWithin limits.now layout amount) }
     ensures memory { IfErr result (λ fault. ¬ (fault ≡ PushFault.OutOfMemory)) }
 {
     match layout {

@@ -1,15 +1,20 @@
 //! Columns with their children: what a value adds to them.
-ghost use Rattle.std.specs.Prelude.{◌≡◌, ◌↔◌, length, IsTrue, [], IfOk, ◌<◌, ◌^◌, ◌++◌, ℕ, List};
-ghost use Rattle.std.specs.Prelude.{◌∷◌, IfErr, OnOk, replicate};
+ghost use Rattle.std.specs.Prelude.{◌≡◌, ◌≤◌, ◌↔◌, length, IsTrue, [], IfOk, ◌<◌, ◌^◌, ◌++◌, ℕ};
+ghost use Rattle.std.specs.Prelude.{List};
+ghost use Rattle.std.specs.Prelude.{◌∷◌, IfErr, IfSome, OnOk, option_copied, replicate};
+ghost use Rattle.std.specs.List.{AllByRecursion};
+ghost use Rattle.ipc_model.specs.Fits.{RowFits};
 ghost use Rattle.ipc_model.specs.declared.layout.Layout.{Layout};
 ghost use Rattle.ipc_model.specs.declared.limits.Limits.{Limits};
+ghost use Rattle.ipc_model.specs.declared.schema.Field.{out-Field};
 ghost use Rattle.ipc_model.specs.declared.value.Value.{Value};
 ghost use Rattle.ipc_model.specs.declared.value.Value.TheVariants.{Null};
 ghost use Rattle.ipc_column.specs.Shapes.{field_shape, shape_of, Shape, bare, field};
 ghost use Rattle.ipc_encode.specs.Buffers.{child_values, nulls_below};
 ghost use Rattle.ipc_encode.specs.Built.{Appends, AppendsTo, ArePushesRefused, BeginsWith};
 ghost use Rattle.ipc_encode.specs.Built.{HoldColumns, IsColumn, IsNode};
-ghost use Rattle.ipc_encode.specs.Cells.{cell};
+ghost use Rattle.ipc_encode.specs.Cells.{cell, items};
+ghost use Rattle.ipc_encode.specs.Fitting.{FitsOwn, FitsSome, InsideFits, ItemsFit};
 ghost use Rattle.ipc_encode.specs.Numbers.{Numbering, index_or_zero};
 ghost use Rattle.ipc_encode.specs.declared.tree.Node.{out-Node};
 
@@ -159,7 +164,59 @@ fn append_nulls<I: IndexOf>(
     Ok(())
 }
 
+// Returns whether a value fits the field, without a check of the values inside it. No value fits an
+// absent field.
+#[inline(always)]
+fn fits_own(field: Option<&Field>, value: &Value) -> bool
+    ensures { IsTrue result → FitsOwn (option_copied field.entry) value.now }
+{
+    match field {
+        Some(field) => field.fits_own_type(value),
+        None => false,
+    }
+}
+
+// Returns true only if a value fits the field, which has no children.
+#[inline(always)]
+fn fits_leaf(field: Option<&Field>, value: &Value) -> bool
+    ensures { IsTrue result → FitsSome (option_copied field.entry) value.now }
+{
+    match field {
+        Some(field) => field.children.is_empty() && field.fits_own_type(value),
+        None => false,
+    }
+}
+
+// Returns the fields of the children.
+#[inline(always)]
+fn children_of(field: Option<&Field>) -> &[Field]
+    ensures { IfSome (option_copied field.entry) (λ f. result.now ≡ (out-Field f).children) }
+{
+    match field {
+        Some(field) => field.children.as_slice(),
+        None => &[],
+    }
+}
+
+// Returns whether a value has no values inside it.
+fn is_flat(value: &Value) -> bool
+    ensures { (fields : List Field) → IsTrue result → InsideFits fields value.now }
+{
+    !matches!(value, Value::List(_) | Value::Struct(_))
+}
+
+// Returns whether a value is a list, or has no values inside it.
+#[inline(always)]
+fn is_no_struct(value: &Value) -> bool
+    ensures { (fields : List Field) → IsTrue result → ItemsFit fields (items value.now)
+        → InsideFits fields value.now }
+{
+    !matches!(value, Value::Struct(_))
+}
+
 /// Appends a value to a column, and to its children the items of a list or the values of a struct.
+/// Returns true only if the value fits the field. A value that does not is stored as null is, or
+/// with the bits that its layout takes.
 ///
 /// The errors are those of `ColumnBuilder::push`, from any of these columns. After any error but
 /// `OutOfMemory` each column begins with what it held.
@@ -168,19 +225,23 @@ fn append_nulls<I: IndexOf>(
 pub(crate) fn append<I: IndexOf>(
     value: &Value,
     node: &mut Node,
+    field: Option<&Field>,
     limits: &Limits,
     indices: &I,
-) -> Result<(), PushFault>
-    ensures { (layout : Layout) (children : Shape) (values : List Value)
+) -> Result<bool, PushFault>
+    ensures appended { (layout : Layout) (children : Shape) (values : List Value)
         → IsNode (IsColumn (index_or_zero (I.IndexOf.index indices.now)) limits.now) layout children
         node.old values
         → AppendsTo (index_or_zero (I.IndexOf.index indices.now)) limits.now layout children values
         (values ++ value.now ∷ []) node.new result }
+    ensures fits { IfOk result (λ all. IsTrue all
+        → FitsSome (option_copied field.entry) value.now) }
 {
     if node.is_leaf() {
-        return node.column.push(value, limits, indices);
+        node.column.push(value, limits, indices)?;
+        return Ok(fits_leaf(field, value));
     }
-    append_deep(value, node, limits, indices)
+    append_deep(value, node, field, limits, indices)
 }
 
 // Appends a value to a column with children: first to the children.
@@ -188,116 +249,159 @@ pub(crate) fn append<I: IndexOf>(
 fn append_deep<I: IndexOf>(
     value: &Value,
     node: &mut Node,
+    field: Option<&Field>,
     limits: &Limits,
     indices: &I,
-) -> Result<(), PushFault>
-    ensures { (layout : Layout) (children : Shape) (values : List Value)
+) -> Result<bool, PushFault>
+    ensures appended { (layout : Layout) (children : Shape) (values : List Value)
         → IsNode (IsColumn (index_or_zero (I.IndexOf.index indices.now)) limits.now) layout children
         node.old values
         → AppendsTo (index_or_zero (I.IndexOf.index indices.now)) limits.now layout children values
         (values ++ value.now ∷ []) node.new result }
+    ensures fits { IfOk result (λ all. IsTrue all
+        → FitsSome (option_copied field.entry) value.now) }
 {
-    append_below(
+    let inside = append_below(
         value,
         node.column.data.layout(),
         &mut node.children,
+        children_of(field),
         limits,
         indices,
     )?;
-    node.column.push(value, limits, indices)
+    node.column.push(value, limits, indices)?;
+    Ok(inside & fits_own(field, value))
 }
 
-// Appends what a value of a column of this layout gives to the columns below it.
+// Appends what a value of a column of this layout gives to the columns below it. Returns true only
+// if the values inside it fit the fields of these columns.
 #[cycle(append)]
 #[inline(always)]
 fn append_below<I: IndexOf>(
     value: &Value,
     layout: Layout,
     nodes: &mut [Node],
+    fields: &[Field],
     limits: &Limits,
     indices: &I,
-) -> Result<(), PushFault>
-    ensures { (shape : Shape) (values : List Value)
+) -> Result<bool, PushFault>
+    ensures appended { (shape : Shape) (values : List Value)
         → HoldColumns (index_or_zero (I.IndexOf.index indices.now)) limits.now shape nodes.old
         (child_values layout values)
         → Appends (index_or_zero (I.IndexOf.index indices.now)) limits.now shape
         (child_values layout values)
         (child_values layout (values ++ value.now ∷ [])) nodes.new result }
+    ensures fits { IfOk result (λ all. IsTrue all → InsideFits fields.now value.now) }
 {
     match layout {
-        Layout::Lists => append_items(items(value), nodes, limits, indices),
+        Layout::Lists => {
+            let fit = append_items(items(value), nodes, fields, limits, indices)?;
+            Ok(fit & is_no_struct(value))
+        }
         Layout::FixedLists(size) => match value {
             Value::List(items) if items.as_slice().len() == size as usize => {
-                append_items(items.as_slice(), nodes, limits, indices)
+                append_items(items.as_slice(), nodes, fields, limits, indices)
             }
-            _ => append_nulls(nodes, nulls_below(layout), limits, indices),
+            _ => {
+                append_nulls(nodes, nulls_below(layout), limits, indices)?;
+                Ok(is_flat(value))
+            }
         },
         Layout::Structs => match value {
-            Value::Struct(parts) => append_parts(parts.as_slice(), nodes, limits, indices),
-            _ => append_nulls(nodes, nulls_below(layout), limits, indices),
+            Value::Struct(parts) => {
+                append_parts(parts.as_slice(), nodes, fields, limits, indices)
+            }
+            _ => {
+                append_nulls(nodes, nulls_below(layout), limits, indices)?;
+                Ok(is_flat(value))
+            }
         },
-        _ => Ok(()),
+        _ => Ok(is_flat(value)),
     }
 }
 
-// Appends all items to each column: a list has one child.
+// Appends all items to each column: a list has one child. Returns true only if they fit the first
+// field, or there is none.
 #[cycle(append)]
 #[inline(always)]
 fn append_items<I: IndexOf>(
     items: &[Value],
     nodes: &mut [Node],
+    fields: &[Field],
     limits: &Limits,
     indices: &I,
-) -> Result<(), PushFault>
-    ensures { (shape : Shape) (given : ℕ → List Value)
+) -> Result<bool, PushFault>
+    ensures appended { (shape : Shape) (given : ℕ → List Value)
         → HoldColumns (index_or_zero (I.IndexOf.index indices.now)) limits.now shape nodes.old given
         → Appends (index_or_zero (I.IndexOf.index indices.now)) limits.now shape given
         (λ j. given j ++ items.now) nodes.new result }
+    ensures fits { IfOk result (λ all. IsTrue all → ItemsFit fields.now items.now) }
 {
+    let mut fit = false;
     for i in 0..nodes.len() {
-        append_all(items, &mut nodes[i], limits, indices)?;
+        fit = append_all(items, &mut nodes[i], fields.first(), limits, indices)?;
     }
-    Ok(())
+    Ok(fit)
 }
 
-// Appends values, one after another, to one column.
+// Appends values, one after another, to one column. Returns true only if each fits the field.
 #[cycle(append)]
 fn append_all<I: IndexOf>(
     values: &[Value],
     node: &mut Node,
+    field: Option<&Field>,
     limits: &Limits,
     indices: &I,
-) -> Result<(), PushFault>
-    ensures { (layout : Layout) (children : Shape) (before : List Value)
+) -> Result<bool, PushFault>
+    ensures appended { (layout : Layout) (children : Shape) (before : List Value)
         → IsNode (IsColumn (index_or_zero (I.IndexOf.index indices.now)) limits.now) layout children
         node.old before
         → AppendsTo (index_or_zero (I.IndexOf.index indices.now)) limits.now layout children before
         (before ++ values.now) node.new result }
+    ensures fits { IfOk result (λ all. IsTrue all
+        → AllByRecursion (FitsSome (option_copied field.entry)) values.now) }
 {
+    let mut fit = true;
     for value in values {
-        append(value, node, limits, indices)?;
+        let one = append(value, node, field, limits, indices)?;
+        fit &= one;
     }
-    Ok(())
+    Ok(fit)
 }
 
-/// Appends the value of each column, or null if there is none. The errors are those of `append`.
+// Returns whether there is one part for each field, and a column for each.
+fn have_fields(parts: &[Value], nodes: &[Node], fields: &[Field]) -> bool
+    ensures parts { IsTrue result → length parts.now ≡ length fields.now }
+    ensures columns { IsTrue result → length fields.now ≤ length nodes.now }
+{
+    parts.len() == fields.len() && fields.len() <= nodes.len()
+}
+
+/// Appends the value of each column, or null if there is none. Returns true only if there is one
+/// value for each field, and each fits. The errors are those of `append`.
 #[cycle(append)]
 pub(crate) fn append_parts<I: IndexOf>(
     parts: &[Value],
     nodes: &mut [Node],
+    fields: &[Field],
     limits: &Limits,
     indices: &I,
-) -> Result<(), PushFault>
-    ensures { (shape : Shape) (given : ℕ → List Value)
+) -> Result<bool, PushFault>
+    ensures appended { (shape : Shape) (given : ℕ → List Value)
         → HoldColumns (index_or_zero (I.IndexOf.index indices.now)) limits.now shape nodes.old given
         → Appends (index_or_zero (I.IndexOf.index indices.now)) limits.now shape given
         (λ j. given j ++ cell j parts.now ∷ []) nodes.new result }
+    ensures fits { IfOk result (λ all. IsTrue all → RowFits fields.now parts.now) }
 {
+    let mut fit = have_fields(parts, nodes, fields);
     for i in 0..nodes.len() {
         match parts.get(i) {
-            Some(part) => append(part, &mut nodes[i], limits, indices)?,
+            Some(part) => {
+                let one = append(part, &mut nodes[i], fields.get(i), limits, indices)?;
+                fit &= one;
+            }
             None => append_null(&mut nodes[i], 1, limits, indices)?,
         }
     }
-    Ok(())
+    Ok(fit)
 }

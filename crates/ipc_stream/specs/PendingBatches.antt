@@ -2,6 +2,7 @@
 use Rattle.std.specs.Prelude.{◌≡◌, ℕ, Bool, true, false, List, [], ◌∷◌, ◌++◌, Result, Ok, Err}
 use Rattle.std.specs.Coded.{Coded, coded_list}
 use Rattle.ipc_model.specs.contracts.schema.Field as field
+use Rattle.ipc_model.specs.Fits.{RowFits}
 use Rattle.ipc_model.specs.declared.fault.WriteFault.{WriteFault}
 use Rattle.ipc_model.specs.declared.fault.WriteFault.TheVariants as w
 use Rattle.ipc_model.specs.declared.limits.Limits.{Limits}
@@ -46,6 +47,20 @@ pub record HoldsBatch (limits : Limits) (s : Schema) (b : BatchRows)
   pub tally : HasCounted limits s.fields b.rows held.tally
   pub rows : StoresRows (index_or_zero (place_of_value (tally_of_rows s.fields b.rows))) limits
       s.fields b.rows
+      held.builder
+  pub pairs : held.pairs ≡ b.pairs
+  pub accepted : AcceptsBatch limits s b
+
+-- the batch was held, and this row was stored after its rows; if it fits the schema, the batch with
+-- the row is held. The tally can be cut back
+pub record HasTaken (limits : Limits) (s : Schema) (b : BatchRows) (row : List Value)
+    (held : PendingBatch) : Type 0 where
+  pub fits : RowFits s.fields row → HoldsBatch limits s (with_row b row) held
+  pub before : HasCounted limits s.fields b.rows
+      (record held.tally { entries = held.tally.before })
+  pub rows : StoresRows
+      (index_or_zero (place_of_value (tally_of_rows s.fields (b.rows ++ row ∷ [])))) limits s.fields
+      (b.rows ++ row ∷ [])
       held.builder
   pub pairs : held.pairs ≡ b.pairs
   pub accepted : AcceptsBatch limits s b

@@ -1,4 +1,5 @@
-ghost use Rattle.std.specs.Prelude.{◌≡◌, ℕ, List, [], false, IfErr, IfOk, OnOk, MatchResult};
+ghost use Rattle.std.specs.Prelude.{◌≡◌, ℕ, List, [], false, IfErr, IfOk, IsTrue, MatchResult};
+ghost use Rattle.std.specs.Prelude.{OnErr, OnOk};
 ghost use Rattle.ipc_model.specs.Fits.{RowFits};
 ghost use Rattle.ipc_model.specs.RowFaults.{HasShortPaths};
 ghost use Rattle.ipc_model.specs.WellFormed.{WellFormed};
@@ -11,13 +12,14 @@ ghost use Rattle.ipc_encode.specs.Limits.{IsWithin};
 ghost use Rattle.ipc_dict.specs.Within.{HaveShortMessages};
 ghost use Rattle.ipc_stream.specs.Parts.{AcceptsPairs};
 ghost use Rattle.ipc_stream.specs.Writing.{RefusesBatch};
-ghost use Rattle.ipc_stream.specs.PendingBatches.{HoldsBatch, RefusesPending, StaysInStream};
+ghost use Rattle.ipc_stream.specs.PendingBatches.{HasTaken, HoldsBatch, RefusesPending};
+ghost use Rattle.ipc_stream.specs.PendingBatches.{StaysInStream};
 ghost use Rattle.ipc_stream.specs.PendingBatches.{no_rows, with_row, with_rows};
 
 use crate::messages::parts_message;
 use ipc_dict::{Seed, Tally};
 use ipc_encode::{BufferPool, Builder, NoIndices, PushFault, encode};
-use ipc_model::{Items, Limits, Row, Schema, Text, Value, WriteFault, conforms};
+use ipc_model::{Field, Items, Limits, Row, Schema, Text, Value, WriteFault, conforms};
 use std::alloc::Global;
 
 /// The rows of a batch that is not sent yet, and its pairs (Message.fbs, RecordBatch).
@@ -75,14 +77,14 @@ impl PendingBatch {
         })
     }
 
-    // Adds one row that fits the schema. After W11 the batch is unusable. After any other error it
-    // is unchanged.
+    // Adds one row. Returns true only if it fits the schema. After W11 the batch is unusable. After
+    // any other error it is unchanged.
     #[inline(always)]
-    fn take(&mut self, row: &[Value]) -> Result<(), PushFault>
+    fn take(&mut self, fields: &[Field], row: &[Value]) -> Result<bool, PushFault>
         ensures stays { StaysInStream self.old self.new }
-        ensures holds { (limits : Limits) (s : Schema) (b : BatchRows) → WellFormed limits s
-            → RowFits s.fields row.now → HoldsBatch limits s b self.old
-            → OnOk result (HoldsBatch limits s (with_row b row.now) self.new) }
+        ensures fits { IfOk result (λ all. IsTrue all → RowFits fields.now row.now) }
+        ensures taken { (limits : Limits) (s : Schema) (b : BatchRows) → WellFormed limits s
+            → HoldsBatch limits s b self.old → OnOk result (HasTaken limits s b row.now self.new) }
         ensures refused { (limits : Limits) (s : Schema) (b : BatchRows) → WellFormed limits s
             → HoldsBatch limits s b self.old
             → IfErr result (λ fault. RefusesPending limits s (with_row b row.now) false
@@ -93,12 +95,65 @@ impl PendingBatch {
             → HoldsBatch limits s b self.new) }
     {
         self.tally.note(row)?;
-        match self.builder.push(row, &self.tally) {
-            Ok(()) => Ok(()),
+        match self.builder.push(fields, row, &self.tally) {
+            Ok(all) => Ok(all),
             Err(fault) => {
                 self.tally.cut();
                 Err(fault)
             }
+        }
+    }
+
+    // Drops the row that was taken last.
+    fn drop_last(&mut self)
+        ensures stays { StaysInStream self.old self.new }
+        ensures holds { (limits : Limits) (s : Schema) (b : BatchRows) (row : List Value)
+            → WellFormed limits s → HasTaken limits s b row self.old
+            → HoldsBatch limits s b self.new }
+    {
+        self.builder.pop();
+        self.tally.cut();
+    }
+
+    // Keeps the row that was taken last if it fits the schema, and else drops it.
+    #[cold]
+    #[inline(never)]
+    fn check_last(&mut self, schema: &Schema, row: &[Value]) -> Result<(), WriteFault>
+        requires { HasShortPaths schema.now }
+        ensures stays { StaysInStream self.old self.new }
+        ensures holds { (limits : Limits) (b : BatchRows) → WellFormed limits schema.now
+            → HasTaken limits schema.now b row.now self.old
+            → OnOk result (HoldsBatch limits schema.now (with_row b row.now) self.new) }
+        ensures refused { (limits : Limits) (b : BatchRows) → WellFormed limits schema.now
+            → HasTaken limits schema.now b row.now self.old
+            → IfErr result (RefusesPending limits schema.now (with_row b row.now) false) }
+        ensures kept { (limits : Limits) (b : BatchRows) → WellFormed limits schema.now
+            → HasTaken limits schema.now b row.now self.old
+            → OnErr result (HoldsBatch limits schema.now b self.new) }
+    {
+        match conforms(schema, row) {
+            Ok(()) => Ok(()),
+            Err(fault) => {
+                self.drop_last();
+                Err(fault.at_row(self.builder.row_count() as u64))
+            }
+        }
+    }
+
+    // Returns the fault of a row that was not taken: its first misfit, if it does not fit the
+    // schema.
+    #[cold]
+    #[inline(never)]
+    fn first_fault(&self, schema: &Schema, row: &[Value], fault: PushFault) -> WriteFault
+        requires { HasShortPaths schema.now }
+        ensures { (limits : Limits) (b : BatchRows)
+            → HoldsBatch limits schema.now b self.now
+            → RefusesPending limits schema.now (with_row b row.now) false (write_fault fault)
+            → RefusesPending limits schema.now (with_row b row.now) false result }
+    {
+        match conforms(schema, row) {
+            Ok(()) => fault.into(),
+            Err(misfit) => misfit.at_row(self.builder.row_count() as u64),
         }
     }
 
@@ -118,11 +173,12 @@ impl PendingBatch {
             → IfErr result (λ fault. ¬ (fault ≡ WriteFault.OutOfMemory)
             → HoldsBatch limits schema.now b self.new) }
     {
-        if let Err(fault) = conforms(schema, row) {
-            return Err(fault.at_row(self.builder.row_count() as u64));
+        match self.take(schema.fields.as_slice(), row) {
+            Ok(true) => Ok(()),
+            Ok(false) => self.check_last(schema, row),
+            Err(PushFault::OutOfMemory) => Err(WriteFault::OutOfMemory),
+            Err(fault) => Err(self.first_fault(schema, row, fault)),
         }
-        self.take(row)?;
-        Ok(())
     }
 
     // Takes several rows, one after another, in a batch without rows.

@@ -1,6 +1,6 @@
 -- What the calls of a session do to its decoder, and what the session keeps.
 use Rattle.std.specs.Prelude.{◌≡◌, ◌≢◌, ℕ, List, [], Option, Some, None, Result, Ok, Err}
-use Rattle.std.specs.Prelude.{string_bytes}
+use Rattle.std.specs.Prelude.{IfOk, IfSome, MatchResult, string_bytes}
 use Rattle.std.specs.declared.alloc.Global.{Global}
 use Rattle.std.specs.declared.string.String.{String}
 use Rattle.ipc_model.specs.declared.fault.Fault.{Fault}
@@ -48,13 +48,26 @@ abbrev pub with_refusal : Option FaultAt → Fault → ℕ → Option FaultAt
 with_refusal None fault message = Some (record { fault = fault; message = message })
 with_refusal (Some first) fault message = Some first
 
+-- no list is kept, as after a refusal
+abbrev pub KeepsNoList : d.Decoding → Type 0
+KeepsNoList decoder = d.DropsLists d.refused decoder.room
+
+-- all that `Decoder::feed` promises: how the piece is taken, that the limits stay, that a batch has
+-- a column for each field of the schema, and that no list is kept with an event or a refusal
+pub record FeedsDecoder (old : d.Decoding) (piece : List ℕ) (new : d.Decoding)
+    (r : Result (ℕ × Option Event) Fault) : Type 0 where
+  pub fed : d.Feeds old piece new r
+  pub limits : new.limits ≡ old.limits
+  pub columns : IfOk r (λ found. IfSome found.1 (d.HasColumns new.state))
+  pub moved : MatchResult r (λ found. IfSome found.1 (λ _. KeepsNoList new)) (λ _. KeepsNoList new)
+
 -- the decoder takes the piece as `Decoder::feed` does. The session has the batch of the event, and
 -- the first refusal
 abbrev pub Feeds : ReadSession → List ℕ → ReadSession → Result (ℕ × Arrival) Fault → Type 0
 Feeds old piece new (Ok r) = (event : Option Event)
-    × d.Feeds old.decoder piece new.decoder (Ok (r.0, event)) × (r.1 ≡ arrival_of event)
+    × FeedsDecoder old.decoder piece new.decoder (Ok (r.0, event)) × (r.1 ≡ arrival_of event)
     × batch_in event new.batch × (new.refusal ≡ old.refusal)
-Feeds old piece new (Err fault) = d.Feeds old.decoder piece new.decoder (Err fault)
+Feeds old piece new (Err fault) = FeedsDecoder old.decoder piece new.decoder (Err fault)
     × (new.batch ≡ None) × (new.refusal ≡ with_refusal old.refusal fault new.decoder.messages)
 
 -- the refusal that is kept after a call with this result
@@ -62,10 +75,12 @@ abbrev pub refusal_after : ReadSession → ReadSession → Result End Fault → 
 refusal_after old new (Ok end) = old.refusal
 refusal_after old new (Err fault) = with_refusal old.refusal fault new.decoder.messages
 
--- the decoder ends the input as `Decoder::close` does, and the session has the first refusal
+-- the decoder ends the input as `Decoder::close` does, and keeps no list. The session has the first
+-- refusal
 abbrev pub Closes : ReadSession → ReadSession → Result End Fault → Type 0
 Closes old new r = d.ClosesAt old.decoder old.decoder.stage new.decoder r
-    × (new.batch ≡ old.batch) × (new.refusal ≡ refusal_after old new r)
+    × KeepsNoList new.decoder × (new.batch ≡ old.batch)
+    × (new.refusal ≡ refusal_after old new r)
 
 -- only the room for the next body may be another, and there is none after the end or a refusal
 pub record TakesBack (old new : ReadSession) : Type 0 where

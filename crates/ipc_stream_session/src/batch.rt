@@ -10,7 +10,7 @@ use crate::copy::copy_into;
 use ipc_column::{Batch, SlotView};
 use ipc_model::{Fault, Items, Text};
 use ipc_text_json::pairs_json;
-use std::alloc::Global;
+use std::alloc::{AllocError, Global};
 
 /// A record batch with the pairs of key and value of its message (Message.fbs, tables RecordBatch
 /// and Message, `custom_metadata`).
@@ -19,6 +19,21 @@ pub struct ReadBatch {
     batch: Batch,
     pairs: Items<(Text, Text)>,
     alloc: Global,
+}
+
+impl Clone for ReadBatch {
+    ghost use Rattle.std.specs.Prelude.{◌≡◌};
+
+    ghost is_clone = { λ batch copy. copy ≡ batch };
+
+    /// Returns a batch that shares the body, and has a copy of the pairs.
+    fn clone(&self) -> Result<ReadBatch, AllocError> {
+        Ok(ReadBatch {
+            batch: self.batch.clone()?,
+            pairs: self.pairs.clone()?,
+            alloc: self.alloc,
+        })
+    }
 }
 
 impl ReadBatch {

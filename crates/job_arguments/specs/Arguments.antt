@@ -10,7 +10,8 @@ use Rattle.clap.specs.declared.builder.command.Command.TheViews.{out-Command}
 use Rattle.clap.specs.declared.error.kind.ErrorKind.{ErrorKind}
 use Rattle.clap.specs.declared.error.kind.ErrorKind.TheVariants as kind
 use Rattle.ipc_text_csv.specs.Dialects.{IsDialect}
-use Rattle.ipc_model.specs.MaxLimits.{max_body, max_metadata, max_slots}
+use Rattle.ipc_model.specs.MaxLimits.{max_body, max_depth, max_fields, max_metadata, max_pairs}
+use Rattle.ipc_model.specs.MaxLimits.{max_slots, max_text}
 use Rattle.ipc_model.specs.declared.limits.Limits.{Limits}
 use Rattle.job_arguments.specs.CommandLine.{arrowstream}
 use Rattle.job_arguments.specs.declared.csv_dialect.CsvDialect.{CsvDialect}
@@ -48,21 +49,25 @@ LacksCount name least greatest rows =
 abbrev pub HasFlag : Text → List Row → Bool → Type 0
 HasFlag name rows flag = IsTrue flag ↔ (one_of name rows ≡ Some (codes "true"))
 
--- the options of a subcommand ask for these limits; the others are the standard ones
+-- the options of a subcommand ask for these limits
 pub record AskForLimits (rows : List Row) (limits : Limits) : Type 0 where
   pub metadata : HasNumber (codes "max-metadata") 0 max_metadata rows limits.metadata
   pub body : HasNumber (codes "max-body") 0 max_body rows limits.body
   pub slots : HasNumber (codes "max-rows") 0 max_slots rows limits.slots
-  pub fields : limits.fields ≡ 65536
-  pub depth : limits.depth ≡ 64
-  pub text : limits.text ≡ 2 ^ 26
-  pub pairs : limits.pairs ≡ 2 ^ 20
+  pub fields : HasNumber (codes "max-fields") 0 max_fields rows limits.fields
+  pub depth : HasNumber (codes "max-depth") 0 max_depth rows limits.depth
+  pub text : HasNumber (codes "max-text") 0 max_text rows limits.text
+  pub pairs : HasNumber (codes "max-pairs") 0 max_pairs rows limits.pairs
 
 -- one of the limits is no number from 0 to its greatest value
 abbrev pub HasWrongLimit : List Row → Type 0
 HasWrongLimit rows = LacksNumber (codes "max-metadata") 0 max_metadata rows
     ⊎ (LacksNumber (codes "max-body") 0 max_body rows
-    ⊎ LacksNumber (codes "max-rows") 0 max_slots rows)
+    ⊎ (LacksNumber (codes "max-rows") 0 max_slots rows
+    ⊎ (LacksNumber (codes "max-fields") 0 max_fields rows
+    ⊎ (LacksNumber (codes "max-depth") 0 max_depth rows
+    ⊎ (LacksNumber (codes "max-text") 0 max_text rows
+    ⊎ LacksNumber (codes "max-pairs") 0 max_pairs rows)))))
 
 -- the options ask for this dialect of CSV: the delimiter is one byte
 pub record AskForDialect (rows : List Row) (dialect : CsvDialect) : Type 0 where

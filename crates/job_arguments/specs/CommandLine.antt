@@ -1,7 +1,8 @@
 -- The command line of the program, in the words of the crate `clap`: its subcommands and their
 -- options.
 use Rattle.std.specs.Prelude.{ℕ, ◌^◌, ◌-◌, [], ◌∷◌, Some, codes, true}
-use Rattle.ipc_model.specs.MaxLimits.{max_body, max_metadata, max_slots}
+use Rattle.ipc_model.specs.MaxLimits.{max_body, max_depth, max_fields, max_metadata, max_pairs}
+use Rattle.ipc_model.specs.MaxLimits.{max_slots, max_text}
 use Rattle.clap.specs.Words.{App, Rule, Text, new_app, new_rule, with_rule, with_subcommand}
 use Rattle.clap.specs.declared.builder.action.ArgAction.TheVariants.{Set, SetTrue}
 use Rattle.clap.specs.declared.builder.value_parser.ValueParser.TheVariants.{Unsigned}
@@ -37,14 +38,30 @@ count name least greatest = record (option name) { parser = Some (Unsigned least
 abbrev pub explain : Rule
 explain = flag (codes "explain")
 
+-- a subcommand with the options for the limits of a message
+abbrev pub with_message_limits : App → App
+with_message_limits a = with_rule (with_rule (with_rule a
+    (number (codes "max-metadata") 0 max_metadata (codes "16777216")))
+    (number (codes "max-body") 0 max_body (codes "1099511627776")))
+    (number (codes "max-rows") 0 max_slots (codes "2147483647"))
+
+-- a subcommand with the options for the limits of a schema
+abbrev pub with_schema_limits : App → App
+with_schema_limits a = with_rule (with_rule (with_rule (with_rule a
+    (number (codes "max-fields") 0 max_fields (codes "65536")))
+    (number (codes "max-depth") 0 max_depth (codes "64")))
+    (number (codes "max-text") 0 max_text (codes "67108864")))
+    (number (codes "max-pairs") 0 max_pairs (codes "1048576"))
+
+-- a subcommand with the options for the end of a stream, and for what is reported of it
+abbrev pub with_reports : App → App
+with_reports a = with_rule (with_rule (with_rule a (flag (codes "require-mark"))) explain)
+    (flag (codes "progress"))
+
 -- a subcommand with the options of those that read a stream: its limits, its end, and what is
 -- reported of it
 abbrev pub with_stream : App → App
-with_stream a = with_rule (with_rule (with_rule (with_rule (with_rule (with_rule a
-    (number (codes "max-metadata") 0 max_metadata (codes "16777216")))
-    (number (codes "max-body") 0 max_body (codes "1099511627776")))
-    (number (codes "max-rows") 0 max_slots (codes "2147483647")))
-    (flag (codes "require-mark"))) explain) (flag (codes "progress"))
+with_stream a = with_reports (with_schema_limits (with_message_limits a))
 
 -- the subcommand that validates a stream
 abbrev pub check : App

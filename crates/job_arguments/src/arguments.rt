@@ -13,7 +13,9 @@ use crate::command_line::command;
 use crate::csv_dialect::CsvDialect;
 use clap::error::ErrorKind;
 use clap::{ArgMatches, Command, Error};
-use ipc_model::{Limits, MAX_BODY, MAX_METADATA, MAX_SLOTS};
+use ipc_model::{
+    Limits, MAX_BODY, MAX_DEPTH, MAX_FIELDS, MAX_METADATA, MAX_PAIRS, MAX_SLOTS, MAX_TEXT,
+};
 use std::alloc::{AllocError, Global};
 
 /// What to do, and the limits of a stream that is read.
@@ -183,8 +185,7 @@ fn has_flag(options: &ArgMatches<'_>, name: &str) -> bool
     options.get_one::<bool>(name).unwrap_or(false)
 }
 
-// The limits that a subcommand's options ask for; the others are the standard ones. None where a
-// limit is out of its range.
+// The limits that a subcommand's options ask for. None where a limit is out of its range.
 fn limits_of(options: &ArgMatches<'_>) -> Option<Limits>
     ensures some { IfSome result (AskForLimits (rows_of (found_of options.now))) }
     ensures none { result ≡ None → HasWrongLimit (rows_of (found_of options.now)) }
@@ -192,16 +193,11 @@ fn limits_of(options: &ArgMatches<'_>) -> Option<Limits>
     let metadata = number_option(options, "max-metadata", 0, MAX_METADATA)?;
     let body = number_option(options, "max-body", 0, MAX_BODY)?;
     let rows = number_option(options, "max-rows", 0, MAX_SLOTS)?;
-    let usual = Limits::standard();
-    Limits::new(
-        metadata,
-        body,
-        rows,
-        usual.fields,
-        usual.depth,
-        usual.text,
-        usual.pairs,
-    )
+    let fields = number_option(options, "max-fields", 0, MAX_FIELDS)?;
+    let depth = number_option(options, "max-depth", 0, MAX_DEPTH)?;
+    let text = number_option(options, "max-text", 0, MAX_TEXT)?;
+    let pairs = number_option(options, "max-pairs", 0, MAX_PAIRS)?;
+    Limits::new(metadata, body, rows, fields, depth, text, pairs)
 }
 
 // The limits that a subcommand's options ask for.

@@ -7,7 +7,7 @@ ghost use Rattle.job_arguments.specs.Arguments.{IsCommand};
 
 use clap::builder::ValueParser;
 use clap::{Arg, ArgAction, Command};
-use ipc_model::{MAX_BODY, MAX_METADATA, MAX_SLOTS};
+use ipc_model::{MAX_BODY, MAX_DEPTH, MAX_FIELDS, MAX_METADATA, MAX_PAIRS, MAX_SLOTS, MAX_TEXT};
 use std::alloc::{AllocError, Global};
 
 const EXAMPLES: &str = "\
@@ -131,10 +131,50 @@ fn explain<'a>(alloc: Global) -> Arg<'a>
     flag(alloc, "explain", help)
 }
 
-// The options of a subcommand that reads a stream: its limits, its end, and what is reported of it.
-fn with_stream<'a>(alloc: Global, command: Command<'a>) -> Result<Command<'a>, AllocError>
+// The options for the limits of a schema.
+fn with_schema_limits<'a>(alloc: Global, command: Command<'a>) -> Result<Command<'a>, AllocError>
     requires { IsCommand (app_of command) command }
-    ensures { IfOk result (IsCommand (line.with_stream (app_of command.entry))) }
+    ensures { IfOk result (IsCommand (line.with_schema_limits (app_of command.entry))) }
+{
+    command
+        .arg(number(
+            alloc,
+            "max-fields",
+            0,
+            MAX_FIELDS,
+            "65536",
+            "Maximum fields of a schema, children included",
+        ))?
+        .arg(number(
+            alloc,
+            "max-depth",
+            0,
+            MAX_DEPTH,
+            "64",
+            "Maximum nesting of fields; a column has depth 1",
+        ))?
+        .arg(number(
+            alloc,
+            "max-text",
+            0,
+            MAX_TEXT,
+            "67108864",
+            "Maximum bytes of a schema's names, keys, values and timezones",
+        ))?
+        .arg(number(
+            alloc,
+            "max-pairs",
+            0,
+            MAX_PAIRS,
+            "1048576",
+            "Maximum key-value pairs of a schema or a batch",
+        ))
+}
+
+// The options for the limits of a message.
+fn with_message_limits<'a>(alloc: Global, command: Command<'a>) -> Result<Command<'a>, AllocError>
+    requires { IsCommand (app_of command) command }
+    ensures { IfOk result (IsCommand (line.with_message_limits (app_of command.entry))) }
 {
     command
         .arg(number(
@@ -160,7 +200,15 @@ fn with_stream<'a>(alloc: Global, command: Command<'a>) -> Result<Command<'a>, A
             MAX_SLOTS,
             "2147483647",
             "Maximum rows of a batch",
-        ))?
+        ))
+}
+
+// The options for the end of a stream, and for what is reported of it.
+fn with_reports<'a>(alloc: Global, command: Command<'a>) -> Result<Command<'a>, AllocError>
+    requires { IsCommand (app_of command) command }
+    ensures { IfOk result (IsCommand (line.with_reports (app_of command.entry))) }
+{
+    command
         .arg(flag(
             alloc,
             "require-mark",
@@ -172,6 +220,15 @@ fn with_stream<'a>(alloc: Global, command: Command<'a>) -> Result<Command<'a>, A
             "progress",
             "Print the bytes, batches and rows so far to standard error",
         ))
+}
+
+// The options of a subcommand that reads a stream: its limits, its end, and what is reported of it.
+fn with_stream<'a>(alloc: Global, command: Command<'a>) -> Result<Command<'a>, AllocError>
+    requires { IsCommand (app_of command) command }
+    ensures { IfOk result (IsCommand (line.with_stream (app_of command.entry))) }
+{
+    let command = with_message_limits(alloc, command)?;
+    with_reports(alloc, with_schema_limits(alloc, command)?)
 }
 
 // The option for the number of rows that are printed.

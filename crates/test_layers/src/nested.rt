@@ -120,15 +120,22 @@ pub(crate) fn row_of(alloc: Global, text: &[u8]) -> Result<Row, AllocError> {
 }
 
 // Appends a row if it is within the limits.
-fn push(builder: &mut Builder, row: &[Value]) -> Result<(), WriteFault> {
-    builder.push(row, &NoIndices)?;
+fn push(builder: &mut Builder, fields: &[Field], row: &[Value]) -> Result<(), WriteFault> {
+    builder.push(fields, row, &NoIndices)?;
     Ok(())
 }
 
 // Takes rows.
-fn push_all(alloc: Global, builder: &mut Builder, rows: &[&[u8]]) -> Result<(), WriteFault> {
+fn push_all(
+    alloc: Global,
+    builder: &mut Builder,
+    kind: Kind,
+    rows: &[&[u8]],
+) -> Result<(), WriteFault> {
+    let mut fields = Vec::new(alloc);
+    add_fields(alloc, &mut fields, kind)?;
     for text in rows {
-        push(builder, row_of(alloc, text)?.as_slice())?;
+        push(builder, &fields, row_of(alloc, text)?.as_slice())?;
     }
     Ok(())
 }
@@ -230,7 +237,7 @@ fn are_parts(parts: &Parts, wanted: &Written) -> bool {
 fn are_written(alloc: Global, room: &mut BufferPool, wanted: &Written) -> Result<bool, WriteFault> {
     let left = mem::replace(room, BufferPool::new(alloc));
     let mut builder = builder_of(alloc, wanted.kind, &Limits::standard(), left)?;
-    push_all(alloc, &mut builder, wanted.rows)?;
+    push_all(alloc, &mut builder, wanted.kind, wanted.rows)?;
     let parts = builder.finish(&SameNumbers)?;
     let are_parts = are_parts(&parts, wanted);
     *room = parts.room;
@@ -362,7 +369,8 @@ fn is_built(builder: Builder, body: &[u8]) -> bool {
 
 // Whether a builder takes as many of the rows as are wanted.
 fn takes(alloc: Global, builder: &mut Builder, limited: &Limited) -> bool {
-    push_all(alloc, builder, limited.rows) == limited.wanted && builder.row_count() == limited.taken
+    push_all(alloc, builder, limited.kind, limited.rows) == limited.wanted
+        && builder.row_count() == limited.taken
 }
 
 fn is_limited(alloc: Global, limited: &Limited, limits: &Limits) -> bool {

@@ -37,7 +37,7 @@ use denote.Triple.Spec.{triple_of}
 use denote.Triple.Table.{framed}
 use denote.Triple.Walked.{Stays, walk_of, says, stay_dropped, Goes-dropped, ends_at}
 use Rattle.ipc_stream_session.specs.contracts.batch.ReadBatch as held
-use Rattle.arrowstream_c.specs.Handles.{OfHandle, held_or_null, misuse}
+use Rattle.arrowstream_c.specs.Handles.{OfHandle, held_or_null}
 use Rattle.arrowstream_c.specs.Calls.{AreRows}
 use Rattle.arrowstream_c.proofs.Handles.{on_handle}
 use Rattle.arrowstream_c.specs.contracts.arrowstream_batch_rows as f

@@ -1,7 +1,7 @@
 -- `arrowstream_reader_feed` lends what the pointer leads to to `feed`, and has it back. Null is answered by `no_progress`.
 use Rattle.std.proofs.Common.{ℕ, zero, suc, ◌++◌, List, [], ◌∷◌, refl, lit<, MutBor, w32}
 use Rattle.std.proofs.raw_atomic.Walks.{proved}
-use Rattle.std.specs.Prelude.{◌≡◌, Option, Some, None}
+use Rattle.std.specs.Prelude.{Option, Some, None}
 use Rattle.std.specs.Box.Ownership.{box_owns}
 use Rattle.std.specs.declared.alloc.Global.{Global}
 use Rattle.std.specs.contracts.impls.GlobalAllocator.TheImpl.{ghosts}
@@ -122,7 +122,7 @@ arrowstream_reader_feed_spec 𝓤 𝓛 𝓜 𝓡 wired =
     (and_then ! (get ! refl) (no_more !)) (λ v.
     use1 𝓛 (later (some (λ (r : ℕ). ((‵ (flft κs.1.0 qs.1.0) ⊛ ‵ ftrue) ⊛ ‵ (u32.own_val r (v ∷ []))) ⊛
     some (λ (vs : (V.Denot × Unit {0})). ‵ (lasts n.ended z₀.0.0 z₀.0.3 vs) ⊛
-    raw (fact 𝓤 (IsNowhere vs.0 r)))))) (id⊢ 𝓤 _) $
+    raw (fact 𝓤 (IsNowhere a1.now vs.0 r)))))) (id⊢ 𝓤 _) $
     await ! tt $ pick ! (λ r. split ! $ split ! $ move ! (2 ∷ []) $ pick ! (λ vs. split ! $ move ! (1 ∷ []) $ heard ! _ (λ told.
     -- [what is left of the others; the tokens; the result]
     move ! (2 ∷ []) $ peeks ! u32 (Is u32) (shows 𝓛 u32) r (v ∷ []) (λ is. lands_as ! refl refl ((uint_Lawful 𝓛 w32).typed r _ is).0 $
@@ -131,7 +131,7 @@ arrowstream_reader_feed_spec 𝓤 𝓛 𝓜 𝓡 wired =
     suffices ! _ (ends_at 𝓛 f.ended stayed c (y null_ptr None) v r (tt, (tt, (vs.0, tt))) (tt, (tt, (tt, tt)))) $
     nothing ! $ join ! $ nothing ! $ join ! $ move ! (1 ∷ 0 ∷ []) $ group ! 3 $
     frame ! $ show ! (λ (is : Option R.Denot). sep 𝓤 (sem 𝓛 (held_or_null R null_ptr is))
-    (fact 𝓤 (OfHandle (λ was is. Feeds was a0.now is vs.0 r) (IsNowhere vs.0 r) None is))) None $
+    (fact 𝓤 (OfHandle (λ was is. Feeds was a0.now is a1.now vs.0 r) (IsNowhere a1.now vs.0 r) None is))) None $
     says ! told $ feq_i ! Ptr null_ptr null_ptr refl $ done !))))))
     (λ t. absurd t)))
     (λ b o x h may.
@@ -161,7 +161,7 @@ arrowstream_reader_feed_spec 𝓤 𝓛 𝓜 𝓡 wired =
     calls_at ! (framed 𝓤 𝓛.H 𝓜 (tables 𝓤 𝓛.H 𝓜 𝓡 𝓡.env)) G (met 𝓤 𝓛 𝓜 𝓡 (code.calls-arrowstream_c::reader_calls::feed 𝓡.env wired)) z
     (and_then ! (get ! refl) (and_then ! (get ! refl) (and_then ! (get ! refl) (no_more !)))) (λ v.
     use1 𝓛 (later (some (λ (r : ℕ). ((‵ (flft κ' full_share) ⊛ toks) ⊛ ‵ (u32.own_val r (v ∷ []))) ⊛
-    some (λ (ws : (R.Denot × (Unit {0} × (V.Denot × Unit {0})))). ‵ (lasts g.ended z.0.0 z.0.3 ws) ⊛ raw (fact 𝓤 (Feeds x a0.now ws.0
+    some (λ (ws : (R.Denot × (Unit {0} × (V.Denot × Unit {0})))). ‵ (lasts g.ended z.0.0 z.0.3 ws) ⊛ raw (fact 𝓤 (Feeds x a0.now ws.0 a1.now
     ws.1.1.0 r)))))) (id⊢ 𝓤 _) $
     await ! tt $ pick ! (λ r. split ! $ split ! $ split ! $ lft_end ! tt $ move ! (3 ∷ []) $
     pick ! (λ ws. split ! $ move ! (1 ∷ []) $ heard ! _ (λ told. fsplit ! $ fsplit ! $
@@ -174,5 +174,6 @@ arrowstream_reader_feed_spec 𝓤 𝓛 𝓜 𝓡 wired =
     suffices ! _ (ends_at 𝓛 f.ended stayed c (y (block_ptr b o) (Some x)) v r (tt, (tt, (ws.1.1.0, tt))) (tt, (tt, (tt, tt)))) $
     nothing ! $ move ! (0 ∷ 2 ∷ []) $ join ! $ move ! (1 ∷ 0 ∷ []) $ group ! 3 $
     frame ! $ show ! (λ (is : Option R.Denot). sep 𝓤 (sem 𝓛 (held_or_null R (block_ptr b o) is))
-    (fact 𝓤 (OfHandle (λ was is. Feeds was a0.now is ws.1.1.0 r) (IsNowhere ws.1.1.0 r) (Some x) is))) (Some ws.0) $ says ! told $
+    (fact 𝓤 (OfHandle (λ was is. Feeds was a0.now is a1.now ws.1.1.0 r) (IsNowhere a1.now ws.1.1.0 r) (Some x) is))) (Some ws.0) $
+    says ! told $
     fjoin ! $ fpack ! Global (λ d. box_owns (ghosts.dealloc_token d) R (block_ptr b o) ws.0) h $ done !)))))))))))

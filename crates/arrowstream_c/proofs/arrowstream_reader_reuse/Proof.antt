@@ -10,7 +10,7 @@ use Rattle.std.specs.contracts.alloc.Global as global
 use Rattle.std.specs.contracts.impls.GlobalAllocator.TheImpl.{ghosts}
 use Rattle.std.proofs.alloc.Global.TheLaws as global_laws
 use base.Fraction.{full_share}
-use base.Logic.{id⊢, sep, ex}
+use base.Logic.{id⊢, sep}
 use base.Fml.{GName, ftrue, flft, flent}
 use mir.Syntax.{named}
 use mir.Val.{Val, vptr, vunit}

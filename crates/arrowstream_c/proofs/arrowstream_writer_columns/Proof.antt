@@ -1,5 +1,5 @@
 -- `arrowstream_writer_columns` lends what both pointers lead to to `send_columns`, and has it back.
-use Rattle.std.proofs.Common.{ℕ, zero, suc, ◌++◌, List, [], ◌∷◌, refl, lit<, MutBor, w32}
+use Rattle.std.proofs.Common.{ℕ, ◌++◌, List, [], ◌∷◌, refl, lit<, MutBor, w32}
 use Rattle.std.proofs.raw_atomic.Walks.{proved}
 use Rattle.std.specs.Prelude.{◌≡◌, Option, Some, None}
 use Rattle.std.specs.Box.Ownership.{box_owns}
@@ -20,16 +20,16 @@ use types.Kit.{at_ret, feq_i, fjoin, fpack, pick, await, suffices, group, frame,
 use types.Run.{enter, of_opd, lit, bin, first, branches, skips, exec, returns_within, addr, no_more, and_then, stop, returns}
 use types.ByLocal.{alloc_all, pass_all, free_all, look_at, get, through, sets, lands_as, env}
 use types.Tokens.{lft_new, lft_end}
-use denote.Builtin.{u8, u32}
+use denote.Builtin.{u32}
 use denote.Exit.{yes}
 use denote.Laws.{Is, shows}
 use denote.Lend.{lends_ref, ref_back}
-use denote.Memory.{mem, part_at, lone}
+use denote.Memory.{mem, part_at}
 use denote.Plain.{uint_Lawful, uint_Makes}
 use denote.RattleType.{RattleType, owns}
 use denote.RawPtr.{Ptr, RawPtr, block_ptr, null_ptr, tests_null, rawptr_vals, rawptr_Tells, rawptr_Lawful}
 use denote.Ref.{MutRef, mut_vals}
-use denote.Signature.{plain, Slot}
+use denote.Signature.{plain}
 use denote.Steps.{nothing, owned, peeks, heard}
 use denote.Triple.Call.{calls_at}
 use denote.Triple.Clauses.{lasts}

@@ -3,25 +3,21 @@ use Rattle.std.proofs.Common.{◌++◌, List, [], ◌∷◌, refl, ap, lit<}
 use Rattle.std.proofs.raw_atomic.Walks.{proved}
 use Rattle.std.proofs.alloc.Calls.{Goes-blank}
 use Rattle.std.specs.Prelude.{Option, Some, None}
-use Rattle.std.specs.Box.Ownership.{box_owns}
 use Rattle.std.specs.declared.alloc.Global.{Global}
 use Rattle.std.specs.contracts.alloc.Global as global
 use Rattle.std.specs.contracts.impls.GlobalAllocator.TheImpl.{ghosts}
 use Rattle.std.proofs.alloc.Global.TheLaws as global_laws
-use base.Logic.{id⊢, fst∗, never}
+use base.Logic.{id⊢}
 use base.Fml.{ftrue}
-use mir.Raw.{raw as bare}
 use mir.Val.{Val, vptr, vunit}
 use contract.Running.{tables}
 use prog.Wp.{WpFn}
-use types.Logic.{sem}
 use types.Kit.{‵, raw, at_ret, ◌⊛◌, some, later, prop, ◌$◌, ◌∵◌, !, qed, done, move, keep, drop, use1, use2, split, join, fsplit, fjoin}
-use types.Kit.{fpick, fpack, feq_i, feq_l, pick, await, regoal, suffices, group}
+use types.Kit.{fpack, feq_i, feq_l, pick, await, suffices, group}
 use types.Part.{agg}
 use types.Run.{enter, of_opd, lit, bin, first, branches, skips, exec, returns_within, unit_lit, no_more, and_then, returns}
 use types.ByLocal.{alloc_all, pass_all, free_all, look_at, get, sets, lands_as, env}
 use denote.Builtin.{unit}
-use denote.Memory.{lone}
 use denote.Param.Laws.{Told}
 use denote.RattleType.{RattleType, owns, Valss}
 use denote.RawPtr.{Ptr, RawPtr, block_ptr, null_ptr, rawptr_vals, rawptr_Tells, tests_null}

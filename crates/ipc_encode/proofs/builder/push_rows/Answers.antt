@@ -21,7 +21,7 @@ returns-in_err-append_parts-clause-refused g c = λ shape fresh.
     let next = columns_push so_far c.as_slice.result.now ∙ ap (λ (rs : List (List Value)). row_columns rs)
     (rows_next c.args.rows.now c.loop-row.row-index c.as_slice.result.now _
     (take_more c.args.rows.now c.loop-row.row-index c.row-item.result c.loop-row-test.true) (c.as_slice.ensures ∙ c.row-item.is)) in
-    let refusal = (c.in_err-append_parts.ensures shape (row_columns so_far) (c.loop-row.invariant shape fresh)).refused in
+    let refusal = (c.in_err-append_parts.ensures.appended shape (row_columns so_far) (c.loop-row.invariant shape fresh)).refused in
     let p = err_from_is_err_and c.from_residual.result c.from_residual.ensures.1 in
     rw (p.1, p.2) (first_rows_refused limits shape c.args.rows.now (c.loop-row.row-index + 1) fault
     (subst (λ (given : ℕ → List Value). ArePushesRefused limits shape given fault) next refusal))
@@ -35,4 +35,4 @@ loop-row-preserved g c = λ shape fresh.
     (take_more c.args.rows.now c.loop-row.row-index c.row-item.result c.loop-row-test.true) (c.as_slice.ensures ∙ c.row-item.is)) in
     subst (λ (given : ℕ → List Value). HoldColumns (index_or_zero (g.I.IndexOf.index c.args.indices.now)) limits shape
     c.append_parts.new.nodes given) next
-    (c.in_ok-append_parts.ensures shape (row_columns so_far) (c.loop-row.invariant shape fresh)).appended
+    (c.in_ok-append_parts.ensures.appended shape (row_columns so_far) (c.loop-row.invariant shape fresh)).appended

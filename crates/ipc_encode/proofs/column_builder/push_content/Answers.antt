@@ -22,6 +22,13 @@ returns-in_err-check_amount-clause-refused c = λ vs h.
     rw (p.1, p.2) (c.in_err-check_amount.ensures.refused (vs ++ c.args.value.now ∷ [])
     (omega (arith, more, c.len.ensures, c.args.values.now.ok)))
 
+pub returns-clause-bytes : goal.returns-clause-bytes
+returns-clause-bytes c = λ vs h.
+    let size = ap (λ (bs : List ℕ). length bs) h.bytes_are ∙ content_data c.args.utf8 vs in
+    let added = ap (λ (bs : List ℕ). length bs) c.content-bytes.ensures.bytes in
+    let more = amount_more (l.VariableBytes c.args.utf8) vs c.args.value.now _ _ size added in
+    omega (arith, more, c.len.ensures, c.args.values.now.ok, c.in_ok-check_amount.ensures.bytes)
+
 pub returns-clause-pushed : goal.returns-clause-pushed
 returns-clause-pushed c = λ vs h.
     let v = c.args.value.now in

@@ -21,7 +21,7 @@ returns-in_err-append-clause-refused g c = λ layout children h.
     let is : c.in_ok-value.value ≡ cell column (get_or rows row []) = c.in_ok-value.ensures.value in
     let so_far = take row (cells column rows) in
     let fault = c.in_err-append.field-0.0 in
-    let refused = (c.in_err-append.ensures layout children so_far (c.loop-row.invariant layout children h)).refused in
+    let refused = (c.in_err-append.ensures.appended layout children so_far (c.loop-row.invariant layout children h)).refused in
     let p = err_from_is_err_and c.from_residual-in_err-append.result c.from_residual-in_err-append.ensures.1 in
     rw (p.1, p.2) (all_refused limits layout children [] (cells column rows) (row + 1) fault
     (subst (λ (vs : List Value). ArePushesRefused limits (field layout children bare) (λ j. vs) fault)
@@ -37,7 +37,7 @@ loop-row-preserved g c = λ layout children h.
     let so_far = take row (cells column rows) in
     subst (λ (vs : List Value). IsNode (IsColumn (index_or_zero (g.I.IndexOf.index c.args.indices.now)) c.args.limits.now) layout children
     c.append.new.node vs) (ap (λ (v : Value). so_far ++ v ∷ []) is ∙ cells_next column rows row inside)
-    (c.in_ok-append.ensures layout children so_far (c.loop-row.invariant layout children h)).appended
+    (c.in_ok-append.ensures.appended layout children so_far (c.loop-row.invariant layout children h)).appended
 
 pub returns-clause-taken : goal.returns-clause-taken
 returns-clause-taken g c = λ layout children h.

@@ -1,6 +1,5 @@
 use Rattle.std.proofs.Common.{◌≡◌, ◌∙◌, refl, sym, subst, ℕ, ◌++◌, List, [], ◌∷◌, length, length-append, arith}
 use Rattle.std.proofs.lemmas.List.{with_items_is}
-use Rattle.ipc_model.specs.declared.limits.Limits.{Limits}
 use Rattle.ipc_model.specs.declared.value.Value.{Value}
 use Rattle.ipc_column.specs.Shapes.{shape_of}
 use Rattle.ipc_encode.specs.declared.tree.Node.{Node}
@@ -15,19 +14,18 @@ returns-in-Ok-clause-appended g c = λ limits fields rows before.
     let known = index_or_zero (g.I.IndexOf.index c.args.indices.now) in
     let builder = c.args.self.now in
     let next = rows ++ c.args.row.now ∷ [] in
-    let held = subst (λ (l : Limits). HoldColumns known l (shape_of fields) c.deref_mut.result.now (row_columns rows))
-    (sym before.limits_are) (subst (λ (ns : List Node). HoldColumns known limits (shape_of fields) ns (row_columns rows))
-    (sym c.deref_mut.ensures.value) before.columns_are) in
-    let more = subst (λ (l : Limits). HoldColumns known l (shape_of fields) c.append_parts.new.nodes (row_columns next)) before.limits_are
-    (subst (λ (given : ℕ → List Value). HoldColumns known builder.limits (shape_of fields) c.append_parts.new.nodes given)
-    (columns_push rows c.args.row.now) (c.in-Ok.ensures (shape_of fields) (row_columns rows) held).appended) in
+    let held = subst (λ (ns : List Node). HoldColumns known builder.bounds (shape_of fields) ns (row_columns rows))
+    (sym c.deref_mut.ensures.value) before.columns_are in
+    let more = subst (λ (given : ℕ → List Value). HoldColumns known builder.bounds (shape_of fields) c.append_parts.new.nodes given)
+    (columns_push rows c.args.row.now) (c.in-Ok.ensures.appended (shape_of fields) (row_columns rows) held).appended in
     let size : length c.append_parts.new.nodes ≡ builder.nodes.len = c.append_parts.auto.nodes ∙ c.deref_mut.ensures.len in
     let count = length-append rows (c.args.row.now ∷ []) in
     record {
       limits_are = before.limits_are;
       works = refl;
       count = omega (arith, count, before.count);
-      columns_are = subst (λ (ns : List Node). HoldColumns known limits (shape_of fields) ns (row_columns next))
+      bounded = record { few = before.bounded.few; less = before.bounded.less; shared = before.bounded.shared };
+      columns_are = subst (λ (ns : List Node). HoldColumns known builder.bounds (shape_of fields) ns (row_columns next))
           (sym (with_items_is builder.nodes c.append_parts.new.nodes size)) more;
     }
 
@@ -36,28 +34,25 @@ returns-in-Err-clause-refused g c = λ limits fields rows before.
     let known = index_or_zero (g.I.IndexOf.index c.args.indices.now) in
     let builder = c.args.self.now in
     let next = rows ++ c.args.row.now ∷ [] in
-    let held = subst (λ (l : Limits). HoldColumns known l (shape_of fields) c.deref_mut.result.now (row_columns rows))
-    (sym before.limits_are) (subst (λ (ns : List Node). HoldColumns known limits (shape_of fields) ns (row_columns rows))
-    (sym c.deref_mut.ensures.value) before.columns_are) in
+    let held = subst (λ (ns : List Node). HoldColumns known builder.bounds (shape_of fields) ns (row_columns rows))
+    (sym c.deref_mut.ensures.value) before.columns_are in
     let fault = c.in-Err.fault in
-    rows_refused limits fields next fault
-    (subst (λ (l : Limits). ArePushesRefused l (shape_of fields) (row_columns next) fault) before.limits_are
-    (subst (λ (given : ℕ → List Value). ArePushesRefused builder.limits (shape_of fields) given fault)
-    (columns_push rows c.args.row.now) (c.in-Err.ensures (shape_of fields) (row_columns rows) held).refused))
+    rows_refused builder.bounds fields next fault
+    (subst (λ (given : ℕ → List Value). ArePushesRefused builder.bounds (shape_of fields) given fault)
+    (columns_push rows c.args.row.now) (c.in-Err.ensures.appended (shape_of fields) (row_columns rows) held).refused)
 
 pub returns-in-Err-clause-kept : goal.returns-in-Err-clause-kept
 returns-in-Err-clause-kept g c = λ limits fields rows before other.
     let known = index_or_zero (g.I.IndexOf.index c.args.indices.now) in
     let builder = c.args.self.now in
-    let held = subst (λ (l : Limits). HoldColumns known l (shape_of fields) c.deref_mut.result.now (row_columns rows))
-    (sym before.limits_are) (subst (λ (ns : List Node). HoldColumns known limits (shape_of fields) ns (row_columns rows))
-    (sym c.deref_mut.ensures.value) before.columns_are) in
+    let held = subst (λ (ns : List Node). HoldColumns known builder.bounds (shape_of fields) ns (row_columns rows))
+    (sym c.deref_mut.ensures.value) before.columns_are in
     let size : length c.append_parts.new.nodes ≡ builder.nodes.len = c.append_parts.auto.nodes ∙ c.deref_mut.ensures.len in
-    let begun = subst (λ (l : Limits). AreNodes (BeginsWith known l) (shape_of fields) c.append_parts.new.nodes (row_columns rows))
-    before.limits_are ((c.in-Err.ensures (shape_of fields) (row_columns rows) held).begun other) in
-    c.cut_row.ensures known limits fields rows (record {
+    let begun = (c.in-Err.ensures.appended (shape_of fields) (row_columns rows) held).begun other in
+    c.cut_row.ensures.rows known limits fields rows (record {
       limits_are = before.limits_are;
       count = before.count;
-      columns_begin = subst (λ (ns : List Node). AreNodes (BeginsWith known limits) (shape_of fields) ns (row_columns rows))
+      bounded = record { few = before.bounded.few; less = before.bounded.less; shared = before.bounded.shared };
+      columns_begin = subst (λ (ns : List Node). AreNodes (BeginsWith known builder.bounds) (shape_of fields) ns (row_columns rows))
           (sym (with_items_is builder.nodes c.append_parts.new.nodes size)) begun;
     })

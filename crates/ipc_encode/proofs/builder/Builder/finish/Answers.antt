@@ -11,10 +11,10 @@ use Rattle.ipc_encode.proofs.builder.Builder.finish.Goals as goal
 
 pub returns-clause-rows : goal.returns-clause-rows
 returns-clause-rows g c = λ known limits fields rows m h fine fits finds.
-    let held = subst (λ (ns : List Node). HoldColumns known limits (shape_of fields) ns (row_columns rows))
+    let held = subst (λ (ns : List Node). HoldColumns known c.args.self.bounds (shape_of fields) ns (row_columns rows))
     (sym c.deref.ensures.value) h.columns_are in
-    let drafted = c.in_ok-draft.ensures known limits fields rows held in
-    let stores = all_stored known limits (shape_of fields) c.args.self.nodes.items (row_columns rows) h.columns_are in
+    let drafted = c.in_ok-draft.ensures known c.args.self.bounds fields rows held in
+    let stores = all_stored known c.args.self.bounds (shape_of fields) c.args.self.nodes.items (row_columns rows) h.columns_are in
     rows_of_parts m (new_indices (g.N.Renumber.number c.args.numbers.now) known) fields rows
     c.from_vec.result c.from_vec-2.result c.in_ok-draft.draft.body.items
     fine fits h.within stores finds
@@ -22,7 +22,7 @@ returns-clause-rows g c = λ known limits fields rows m h fine fits finds.
 
 pub returns-clause-body : goal.returns-clause-body
 returns-clause-body g c = λ known limits fields rows h.
-    let held = subst (λ (ns : List Node). HoldColumns known limits (shape_of fields) ns (row_columns rows))
+    let held = subst (λ (ns : List Node). HoldColumns known c.args.self.bounds (shape_of fields) ns (row_columns rows))
     (sym c.deref.ensures.value) h.columns_are in
     body_within limits (new_indices (g.N.Renumber.number c.args.numbers.now) known) fields rows _
-    (c.in_ok-draft.ensures known limits fields rows held).body h.within
+    (c.in_ok-draft.ensures known c.args.self.bounds fields rows held).body h.within

@@ -55,6 +55,7 @@ returns-clause-rows g c =
       limits_are = refl;
       works = refl;
       count = refl;
+      bounded = record { few = omega arith; less = omega arith; shared = λ e. absurd cc };
       columns_are = subst (λ (ns : List Node). HoldColumns known limits (shape_of fields) ns (row_columns rows)) (sym same) pushed;
       within = built_within known limits fields rows c.deref.result.now (omega (arith, c.if-rows-limits.false)) held
           (c.in_ok-check_len.ensures.within known fields rows held);

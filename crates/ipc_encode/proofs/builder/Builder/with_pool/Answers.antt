@@ -1,6 +1,7 @@
 use Rattle.std.proofs.Common.{refl, sym, subst, List, [], arith}
 use Rattle.std.proofs.lemmas.Result.{err_from_is_err_and}
 use Rattle.ipc_model.specs.declared.fault.WriteFault.{WriteFault}
+use Rattle.ipc_model.specs.declared.limits.Limits.{Limits}
 use Rattle.ipc_column.specs.Shapes.{shape_of}
 use Rattle.ipc_encode.specs.declared.tree.Node.{Node}
 use Rattle.ipc_encode.specs.Buffers.{row_columns}
@@ -22,14 +23,20 @@ pub returns-clause-rows : goal.returns-clause-rows
 returns-clause-rows c = λ known.
     let limits = c.args.limits.now in
     let fields = c.args.fields.now in
-    let fresh = c.in_ok-nodes.ensures known limits in
-    let held = subst (λ (ns : List Node). HoldColumns known limits (shape_of fields) ns (row_columns [])) (sym c.deref.ensures.value)
-    fresh in
+    let fresh = λ (kept : Limits). subst (λ (ns : List Node). HoldColumns known kept (shape_of fields) ns (row_columns []))
+    (sym c.deref.ensures.value) (c.in_ok-nodes.ensures known kept) in
     record {
       limits_are = refl;
       works = refl;
       count = refl;
-      columns_are = fresh;
-      within = built_within known limits fields [] c.deref.result.now (omega arith) held
-          (c.in_ok-check_len.ensures.within known fields [] held);
+      bounded = record {
+        few = c.bounds_of-is_shared.ensures.few;
+        less = c.bounds_of-is_shared.ensures.less;
+        shared = c.bounds_of-is_shared.ensures.shared known limits (shape_of fields)
+            (subst (λ (ns : List Node). HoldColumns known limits (shape_of fields) ns (row_columns [])) (sym c.deref-2.ensures.value)
+            (c.in_ok-nodes.ensures known limits));
+      };
+      columns_are = c.in_ok-nodes.ensures known c.bounds_of-is_shared.result.0;
+      within = built_within known limits fields [] c.deref.result.now (omega arith) (fresh limits)
+          (c.in_ok-check_len.ensures.within known fields [] (fresh limits));
     }

@@ -37,6 +37,7 @@ returns-clause-taken g c = λ h.
       slots_are = sym size;
       nulls_are = nulls;
       few = λ many. omega (arith, size, many, c.if-count-limits.false);
+      short = tt;
       validity_are = c.in_ok-push_validities.ensures (known id) vs (c.deref-2.ensures.value ∙ mine) (sym nulls) h.validity_are;
       holds = mine;
     }

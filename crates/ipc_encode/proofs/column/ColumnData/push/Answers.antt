@@ -37,3 +37,11 @@ returns-in_ok-push_fixed-in-FixedBytes-clause-pushed g c = λ vs h size.
     let which = Fixed c.in-FixedBytes.width in
     c.in_ok-push_fixed-in-FixedBytes.ensures ∙ (ap (λ (bs : List ℕ). bs ++ slot_bytes which c.args.value.now)
     (rw c.in-FixedBytes.is at h) ∙ sym (slots_push which vs c.args.value.now))
+
+pub returns-in_ok-push_fixed-in-FixedBytes-clause-bytes : goal.returns-in_ok-push_fixed-in-FixedBytes-clause-bytes
+returns-in_ok-push_fixed-in-FixedBytes-clause-bytes g c = λ vs h.
+    let width = c.in-FixedBytes.width in
+    let same = rw c.in-FixedBytes.is at h in
+    let size = ap (λ (bs : List ℕ). length bs) same ∙ fixed_data width vs in
+    let more = amount_more (l.FixedBytes width) vs c.args.value.now _ width size refl in
+    rw c.in-FixedBytes.is (omega (arith, more, c.len.ensures, c.in-FixedBytes.values.ok, c.in_ok-check_amount-in-FixedBytes.ensures.bytes))

@@ -1,4 +1,4 @@
-use Rattle.std.proofs.Common.{refl, sym, subst, List}
+use Rattle.std.proofs.Common.{refl, sym, subst, List, [], ◌∷◌, ◌++◌}
 use Rattle.std.proofs.lemmas.Result.{err_from_is_err_and}
 use Rattle.ipc_encode.specs.Built.{StoresRows}
 use Rattle.ipc_encode.specs.Numbers.{index_or_zero}
@@ -57,13 +57,23 @@ returns-in-Err-clause-kept c = λ limits s b well h other.
       accepted = h.accepted;
     }
 
-pub returns-in-Ok-clause-holds : goal.returns-in-Ok-clause-holds
-returns-in-Ok-clause-holds c = λ limits s b well fits h.
-    let builder = c.args.self.now.builder in
+pub returns-in-Ok-clause-taken : goal.returns-in-Ok-clause-taken
+returns-in-Ok-clause-taken c = λ limits s b well h.
+    let fields = s.fields in
+    let old = c.args.self.now in
     let row = c.args.row.now in
-    let next = tally_next limits s.fields b.rows row c.args.self.now.tally c.note.new.self h.tally c.in_ok-note.ensures.noted in
+    let noted = c.note.new.self in
+    let next = tally_next limits fields b.rows row old.tally noted h.tally c.in_ok-note.ensures.noted in
     let rows =
-    subst (λ (es : List TallyEntry). StoresRows (index_or_zero (place_of_value es)) limits s.fields b.rows builder) (sym next.counted)
-    (rows_kept limits s.fields b.rows row builder well.each h.rows) in
-    let stored = c.in-Ok.ensures.pushed limits s.fields b.rows rows in
-    held_row limits s b row c.args.self.now _ h fits stored.within next c.note.ensures.fits c.note.ensures.within stored refl
+    subst (λ (es : List TallyEntry). StoresRows (index_or_zero (place_of_value es)) limits fields b.rows old.builder) (sym next.counted)
+    (rows_kept limits fields b.rows row old.builder well.each h.rows) in
+    let stored = c.in-Ok.ensures.pushed limits fields b.rows rows in
+    record {
+      fits = λ fit. held_row limits s b row old _ h fit stored.within next c.note.ensures.fits c.note.ensures.within stored refl;
+      before = tally_cut limits fields b.rows row old.tally noted (record noted { entries = noted.before }) h.tally
+          c.in_ok-note.ensures.noted refl;
+      rows = subst (λ (es : List TallyEntry). StoresRows (index_or_zero (place_of_value es)) limits fields (b.rows ++ row ∷ [])
+          c.push.new.self) next.counted stored;
+      pairs = h.pairs;
+      accepted = h.accepted;
+    }

@@ -1,12 +1,10 @@
 use Rattle.std.proofs.lemmas.Result.{IfOk-weaker}
 use Rattle.job_arguments.proofs.LineWords.{added_arg}
-use Rattle.job_arguments.proofs.command_line.with_stream.Goals as goal
+use Rattle.job_arguments.proofs.command_line.with_schema_limits.Goals as goal
 
 pub returns : goal.returns
 returns c =
     let one = added_arg _ _ _ _ _ c.requires c.number.ensures.rule c.number.ensures.own c.in_ok-arg.ensures in
     let two = added_arg _ _ _ _ _ one c.number-2.ensures.rule c.number-2.ensures.own c.in_ok-arg-2.ensures in
     let three = added_arg _ _ _ _ _ two c.number-3.ensures.rule c.number-3.ensures.own c.in_ok-arg-3.ensures in
-    let four = added_arg _ _ _ _ _ three c.flag.ensures.rule c.flag.ensures.own c.in_ok-arg-4.ensures in
-    let five = added_arg _ _ _ _ _ four c.explain.ensures.rule c.explain.ensures.own c.in_ok-arg-5.ensures in
-    IfOk-weaker c.arg-6.result _ _ (λ r h. added_arg _ _ _ _ _ five c.flag-2.ensures.rule c.flag-2.ensures.own h) c.arg-6.ensures
+    IfOk-weaker c.arg-4.result _ _ (λ r h. added_arg _ _ _ _ _ three c.number-4.ensures.rule c.number-4.ensures.own h) c.arg-4.ensures
