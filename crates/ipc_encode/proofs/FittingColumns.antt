@@ -120,13 +120,6 @@ plain_shows t.List plain = absurd (cc)
 plain_shows (t.FixedSizeList size) plain = absurd (cc)
 plain_shows t.Struct plain = absurd (cc)
 
--- ---- data
-
--- the data of some values and then others
-pub data_append : (layout : Layout) (vs ws : List Value) → data_in layout (vs ++ ws) ≡ data_in layout vs + data_in layout ws
-data_append layout [] ws = omega arith
-data_append layout (v ∷ vs) ws = let more = data_append layout vs ws in omega (arith, more)
-
 -- ---- columns of rows
 
 -- none of the fields is asked first
@@ -174,22 +167,6 @@ indexed_shown n layout bits signed id e h =
         (cond valid (own_value n.column.layout n.column.dictionary (row (child_columns n)) n.column.offsets n.column.values k) v.Null)
     either k true = rw e (value_shown layout n.column.dictionary _ h)
     either k false = null_shown layout
-
--- ---- the data of lists and structs that are taken slot by slot
-
--- the data of the first values
-pub data_front : (layout : Layout) (k : ℕ) (vs : List Value) → data_in layout (take k vs) ≤ data_in layout vs
-data_front layout zero vs = omega arith
-data_front layout (suc k) [] = omega arith
-data_front layout (suc k) (v ∷ vs) = let rest = data_front layout k vs in omega (arith, rest)
-
--- the data of one list more
-pub items_next : (vs : List Value) (i : ℕ) → i < length vs
-    → data_in l.Lists (take (i + 1) vs) ≡ data_in l.Lists (take i vs) + length (c.items (get_or vs i Null))
-items_next vs i m =
-    let all = data_append l.Lists (take i vs) (get_or vs i Null ∷ []) in
-    let same = ap (data_in l.Lists) (take_more vs i Null m) in
-    omega (arith, all, same)
 
 -- ---- a fact of the values of two lists holds for each list
 

@@ -388,23 +388,10 @@ ends_next run start vs i end m e =
 
 -- ---- the bytes and the offsets of texts and binary values that were read
 
--- a number in a cut of some bytes
-num_in_cut : (w p : ℕ) (bs : List ℕ) (n k : ℕ) → p + w ≤ n → num (take n (drop k bs)) p w ≡ num bs (k + p) w
-num_in_cut zero p bs n k h = num_none (take n (drop k bs)) p ∙ sym (num_none bs (k + p))
-num_in_cut (suc w) p bs n k h =
-    let first : get_or (take n (drop k bs)) p 0 ≡ get_or bs (k + p) 0 =
-    get_or-take n (drop k bs) p 0 (omega arith) ∙ get_or-drop k bs p 0 in
-    let rest = num_in_cut w (suc p) bs n k (omega arith) in
-    let next : k + suc p ≡ suc (k + p) = omega arith in
-    num_more (take n (drop k bs)) p w
-    ∙ (ap (λ (b : ℕ). b + 256 * num (take n (drop k bs)) (suc p) w) first
-    ∙ (ap (λ (r : ℕ). get_or bs (k + p) 0 + 256 * r) (rest ∙ ap (λ (q : ℕ). num bs q w) next)
-    ∙ sym (num_more bs (k + p) w)))
-
 -- a number of 32 bits that isn't negative
-not_negative : (x : ℕ) → x < 2 ^ 32 → int_le (pos 0) (cast_signed w32 x) ≡ true → unsigned_abs (cast_signed w32 x) ≡ x
-not_negative x fits h = elim (cases_lt x 2147483648) as (λ _. unsigned_abs (cast_signed w32 x) ≡ x) [
-  | inl few ↦ ap unsigned_abs (to_z_pos w32 x few)
+pub few_of : (x : ℕ) → x < 2 ^ 32 → int_le (pos 0) (cast_signed w32 x) ≡ true → x < 2147483648
+few_of x fits h = elim (cases_lt x 2147483648) as (λ _. x < 2147483648) [
+  | inl few ↦ few
   | inr many ↦
       let k = 4294967295 - x in
       let same : x ≡ 4294967296 - suc k = omega (arith, fits) in
@@ -413,6 +400,9 @@ not_negative x fits h = elim (cases_lt x 2147483648) as (λ _. unsigned_abs (cas
       absurd (false≢true (ap (int_le (pos 0)) (sym back) ∙ h))
 ]
 
+not_negative : (x : ℕ) → x < 2 ^ 32 → int_le (pos 0) (cast_signed w32 x) ≡ true → unsigned_abs (cast_signed w32 x) ≡ x
+not_negative x fits h = ap unsigned_abs (to_z_pos w32 x (few_of x fits h))
+
 -- where offset i points
 abbrev pub start_of : List ℕ → ℕ → ℕ
 start_of o i = num o (4 * i) 4
@@ -420,6 +410,28 @@ start_of o i = num o (4 * i) 4
 pub place_is : (o : List ℕ) (n size i : ℕ) → ((k : ℕ) → get_or o k 0 < 256) → are_ascending o n size ≡ true → i ≤ n
     → offset_position o i ≡ start_of o i
 place_is o n size i small h l = not_negative (start_of o i) (num_small 4 (4 * i) o small) (above_in o n size i h l)
+
+-- which is below 2^31
+pub place_few : (o : List ℕ) (n size i : ℕ) → ((k : ℕ) → get_or o k 0 < 256) → are_ascending o n size ≡ true → i ≤ n
+    → start_of o i < 2147483648
+place_few o n size i small h l = few_of (start_of o i) (num_small 4 (4 * i) o small) (above_in o n size i h l)
+
+-- offsets that are each as far from the first as the runs before it are long are the ends of the runs
+pub ends_lie : (run : Run) (vs : List Value) (o : List ℕ) → ((k : ℕ) → get_or o k 0 < 256) → 4 * (length vs + 1) ≤ length o
+    → ((i : ℕ) → i ≤ length vs → start_of o 0 + extents run (take i vs) ≡ start_of o i) → (i : ℕ) → i ≤ length vs
+    → ends run (start_of o 0) (take i vs) ≡ take (4 * i) (drop 4 o)
+ends_lie run vs o small there far zero m = refl
+ends_lie run vs o small there far (suc i) m =
+    let next : bytes_low_first 0 4 (start_of o (i + 1)) ≡ take 4 (drop (4 * (i + 1)) o) =
+    unsigned_bytes B32 o (4 * (i + 1)) small (omega (arith, there, m)) in
+    let behind : drop (4 * i) (drop 4 o) ≡ drop (4 * (i + 1)) o =
+    drop-drop (4 * i) 4 o ∙ ap (λ (k : ℕ). drop k o) (let k : 4 + 4 * i ≡ 4 * (i + 1) = omega arith in k) in
+    let more : 4 * suc i ≡ 4 * i + 4 = omega arith in
+    ap (λ (k : ℕ). ends run (start_of o 0) (take k vs)) (sym (add-one i))
+    ∙ (sym (ends_next run (start_of o 0) vs i (start_of o (i + 1)) (omega arith) (sym (far (i + 1) (omega arith))))
+    ∙ (ap (λ (bs : List ℕ). bs ++ bytes_low_first 0 4 (start_of o (i + 1))) (ends_lie run vs o small there far i (omega arith))
+    ∙ (ap (λ (bs : List ℕ). take (4 * i) (drop 4 o) ++ bs) (next ∙ ap (λ (bs : List ℕ). take 4 bs) (sym behind))
+    ∙ (sym (take-add (4 * i) 4 (drop 4 o)) ∙ ap (λ (k : ℕ). take k (drop 4 o)) (sym more)))))
 
 module _ (s : Nested) (b : Buffers) (h : AreBuffers s b) (utf8 : Bool) (e : b.layout ≡ l.VariableBytes utf8)
     (some : 0 < length (slot_values s)) where
@@ -500,31 +512,13 @@ module _ (s : Nested) (b : Buffers) (h : AreBuffers s b) (utf8 : Bool) (e : b.la
       let run = content_extents (take i vs) in
       omega (arith, up, whole, size, run)
 
-  ends_front : (i : ℕ) → i ≤ length (slot_values s)
-      → ends Bytes (start_of b.offsets.now 0) (take i (slot_values s)) ≡ take (4 * i) (drop 4 b.offsets.now)
-  ends_front zero m = refl
-  ends_front (suc i) m =
-      let vs = slot_values s in
-      let o = b.offsets.now in
-      let there = offsets_there s b h utf8 e some in
-      let run = sym (front_extents (i + 1) (omega arith)) in
-      let next : bytes_low_first 0 4 (start_of o (i + 1)) ≡ take 4 (drop (4 * (i + 1)) o) =
-      unsigned_bytes B32 o (4 * (i + 1)) small (omega (arith, there, m)) in
-      let behind : drop (4 * i) (drop 4 o) ≡ drop (4 * (i + 1)) o =
-      drop-drop (4 * i) 4 o ∙ ap (λ (k : ℕ). drop k o) (let k : 4 + 4 * i ≡ 4 * (i + 1) = omega arith in k) in
-      let more : 4 * suc i ≡ 4 * i + 4 = omega arith in
-      ap (λ (k : ℕ). ends Bytes (start_of o 0) (take k vs)) (sym (add-one i))
-      ∙ (sym (ends_next Bytes (start_of o 0) vs i (start_of o (i + 1)) (omega arith) run)
-      ∙ (ap (λ (bs : List ℕ). bs ++ bytes_low_first 0 4 (start_of o (i + 1))) (ends_front i (omega arith))
-      ∙ (ap (λ (bs : List ℕ). take (4 * i) (drop 4 o) ++ bs) (next ∙ ap (λ (bs : List ℕ). take 4 bs) (sym behind))
-      ∙ (sym (take-add (4 * i) 4 (drop 4 o)) ∙ ap (λ (k : ℕ). take k (drop 4 o)) (sym more)))))
-
   -- the offsets behind the first are the ends of the slots
   ends_lent : slice_range b.offsets.now 4 (4 * (length (slot_values s) + 1)) ≡ ends Bytes (start_of b.offsets.now 0) (slot_values s)
   ends_lent =
       let n = length (slot_values s) in
       ap (λ (k : ℕ). take k (drop 4 b.offsets.now)) (let k : 4 * (n + 1) - 4 ≡ 4 * n = omega arith in k)
-      ∙ (sym (ends_front n (omega arith)) ∙ ap (ends Bytes (start_of b.offsets.now 0)) (take_all n (slot_values s) (omega arith)))
+      ∙ (sym (ends_lie Bytes (slot_values s) b.offsets.now small (offsets_there s b h utf8 e some) front_extents n (omega arith))
+      ∙ ap (ends Bytes (start_of b.offsets.now 0)) (take_all n (slot_values s) (omega arith)))
 
   -- and the bytes are those from the first of them to the last
   bytes_lent : slice_range b.values.now (start_of b.offsets.now 0) (start_of b.offsets.now (length (slot_values s)))
@@ -533,38 +527,27 @@ module _ (s : Nested) (b : Buffers) (h : AreBuffers s b) (utf8 : Bool) (e : b.la
 
 -- where the bytes of so many slots lie, and where they end
 pub record LieWhole (s : Nested) (o w : List ℕ) (count : ℕ) : Type 0 where
-  pub order : start_of o 0 ≤ start_of o count
   pub inside : start_of o count ≤ length w
   pub there : 4 * (count + 1) ≤ length o
-  pub bytes : slice_range w (start_of o 0) (start_of o count) ≡ slots Content (slot_values s)
-  pub each : (i : ℕ) → i < count
-      → num (slice_range o 4 (4 * (count + 1))) (4 * i) 4 ≡ start_of o 0 + length (slots Content (take (i + 1) (slot_values s)))
-  pub ends_are : slice_range o 4 (4 * (count + 1)) ≡ ends Bytes (start_of o 0) (slot_values s)
+  pub bytes : take (start_of o count) w ≡ slots Content (slot_values s)
+  pub ends_are : slice_range o 4 (4 * (count + 1)) ≡ ends Bytes 0 (slot_values s)
 
 pub lie_whole : (s : Nested) (b : Buffers) → AreBuffers s b → (utf8 : Bool) → b.layout ≡ l.VariableBytes utf8 → (count : ℕ)
     → count ≡ length (slot_values s) → (count ≡ 0 → ⊥) → ((k : ℕ) → get_or b.offsets.now k 0 < 256)
     → ((i : ℕ) → i < count → is_valid b.validity.now i ≡ false → start_of b.offsets.now (i + 1) ≡ start_of b.offsets.now i)
-    → LieWhole s b.offsets.now b.values.now count
-lie_whole s b h utf8 e count size some small empty =
+    → start_of b.offsets.now 0 ≡ 0 → LieWhole s b.offsets.now b.values.now count
+lie_whole s b h utf8 e count size some small empty first =
     let n = length (slot_values s) in
+    let o = b.offsets.now in
     let few : 0 < n = omega (arith, size, some) in
-    let nothing : (i : ℕ) → i < n → is_valid b.validity.now i ≡ false → start_of b.offsets.now (i + 1) ≡ start_of b.offsets.now i =
+    let nothing : (i : ℕ) → i < n → is_valid b.validity.now i ≡ false → start_of o (i + 1) ≡ start_of o i =
     λ i m. empty i (omega (arith, size, m)) in
     rw size (record {
-      order = up_to Content (slot_values s) b.values.now (start_of b.offsets.now) (contents_joined s b h utf8 e few small nothing) n
-          (omega arith);
       inside = starts_within s b h utf8 e few small nothing n (omega arith);
       there = offsets_there s b h utf8 e few;
-      bytes = bytes_lent s b h utf8 e few small nothing;
-      each = λ i m.
-          let size : 4 * (n + 1) - 4 ≡ 4 * n = omega arith in
-          let at : 4 + 4 * i ≡ 4 * (i + 1) = omega arith in
-          ap (λ (k : ℕ). num (take k (drop 4 b.offsets.now)) (4 * i) 4) size
-          ∙ (num_in_cut 4 (4 * i) b.offsets.now (4 * n) 4 (omega (arith, m))
-          ∙ (ap (λ (k : ℕ). num b.offsets.now k 4) at
-          ∙ (sym (front_extents s b h utf8 e few small nothing (i + 1) (omega (arith, m)))
-          ∙ ap (λ (k : ℕ). start_of b.offsets.now 0 + k) (sym (content_extents (take (i + 1) (slot_values s)))))));
-      ends_are = ends_lent s b h utf8 e few small nothing;
+      bytes = ap (λ (k : ℕ). take k b.values.now) (let all : start_of o n ≡ start_of o n - 0 = omega arith in all)
+          ∙ (ap (λ (k : ℕ). slice_range b.values.now k (start_of o n)) (sym first) ∙ bytes_lent s b h utf8 e few small nothing);
+      ends_are = ends_lent s b h utf8 e few small nothing ∙ ap (λ (k : ℕ). ends Bytes k (slot_values s)) first;
     })
 
 -- the texts of a column are UTF-8 where each of its slots spells them

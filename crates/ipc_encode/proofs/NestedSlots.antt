@@ -1,12 +1,16 @@
 -- Lists and structs that use all slots of their children.
 use Rattle.std.proofs.Common.{◌≡◌, ◌∙◌, refl, sym, ap, subst, ℕ, zero, suc, ◌+◌, ◌-◌, ◌*◌, ◌<◌, ◌≤◌, Bool, true, false, cond, List, []}
-use Rattle.std.proofs.Common.{◌∷◌, ◌++◌, length, map, get_or, Option, Some, None, arith, inl, inr}
+use Rattle.std.proofs.Common.{◌∷◌, ◌++◌, length, map, get_or, take, drop, replicate, Option, Some, None, arith, inl, inr}
+use Rattle.std.proofs.Math.Seq.{take-add}
 use Rattle.std.proofs.lemmas.Bool.{and_parts, false≢true, cases_lt}
-use Rattle.std.proofs.lemmas.List.{append-nil}
+use Rattle.std.proofs.lemmas.List.{append-nil, take_all}
+use Rattle.std.specs.Int.{bytes_low_first}
 use Rattle.std.proofs.lemmas.Option.{none-some}
 use Rattle.std.specs.Prelude.{slice_get, ◌&&◌, not}
+use Rattle.ipc_model.specs.Limits.{max_data}
 use Rattle.ipc_model.specs.declared.layout.Layout.{Layout}
 use Rattle.ipc_model.specs.declared.layout.Layout.TheVariants as l
+use Rattle.ipc_model.specs.declared.schema.IntBits.TheVariants.{B32}
 use Rattle.ipc_model.specs.declared.value.Value.{Value, out-Value}
 use Rattle.ipc_model.specs.declared.value.Value.TheOpen.{Value-F}
 use Rattle.ipc_model.specs.declared.value.Value.TheVariants.{Null}
@@ -15,7 +19,7 @@ use Rattle.ipc_column.proofs.Cells.{items_more}
 use Rattle.ipc_column.proofs.lending.Lendings.{lent_offsets, lent_order}
 use Rattle.ipc_column.proofs.Parts.{children_out}
 use Rattle.ipc_column.proofs.lending.Slices.{places}
-use Rattle.ipc_column.proofs.lending.Slots.{bytes_from, order_from}
+use Rattle.ipc_column.proofs.lending.Slots.{bytes_from, items_length, order_from}
 use Rattle.ipc_column.specs.checks.Checks.{are_ascending, have_slots}
 use Rattle.ipc_column.specs.Columns.{Columns}
 use Rattle.ipc_column.specs.Lending.{AreBuffers}
@@ -28,17 +32,18 @@ use Rattle.ipc_column.specs.Views.{part_columns, column_of, children_of}
 use Rattle.ipc_column.specs.declared.buffers.Buffers.{Buffers}
 use Rattle.ipc_column.specs.declared.ranges.ColumnRanges.{ColumnRanges}
 use Rattle.ipc_encode.specs.Built.{AreNodes, IsNode}
-use Rattle.ipc_encode.specs.Cells.{all_items, all_parts, cell, is_set, items_in, struct_member, part_in}
+use Rattle.ipc_encode.specs.Cells.{all_items, all_parts, cell, ends, is_set, items_in, offsets, struct_member, part_in}
 use Rattle.ipc_encode.specs.Cells as cells
 use Rattle.ipc_encode.specs.Marks.{MarksNulls}
-use Rattle.ipc_encode.specs.Pieces.{Valid}
+use Rattle.ipc_encode.specs.Columns.{data_in}
+use Rattle.ipc_encode.specs.Pieces.{Items, Valid}
 use Rattle.ipc_encode.specs.WholeColumns.{AreFullColumns, IsFullColumn}
 use Rattle.ipc_encode.specs.declared.column.ColumnBuilder.{ColumnBuilder}
 use Rattle.ipc_encode.specs.declared.tree.Node.{Node}
 use Rattle.ipc_encode.proofs.Growing.{IsAt}
-use Rattle.ipc_encode.proofs.LentBuffers.{buffers_at, list_out, slot_count, slot_is, struct_out, place_is, start_of, own_set}
-use Rattle.ipc_encode.proofs.NumberSlots.{null_out}
-use Rattle.ipc_encode.proofs.Steps.{below_append}
+use Rattle.ipc_encode.proofs.LentBuffers.{buffers_at, ends_lie, list_out, slot_count, slot_is, struct_out, place_few, place_is, start_of, own_set}
+use Rattle.ipc_encode.proofs.NumberSlots.{null_out, unsigned_bytes}
+use Rattle.ipc_encode.proofs.Steps.{below_append, extents, items_extents, items_next}
 
 -- ---- the slots of the children of a column that was read, where they are those that its slots lead to
 
@@ -200,6 +205,59 @@ module _ (s : Nested) (b : Buffers) (h : AreBuffers s b) (e : b.layout ≡ l.Lis
             let same = empty i m e' in
             ap items_in null_out ∙ sym (none (omega (arith, here, next, same)))
 
+    -- each offset is as far from the first as the lists before it have items
+    list_far : (i : ℕ) → i ≤ length (slot_values s)
+        → start_of b.offsets.now 0 + extents Items (take i (slot_values s)) ≡ start_of b.offsets.now i
+    list_far zero m = omega arith
+    list_far (suc i) m =
+        let vs = slot_values s in
+        let o = b.offsets.now in
+        let more : i + 1 ≡ suc i = omega arith in
+        let count = slot_count s in
+        let before = list_far i (omega arith) in
+        let here = list_place i (omega arith) in
+        let next = list_place (i + 1) (omega arith) in
+        let rise = list_rise i (omega arith) in
+        let one : length (cells.items (get_or vs i Null)) ≡ offset_position o (i + 1) - offset_position o i =
+        ap (λ (v : Value). length (cells.items v)) (slot_is s i (omega arith))
+        ∙ (ap (λ (vs : List Value). length vs) (list_at i (omega arith))
+        ∙ items_length (λ j. first_of (row (child_columns s) j)) (offset_position o i) (offset_position o (i + 1) - offset_position o i)) in
+        let items = items_next vs i (omega arith) in
+        let run = items_extents (take i vs) in
+        let runs = items_extents (take (i + 1) vs) in
+        let whole : start_of o 0 + extents Items (take (i + 1) vs) ≡ start_of o (i + 1) =
+        omega (arith, before, here, next, rise, one, items, run, runs) in
+        subst (λ (k : ℕ). start_of o 0 + extents Items (take k vs) ≡ start_of o k) more whole
+
+    -- lists that begin at 0 have the offsets that are written
+    pub list_offsets_are : start_of b.offsets.now 0 ≡ 0
+        → take (4 * (length (slot_values s) + 1)) b.offsets.now ≡ offsets Items (slot_values s)
+    list_offsets_are first =
+        let vs = slot_values s in
+        let o = b.offsets.now in
+        let n = length vs in
+        let there = list_offsets_there in
+        let head : bytes_low_first 0 4 (start_of o 0) ≡ take 4 (drop 0 o) = unsigned_bytes B32 o 0 small (omega (arith, there)) in
+        let size : 4 * (n + 1) ≡ 4 + 4 * n = omega arith in
+        let behind = ends_lie Items vs o small there list_far n (omega arith) in
+        ap (λ (k : ℕ). take k o) size
+        ∙ (take-add 4 (4 * n) o
+        ∙ (ap (λ (bs : List ℕ). bs ++ take (4 * n) (drop 4 o)) (sym head)
+        ∙ (ap (λ (bs : List ℕ). bytes_low_first 0 4 (start_of o 0) ++ bs) (sym behind)
+        ∙ (ap (λ (ws : List Value). bytes_low_first 0 4 (start_of o 0) ++ ends Items (start_of o 0) ws) (take_all n vs (omega arith))
+        ∙ ap (λ (k : ℕ). bytes_low_first 0 4 k ++ ends Items k vs) first))))
+
+    -- and so many items that offsets reach them
+    pub list_few : start_of b.offsets.now 0 ≡ 0 → data_in l.Lists (slot_values s) ≤ max_data
+    list_few first =
+        let vs = slot_values s in
+        let n = length vs in
+        let far = list_far n (omega arith) in
+        let all = ap (extents Items) (take_all n vs (omega arith)) in
+        let run = items_extents vs in
+        let end = place_few b.offsets.now n (offset_position b.offsets.now n) n small list_ascend (omega arith) in
+        omega (arith, first, far, all, run, end)
+
     -- all items are those of one run
     pub list_run : all_items (slot_values s)
         ≡ items (λ j. first_of (row (child_columns s) j)) (offset_position b.offsets.now 0)
@@ -226,6 +284,16 @@ module _ (s : Nested) (b : Buffers) (h : AreBuffers s b) (e : b.layout ≡ l.Lis
         ∙ (ap (λ (k : ℕ). items (λ j. first_of (row (child_columns s) j)) 0 k)
         (let k : offset_position b.offsets.now (length (slot_values s)) - 0 ≡ child.column.slots = omega (arith, end) in k)
         ∙ items_same (λ j. first_of (row (child_columns s) j)) (child_value child) 0 child.column.slots (λ j. first_value s child j is)))
+
+-- offsets reach all items of no lists
+pub no_data : (vs : List Value) → length vs ≡ 0 → data_in l.Lists vs ≤ max_data
+no_data [] none = omega arith
+no_data (v ∷ vs) none = absurd (omega arith)
+
+-- no lists have one offset, 0
+pub no_offsets : (vs : List Value) → length vs ≡ 0 → replicate 4 0 ≡ offsets Items vs
+no_offsets [] none = refl
+no_offsets (v ∷ vs) none = absurd (omega arith)
 
 -- no lists have no items
 pub no_lists : (vs ws : List Value) → length vs ≡ 0 → length ws ≡ 0 → all_items vs ≡ ws
@@ -428,17 +496,6 @@ struct_spells s child b k h e is size empty spelled j m =
 
 -- ---- columns that lie whole, one by one
 
--- the node of a field
-pub node_at : (P : Layout → List Value → ColumnBuilder → Type 0) (i : ℕ) (shape : Shape) (nodes : List Node) (given : ℕ → List Value)
-    (d : Node)
-    (l : Layout) (c : Shape)
-    → IsAt i shape l c → AreNodes P shape nodes given → IsNode P l c (get_or nodes i d) (given i)
-node_at P i bare nodes given d l c at h = absurd at
-node_at P i (field k e rest) [] given d l c at h = absurd h
-node_at P zero (field k e rest) (m ∷ ms) given d l c at h =
-    subst (λ (s : Shape). IsNode P l s m (given 0)) at.1 (subst (λ (x : Layout). IsNode P x e m (given 0)) at.0 h.0)
-node_at P (suc i) (field k e rest) (m ∷ ms) given d l c at h = node_at P i rest ms (λ j. given (suc j)) d l c at h.1
-
 -- the column that was read for a field
 pub whole_at : (i : ℕ) (shape : Shape) (views : List Nested) (given : ℕ → List Value) (l : Layout) (c : Shape) (v : Nested)
     → IsAt i shape l c → slice_get views i ≡ Some v → AreFullColumns shape views given → IsFullColumn l c v (given i)
@@ -448,24 +505,6 @@ whole_at zero (field k e rest) (w ∷ ws) given l c v at is h =
     subst (λ (n : Nested). IsFullColumn l c n (given 0)) (some_same w v is)
     (subst (λ (s : Shape). IsFullColumn l s w (given 0)) at.1 (subst (λ (x : Layout). IsFullColumn x e w (given 0)) at.0 h.0))
 whole_at (suc i) (field k e rest) (w ∷ ws) given l c v at is h = whole_at i rest ws (λ j. given (suc j)) l c v at is h.1
-
--- columns are whole where each of them is, and there is one for each node
-pub whole_all : (P : Layout → List Value → ColumnBuilder → Type 0) (shape : Shape) (nodes : List Node) (views : List Nested)
-    (before given : ℕ → List Value)
-    → AreNodes P shape nodes before → length nodes ≡ length views
-    → ((i : ℕ) → i < length nodes → (l : Layout) (c : Shape) (v : Nested) → IsAt i shape l c → slice_get views i ≡ Some v
-    → IsFullColumn l c v (given i))
-    → AreFullColumns shape views given
-whole_all P bare [] [] before given h size each = tt
-whole_all P bare [] (v ∷ vs) before given h size each = absurd (omega arith)
-whole_all P bare (m ∷ ms) views before given h size each = absurd h
-whole_all P (field l c rest) [] views before given h size each = absurd h
-whole_all P (field l c rest) (m ∷ ms) [] before given h size each = absurd (omega arith)
-whole_all P (field l c rest) (m ∷ ms) (v ∷ vs) before given h size each = (
-  each 0 (omega arith) l c v (refl, refl) refl,
-  whole_all P rest ms vs (λ j. before (suc j)) (λ j. given (suc j)) h.1 (omega arith)
-      (λ i m k e w at is. each (suc i) (omega arith) k e w at is),
-)
 
 -- what holds of the first numbers and of the next
 pub first_and_next : (Q : ℕ → Type 0) (i : ℕ) → ((j : ℕ) → j < i → Q j) → Q i → (j : ℕ) → j < i + 1 → Q j

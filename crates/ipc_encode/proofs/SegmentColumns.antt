@@ -25,7 +25,7 @@ use Rattle.ipc_encode.specs.Limits.{HasLongData, HasLongItems, HasLongNode, HasE
 use Rattle.ipc_encode.specs.Numbers.{Numbering}
 use Rattle.ipc_encode.specs.Segments.{AddsBuffers, IsBodyRefused, bytes_of_segments, segment_bytes, AddsColumns, AreRefusedAfter}
 use Rattle.ipc_encode.specs.Segments.{IsDataRefused}
-use Rattle.ipc_encode.specs.WholeColumns.{AreFullColumns, is_taken_whole}
+use Rattle.ipc_encode.specs.WholeColumns.{AreFullColumns, IsFullColumn, is_taken_whole}
 use Rattle.ipc_encode.specs.Writing.{AllStored, AreStored}
 use Rattle.ipc_encode.specs.declared.fault.PushFault.{PushFault}
 use Rattle.ipc_encode.specs.declared.fault.PushFault.TheVariants as push
@@ -278,13 +278,6 @@ data_refused limits d mid lay vs push.TooLong some adds (inr more) =
 data_refused limits d mid lay vs push.TooMany some adds items = inr (inl items)
 data_refused limits d mid lay vs _ some adds h = h
 
--- lists have too many items
-pub items_refused : (limits : Limits) (len : ℕ) (vs : List Value) (fault : PushFault)
-    → (fault ≡ push.OutOfMemory) ⊎ ((fault ≡ push.TooMany) × (max_data < data_in l.Lists vs))
-    → IsDataRefused limits len l.Lists vs fault
-items_refused limits len vs fault (inl memory) = rw memory tt
-items_refused limits len vs fault (inr many) = rw many.0 (long_is l.Lists vs many.1)
-
 -- ---- a column and those of its children
 
 -- a column, and then its children
@@ -475,6 +468,19 @@ whole_fields [] [] given h = refl
 whole_fields [] (v ∷ vs) given h = absurd h
 whole_fields (f ∷ fs) [] given h = absurd h
 whole_fields (f ∷ fs) (v ∷ vs) given h = let more = whole_fields fs vs (λ j. given (suc j)) h.1 in omega (arith, more)
+
+-- columns are whole where each of them is, and there is one for each field
+pub whole_all : (fields : List Field) (views : List Nested) (given : ℕ → List Value) → length fields ≡ length views
+    → ((i : ℕ) → i < length fields → (f : Field) (v : Nested) → slice_get fields i ≡ Some f → slice_get views i ≡ Some v
+    → IsFullColumn (field_layout f) (field_children f) v (given i))
+    → AreFullColumns (shape_of fields) views given
+whole_all [] [] given size each = tt
+whole_all [] (v ∷ vs) given size each = absurd (omega arith)
+whole_all (f ∷ fs) [] given size each = absurd (omega arith)
+whole_all (f ∷ fs) (v ∷ vs) given size each = (
+  each 0 (omega arith) f v refl refl,
+  whole_all fs vs (λ j. given (suc j)) (omega arith) (λ i m g w at is. each (suc i) (omega arith) g w at is),
+)
 
 -- the layout of a field, and the shape of its children
 pub field_parts : (f : Field) → field_shape f ≡ (layout (out-Field f).kind (out-Field f).dictionary, shape_of (out-Field f).children)

@@ -1,9 +1,9 @@
 -- One value more in a column, and what it gives to the columns below.
-use Rattle.std.proofs.Common.{◌≡◌, ◌∙◌, refl, sym, ap, ℕ, suc, ◌+◌, Bool, cond, List, [], ◌∷◌, ◌++◌, length, append_assoc, arith}
+use Rattle.std.proofs.Common.{◌≡◌, ◌∙◌, refl, sym, ap, ℕ, suc, ◌+◌, Bool, cond, List, [], ◌∷◌, ◌++◌, length, append_assoc, arith, ◌<◌, get_or}
 use Rattle.std.proofs.Common.{zero, ◌*◌, ◌≤◌, replicate, take, subst, true, false, length-append}
 use Rattle.std.proofs.Math.Nat.{suc-mul}
 use Rattle.std.proofs.lemmas.Bool.{eq-eqb, eqb-true, ne_eqb}
-use Rattle.std.proofs.lemmas.List.{append-nil, length-replicate, replicate-append-replicate, take-replicate}
+use Rattle.std.proofs.lemmas.List.{append-nil, length-replicate, replicate-append-replicate, take-replicate, take_more}
 use Rattle.std.specs.Int.{bytes_low_first}
 use Rattle.std.specs.Prelude.{◌==◌, ◌&&◌}
 use denote.Hole.Carrier
@@ -141,6 +141,19 @@ bytes_extents utf8 (v ∷ vs) = ap (λ (n : ℕ). length (content v) + n) (bytes
 pub items_extents : (vs : List Value) → data_in l.Lists vs ≡ extents p.Items vs
 items_extents [] = refl
 items_extents (v ∷ vs) = ap (λ (n : ℕ). length (items v) + n) (items_extents vs)
+
+-- the data of some values and then others
+pub data_append : (layout : Layout) (vs ws : List Value) → data_in layout (vs ++ ws) ≡ data_in layout vs + data_in layout ws
+data_append layout [] ws = omega arith
+data_append layout (v ∷ vs) ws = let more = data_append layout vs ws in omega (arith, more)
+
+-- the items of one list more
+pub items_next : (vs : List Value) (i : ℕ) → i < length vs
+    → data_in l.Lists (take (i + 1) vs) ≡ data_in l.Lists (take i vs) + length (items (get_or vs i v.Null))
+items_next vs i m =
+    let all = data_append l.Lists (take i vs) (get_or vs i v.Null ∷ []) in
+    let same = ap (data_in l.Lists) (take_more vs i v.Null m) in
+    omega (arith, all, same)
 
 -- ---- the values of children
 

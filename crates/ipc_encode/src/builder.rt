@@ -12,7 +12,7 @@ ghost use Rattle.ipc_column.specs.Dictionaries.{Dictionaries};
 ghost use Rattle.ipc_column.specs.Rows.{Rows};
 ghost use Rattle.ipc_column.specs.Shapes.{Shape, node_count, shape_of};
 ghost use Rattle.ipc_encode.specs.Buffers.{AreLaidOut, row_columns};
-ghost use Rattle.ipc_encode.specs.Built.{AreShares, ArePushesRefused, HasFailed, HoldColumns};
+ghost use Rattle.ipc_encode.specs.Built.{AreShares, HasFailed, HoldColumns};
 ghost use Rattle.ipc_encode.specs.Built.{BeginsWithRows, HoldsAgreeing, HoldsRows, StoresRows};
 ghost use Rattle.ipc_encode.specs.Faults.{write_fault};
 ghost use Rattle.ipc_encode.specs.Indices.{FindsRows};
@@ -62,31 +62,6 @@ fn check_len(nodes: &[Node], limits: &Limits) -> Result<(), WriteFault>
         Some(_) => Ok(()),
         None => Err(WriteFault::TooLong),
     }
-}
-
-// Takes rows, one after another, into columns without values.
-fn push_rows<I: IndexOf>(
-    fields: &[Field],
-    nodes: &mut [Node],
-    rows: &[Row],
-    limits: &Limits,
-    indices: &I,
-) -> Result<(), PushFault>
-    ensures pushed { (shape : Shape)
-        → HoldColumns (index_or_zero (I.IndexOf.index indices.now)) limits.now shape nodes.old
-        (λ j. [])
-        → OnOk result (HoldColumns (index_or_zero (I.IndexOf.index indices.now)) limits.now shape
-        nodes.new
-        (row_columns rows.now)) }
-    ensures refused { (shape : Shape)
-        → HoldColumns (index_or_zero (I.IndexOf.index indices.now)) limits.now shape nodes.old
-        (λ j. [])
-        → IfErr result (ArePushesRefused limits.now shape (row_columns rows.now)) }
-{
-    for row in rows {
-        append_parts(row.as_slice(), nodes, fields, limits, indices)?;
-    }
-    Ok(())
 }
 
 // Returns what each of these columns may have, and whether no body is too long with that.
@@ -168,36 +143,6 @@ impl Builder {
             is_shared,
             failed: false,
             body,
-        })
-    }
-
-    // These rows of these fields. The length of the body is looked at once, when all are taken.
-    pub(crate) fn of_rows<I: IndexOf>(
-        alloc: Global,
-        fields: &[Field],
-        limits: &Limits,
-        rows: &[Row],
-        indices: &I,
-    ) -> Result<Builder, WriteFault>
-        ensures rows { IfOk result
-            (StoresRows (index_or_zero (I.IndexOf.index indices.now)) limits.now fields.now
-            rows.now) }
-        ensures refused { IfErr result (AreRowsRefused limits.now fields.now rows.now) }
-    {
-        if rows.len() > limits.slots as usize {
-            return Err(WriteFault::TooManyRows);
-        }
-        let mut nodes = new_nodes(fields, Vec::new(alloc), alloc)?;
-        push_rows(fields, &mut nodes, rows, limits, indices)?;
-        check_len(&nodes, limits)?;
-        Ok(Builder {
-            nodes,
-            rows: rows.len(),
-            limits: *limits,
-            bounds: *limits,
-            is_shared: false,
-            failed: false,
-            body: Vec::new(alloc),
         })
     }
 
@@ -384,13 +329,17 @@ impl Builder {
         }
     }
 
-    /// Drops the last row. Without rows the builder is unchanged. It takes no memory.
+    /// Drops the last row. A builder that has failed stays failed. It takes no memory.
     pub fn pop(&mut self)
-        ensures { (known : Numbering) (limits : Limits) (fields : List Field)
+        ensures rows { (known : Numbering) (limits : Limits) (fields : List Field)
             (rows : List (List Value)) (row : List Value)
             → StoresRows known limits fields (rows ++ row ∷ []) self.old
             → StoresRows known limits fields rows self.new }
+        ensures failed { HasFailed self.old → HasFailed self.new }
     {
+        if self.failed {
+            return;
+        }
         self.rows = self.rows.saturating_sub(1);
         self.cut_row();
     }
@@ -496,5 +445,9 @@ pub fn encode<I: IndexOf>(
     // A refusal is true of the rows.
     ensures refused { IfErr result (AreRowsRefused limits.now fields.now rows.now) }
 {
-    Builder::of_rows(alloc, fields, limits, rows, indices)?.finish(&SameNumbers)
+    let mut builder = Builder::new(alloc, fields, limits)?;
+    for row in rows {
+        builder.push(fields, row.as_slice(), indices)?;
+    }
+    builder.finish(&SameNumbers)
 }

@@ -1,9 +1,7 @@
 //! The buffers of a column, borrowed from the batch where they lie as they are written.
 ghost use Rattle.std.specs.Prelude.{◌≡◌, ◌≤◌, ◌<◌, ◌+◌, ◌*◌, ℕ, false, length, IfSome, IsTrue};
-ghost use Rattle.std.specs.Prelude.{slice_index, take, List, [], ◌⊎◌, drop, replicate, IfErr, IfOk};
-ghost use Rattle.std.specs.Prelude.{OnOk};
+ghost use Rattle.std.specs.Prelude.{slice_index, take, List, [], drop, replicate, IfOk};
 ghost use Rattle.ipc_scalar.specs.Bytes.{num};
-ghost use Rattle.ipc_model.specs.Limits.{max_data};
 ghost use Rattle.ipc_model.specs.declared.layout.Layout.TheVariants.{Bits, FixedBytes, Lists};
 ghost use Rattle.ipc_model.specs.declared.value.Value.{Value};
 ghost use Rattle.ipc_column.specs.Lending.{AreNumbers};
@@ -11,18 +9,15 @@ ghost use Rattle.ipc_column.specs.Nested.{slot_values};
 ghost use Rattle.ipc_column.specs.Values.{is_valid};
 ghost use Rattle.ipc_encode.specs.Bitmaps.{bitmap};
 ghost use Rattle.ipc_encode.specs.Cells.{ends, slots, flags, nulls, offsets};
-ghost use Rattle.ipc_encode.specs.Columns.{data_in, validity_bytes};
+ghost use Rattle.ipc_encode.specs.Columns.{validity_bytes};
 ghost use Rattle.ipc_encode.specs.Marks.{HasBits, MarksNulls};
 ghost use Rattle.ipc_encode.specs.Pieces.{Bytes, Content, Fixed, Items, Number, True};
 ghost use Rattle.ipc_encode.specs.Segments.{segment_bytes};
+ghost use Rattle.ipc_encode.specs.WholeColumns.{UseAllItems};
 
 use crate::bitmaps::{is_valid_in_bitmap, push_bitmap};
-use crate::column_builder::MAX_DATA;
-use crate::fault::PushFault;
 use crate::segments::Segment;
-use crate::slot_pushing::{
-    push_bools, push_each_content, push_ends, push_fixed_slots, push_list_ends, push_numbers,
-};
+use crate::slot_pushing::{push_bools, push_each_content, push_fixed_slots, push_numbers};
 use ipc_column::{Numbers, SlotView};
 use ipc_model::Layout;
 use ipc_scalar::get_u32;
@@ -38,17 +33,6 @@ pub(crate) fn borrowed_bitmap<'a>(view: &SlotView<'a>) -> Option<&'a [u8]>
         Layout::Null | Layout::Indices { .. } => None,
         _ => Some(buffers.validity),
     }
-}
-
-/// The texts or binary values of a column, as they are laid out in the body.
-#[derive(Clone, Copy, Debug, Drop)]
-pub(crate) struct BorrowedContents<'a> {
-    /// The bytes of the values, one after another.
-    pub(crate) bytes: &'a [u8],
-    /// The offset at which the first value begins.
-    pub(crate) start: usize,
-    /// The offset at which each value ends, in 32 bits.
-    pub(crate) ends: &'a [u8],
 }
 
 /// Returns offset `i`, which is not negative.
@@ -78,17 +62,22 @@ pub(crate) fn nulls_are_empty(marks: &[u8], offsets: &[u8], count: usize) -> boo
     true
 }
 
-/// Returns the texts or binary values of a column, if null slots have no bytes.
-pub(crate) fn borrowed_contents<'a>(view: &SlotView<'a>) -> Option<BorrowedContents<'a>>
-    ensures bytes { IfSome result
-        (λ lent. lent.bytes.now ≡ slots Content (slot_values view.now)) }
+/// The buffers of binary values or texts, without the first offset, which is 0.
+#[derive(Debug, Drop)]
+pub(crate) struct VariableBinarySegments<'a> {
+    /// The offset at which each value ends, in 32 bits.
+    pub(crate) ends: Segment<'a>,
+    /// The bytes of the values, one after another.
+    pub(crate) values: Segment<'a>,
+}
+
+/// Returns the buffers of binary values or texts as they lie, if offsets begin at 0 and null slots
+/// have no bytes.
+fn borrowed_contents<'a>(view: &SlotView<'a>) -> Option<VariableBinarySegments<'a>>
     ensures ends { IfSome result
-        (λ lent. lent.ends.now ≡ ends Bytes lent.start (slot_values view.now)) }
-    ensures each { IfSome result (λ lent. (i : ℕ) → i < length (slot_values view.now)
-        → num lent.ends.now (4 * i) 4
-        ≡ lent.start + length (slots Content (take (i + 1) (slot_values view.now)))) }
-    ensures room { IfSome result
-        (λ lent. length lent.ends.now ≡ 4 * length (slot_values view.now)) }
+        (λ run. segment_bytes run.ends ≡ ends Bytes 0 (slot_values view.now)) }
+    ensures values { IfSome result
+        (λ run. segment_bytes run.values ≡ slots Content (slot_values view.now)) }
 {
     let buffers = view.buffers();
     let count = view.len();
@@ -98,22 +87,14 @@ pub(crate) fn borrowed_contents<'a>(view: &SlotView<'a>) -> Option<BorrowedConte
     if count == 0 || !nulls_are_empty(buffers.validity, buffers.offsets, count) {
         return None;
     }
-    let start = offset_at(buffers.offsets, 0) as usize;
+    if offset_at(buffers.offsets, 0) != 0 {
+        return None;
+    }
     let end = offset_at(buffers.offsets, count) as usize;
-    Some(BorrowedContents {
-        bytes: &buffers.values[start..end],
-        start,
-        ends: &buffers.offsets[4..4 * (count + 1)],
+    Some(VariableBinarySegments {
+        ends: Segment::Borrowed(&buffers.offsets[4..4 * (count + 1)]),
+        values: Segment::Borrowed(&buffers.values[..end]),
     })
-}
-
-/// The buffers of binary values or texts, without the first offset, which is 0.
-#[derive(Debug, Drop)]
-pub(crate) struct VariableBinarySegments<'a> {
-    /// The offset at which each value ends, in 32 bits.
-    pub(crate) ends: Segment<'a>,
-    /// The bytes of the values, one after another.
-    pub(crate) values: Segment<'a>,
 }
 
 // Whether all bytes are 0.
@@ -251,30 +232,8 @@ pub(crate) fn bit_values<'a>(
     Ok(Segment::Owned(values))
 }
 
-// The offsets at which `count` values end, if the first begins at 0.
-fn value_ends<'a>(
-    alloc: Global,
-    pool: &mut Vec<Vec<u8>>,
-    contents: &BorrowedContents<'a>,
-    count: usize,
-) -> Result<Segment<'a>, AllocError>
-    requires room { length contents.now.ends.now ≡ 4 * count }
-    ensures { (values : List Value) → length values ≡ count
-        → contents.now.ends.now ≡ ends Bytes contents.now.start values
-        → ((i : ℕ) → i < count → num contents.now.ends.now (4 * i) 4
-        ≡ contents.now.start + length (slots Content (take (i + 1) values)))
-        → IfOk result (λ segment. segment_bytes segment ≡ ends Bytes 0 values) }
-{
-    if contents.start == 0 {
-        return Ok(Segment::Borrowed(contents.ends));
-    }
-    let mut offsets = pooled_list(alloc, pool);
-    push_ends(&mut offsets, contents, count)?;
-    Ok(Segment::Owned(offsets))
-}
-
-/// Returns the buffers of binary values or texts: the bytes are borrowed if null slots are empty,
-/// and the offsets too if they begin at 0.
+/// Returns the buffers of binary values or texts: borrowed if offsets begin at 0 and null slots are
+/// empty, and otherwise copied.
 pub(crate) fn variable_binary_segments<'a>(
     alloc: Global,
     pool: &mut Vec<Vec<u8>>,
@@ -285,12 +244,8 @@ pub(crate) fn variable_binary_segments<'a>(
     ensures values { IfOk result
         (λ run. segment_bytes run.values ≡ slots Content (slot_values view.now)) }
 {
-    if let Some(contents) = borrowed_contents(view) {
-        let ends = value_ends(alloc, pool, &contents, view.len())?;
-        return Ok(VariableBinarySegments {
-            ends,
-            values: Segment::Borrowed(contents.bytes),
-        });
+    if let Some(run) = borrowed_contents(view) {
+        return Ok(run);
     }
     let mut values = pooled_list(alloc, pool);
     let mut offsets = pooled_list(alloc, pool);
@@ -301,26 +256,15 @@ pub(crate) fn variable_binary_segments<'a>(
     })
 }
 
-/// Returns the offsets of lists.
-///
-/// Errors: `TooMany` if the lists have more than 2^31 - 1 items; `OutOfMemory` if memory for the
-/// offsets ran out.
-pub(crate) fn list_offsets<'a>(
-    alloc: Global,
-    pool: &mut Vec<Vec<u8>>,
-    view: &SlotView<'a>,
-) -> Result<Segment<'a>, PushFault>
-    ensures offsets { IfOk result
-        (λ segment. segment_bytes segment ≡ offsets Items (slot_values view.now)) }
-    ensures short { OnOk result (data_in Lists (slot_values view.now) ≤ max_data) }
-    ensures refused { IfErr result (λ fault. (fault ≡ PushFault.OutOfMemory)
-        ⊎ ((fault ≡ PushFault.TooMany) × (max_data < data_in Lists (slot_values view.now)))) }
+/// Returns the offsets of lists that use all slots of their child: one zero if there is no list.
+pub(crate) fn list_offsets<'a>(view: &SlotView<'a>) -> Segment<'a>
+    requires layout { view.now.column.layout ≡ Lists }
+    requires lists { UseAllItems view.now }
+    ensures { segment_bytes result ≡ offsets Items (slot_values view.now) }
 {
-    let mut offsets = pooled_list(alloc, pool);
-    offsets.extend_from_slice(&[0; 4])?;
-    let end = push_list_ends(&mut offsets, view)?;
-    if end > MAX_DATA {
-        return Err(PushFault::TooMany);
+    let count = view.len();
+    if count == 0 {
+        return Segment::Zeros(4);
     }
-    Ok(Segment::Owned(offsets))
+    Segment::Borrowed(&view.buffers().offsets[..4 * (count + 1)])
 }

@@ -24,7 +24,7 @@ use crate::index::{IndexOf, Renumber};
 use crate::parts::{Draft, add_node};
 use crate::segments::{Segment, SegmentedDraft, SegmentedParts, append};
 use crate::tree::new_node;
-use crate::whole_columns::{add_whole, has_node_layout};
+use crate::whole_columns::{add_whole, has_field_layout};
 use ipc_column::Batch;
 use ipc_model::{Field, Items, Limits, WriteFault};
 use std::alloc::{AllocError, Global};
@@ -171,8 +171,7 @@ fn add_field<'a, I: IndexOf, N: Renumber>(
 {
     if column < batch.columns() {
         let view = batch.column(column).slots();
-        let node = new_node(field, None, alloc)?;
-        if has_node_layout(&node, &view) {
+        if has_field_layout(field, &view) {
             return add_whole(alloc, pool, draft, field, &view, limits);
         }
     }
@@ -228,8 +227,8 @@ fn add_fields<'a, I: IndexOf, N: Renumber>(
 ///
 /// Joined, the segments are the body that `Builder::finish` gives for the batch's rows with these
 /// indices and numbers. Numbers are borrowed if null slots are zeros, fixed-size binary values if
-/// none is null, and other binary values and texts if null slots are empty. So are offsets of
-/// binary values and texts that begin at 0, and validity bitmaps of a multiple of 8 slots. Other
+/// none is null, and other binary values and texts with their offsets if these begin at 0 and null
+/// slots are empty. So are offsets of lists, and validity bitmaps of a multiple of 8 slots. Other
 /// buffers are copied, into the memory of the lists in `pool` if there are any. These columns are
 /// encoded anew:
 ///

@@ -1,12 +1,11 @@
 //! Appends the slots of a column that was read to the buffers of another, without a value for
 //! each.
 ghost use Rattle.std.specs.Prelude.{◌≡◌, ◌++◌, ℕ, List, OnOk, length, replicate, ◌≤◌, ◌+◌};
-ghost use Rattle.std.specs.Prelude.{slice_index_or, ◌⊎◌, ◌<◌, IfErr, IfOk, ◌*◌, ◌&&◌, Bool, false};
-ghost use Rattle.std.specs.Prelude.{[], take};
-ghost use Rattle.ipc_scalar.specs.Bytes.{bit, num};
+ghost use Rattle.std.specs.Prelude.{slice_index_or, ◌<◌, ◌*◌, ◌&&◌, Bool, false};
+ghost use Rattle.std.specs.Prelude.{[]};
+ghost use Rattle.ipc_scalar.specs.Bytes.{bit};
 ghost use Rattle.ipc_model.specs.Layouts.{number_bytes};
-ghost use Rattle.ipc_model.specs.Limits.{max_data};
-ghost use Rattle.ipc_model.specs.declared.layout.Layout.TheVariants.{Lists, Bits};
+ghost use Rattle.ipc_model.specs.declared.layout.Layout.TheVariants.{Bits};
 ghost use Rattle.ipc_model.specs.declared.value.Value.{Value};
 ghost use Rattle.ipc_model.specs.declared.value.Value.TheVariants.{Null};
 ghost use Rattle.ipc_column.specs.Lending.{AreNumbers};
@@ -15,14 +14,11 @@ ghost use Rattle.ipc_column.specs.Slots.{value_in_slot};
 ghost use Rattle.ipc_column.specs.Values.{is_valid};
 ghost use Rattle.ipc_encode.specs.Bitmaps.{bitmap};
 ghost use Rattle.ipc_encode.specs.Cells.{content, is_set, items, slot_bytes, slots, ends, flags};
-ghost use Rattle.ipc_encode.specs.Columns.{data_in};
 ghost use Rattle.ipc_encode.specs.Marks.{HasBits};
-ghost use Rattle.ipc_encode.specs.Pieces.{Fixed, True, Number, Items, Bytes, Content};
+ghost use Rattle.ipc_encode.specs.Pieces.{Fixed, True, Number, Bytes, Content};
 
 use crate::bitmaps::{is_valid_in_bitmap, push_bit};
-use crate::column_builder::{MAX_DATA, push_bits, push_offset};
-use crate::column_segments::{BorrowedContents, offset_at};
-use crate::fault::PushFault;
+use crate::column_builder::{push_bits, push_offset};
 use ipc_column::{Numbers, Slot, SlotView};
 use ipc_model::IntBits;
 use std::alloc::AllocError;
@@ -72,18 +68,6 @@ pub(crate) fn push_fixed_slot(
     match value {
         Slot::Bytes(bytes) if bytes.len() == width as usize => values.extend_from_slice(bytes),
         _ => push_zeros(values, width),
-    }
-}
-
-/// Returns the number of items of the list in a slot. Any other slot has none.
-#[inline(always)]
-pub(crate) fn item_count(value: &Slot<'_>) -> usize
-    ensures { (under : ℕ → List Value) (slot : ℕ)
-        → result ≡ length (items (value_in_slot under slot value.now)) }
-{
-    match value {
-        Slot::List { from, to } => to.saturating_sub(*from),
-        _ => 0,
     }
 }
 
@@ -149,36 +133,6 @@ pub(crate) fn push_numbers(
         IntBits::B16 => push_each(values, view, numbers, 2),
         IntBits::B8 => push_each(values, view, numbers, 1),
     }
-}
-
-// The end of a list that begins at `start` and has `count` items. Returns `TooMany` if offsets do
-// not reach it.
-fn list_end(start: usize, count: usize) -> Result<usize, PushFault>
-    ensures end { IfOk result (λ end. end ≡ start + count) }
-    ensures refused { IfErr result
-        (λ fault. (fault ≡ PushFault.TooMany) × (max_data < start + count)) }
-{
-    match start.checked_add(count) {
-        Some(end) if end <= MAX_DATA => Ok(end),
-        _ => Err(PushFault::TooMany),
-    }
-}
-
-/// Appends the offset at which the list of each slot ends, if the first begins at 0. Returns the
-/// last offset, or `TooMany` if 32-bit offsets do not reach it.
-pub(crate) fn push_list_ends(offsets: &mut Vec<u8>, view: &SlotView<'_>) -> Result<usize, PushFault>
-    ensures end { IfOk result (λ end. end ≡ data_in Lists (slot_values view.now)) }
-    ensures offsets { OnOk result (offsets.new.items
-        ≡ offsets.old.items ++ ends Items 0 (slot_values view.now)) }
-    ensures refused { IfErr result (λ fault. (fault ≡ PushFault.OutOfMemory)
-        ⊎ ((fault ≡ PushFault.TooMany) × (max_data < data_in Lists (slot_values view.now)))) }
-{
-    let mut end = 0;
-    for slot in 0..view.len() {
-        end = list_end(end, item_count(&view.at(slot)))?;
-        push_offset(offsets, end)?;
-    }
-    Ok(end)
 }
 
 // Appends bytes of booleans to an empty list. If the bitmap marks a slot as null, its bit is 0.
@@ -252,25 +206,6 @@ pub(crate) fn push_each_content(
         let value = view.at(slot);
         values.extend_from_slice(slot_content(&value))?;
         push_offset(offsets, values.len())?;
-    }
-    Ok(())
-}
-
-/// Appends the offset at which each of `count` values ends, if the first begins at 0.
-pub(crate) fn push_ends(
-    offsets: &mut Vec<u8>,
-    contents: &BorrowedContents<'_>,
-    count: usize,
-) -> Result<(), AllocError>
-    requires { length contents.now.ends.now ≡ 4 * count }
-    ensures { (values : List Value) → length values ≡ count
-        → ((i : ℕ) → i < count → num contents.now.ends.now (4 * i) 4
-        ≡ contents.now.start + length (slots Content (take (i + 1) values)))
-        → OnOk result (offsets.new.items ≡ offsets.old.items ++ ends Bytes 0 values) }
-{
-    for slot in 0..count {
-        let end = offset_at(contents.ends, slot) as usize;
-        push_offset(offsets, end.saturating_sub(contents.start))?;
     }
     Ok(())
 }

@@ -1,30 +1,29 @@
 //! Adds columns that were read with all their slots, where they have the layouts of a field and
 //! of its descendants.
-ghost use Rattle.std.specs.Prelude.{◌≡◌, ◌<◌, ℕ, List, Some, false, length, slice_get};
+ghost use Rattle.std.specs.Prelude.{◌≡◌, ◌<◌, ℕ, Some, true, false, length, slice_get};
 ghost use Rattle.std.specs.Prelude.{slice_index_or, IsTrue, ◌≤◌, ◌+◌, ◌++◌, ◌^◌, ◌⊎◌, [], ◌∷◌, pos};
 ghost use Rattle.std.specs.Prelude.{replicate, IfErr, OnOk};
 ghost use Rattle.ipc_model.specs.Limits.{max_data};
 ghost use Rattle.ipc_model.specs.declared.layout.Layout.{Layout};
+ghost use Rattle.ipc_model.specs.declared.layout.Layout.TheVariants.{Lists};
 ghost use Rattle.ipc_model.specs.declared.limits.Limits.{Limits};
-ghost use Rattle.ipc_model.specs.declared.value.Value.{Value};
 ghost use Rattle.ipc_model.specs.declared.value.Value.TheVariants.{Null};
 ghost use Rattle.ipc_column.specs.Nested.{Nested, only_column, slot_values};
 ghost use Rattle.ipc_column.specs.checks.Rules.{HasUtf8Texts};
 ghost use Rattle.ipc_column.specs.Shapes as shapes;
-ghost use Rattle.ipc_column.specs.Shapes.{Shape, bare, field, field_children, field_layout};
+ghost use Rattle.ipc_column.specs.Shapes.{bare, field, field_children, field_layout};
 ghost use Rattle.ipc_column.specs.Shapes.{shape_of};
 ghost use Rattle.ipc_column.specs.Slots.{nested_in};
 ghost use Rattle.ipc_column.specs.Values.{is_valid};
 ghost use Rattle.ipc_encode.specs.Buffers.{child_values, data_buffers, padded_bytes};
-ghost use Rattle.ipc_encode.specs.Built.{AreNodes, IsColumn, IsNode};
-ghost use Rattle.ipc_encode.specs.Cells.{all_items, all_parts, nulls};
+ghost use Rattle.ipc_encode.specs.Cells.{all_parts, nulls};
 ghost use Rattle.ipc_encode.specs.Limits.{HasExcessData};
 ghost use Rattle.ipc_encode.specs.Marks.{HasBits};
 ghost use Rattle.ipc_encode.specs.Numbers.{Numbering};
 ghost use Rattle.ipc_encode.specs.Segments.{AddsBuffers, AddsColumns, AreRefusedAfter};
 ghost use Rattle.ipc_encode.specs.Segments.{IsBodyRefused, IsDataRefused, segment_bytes};
 ghost use Rattle.ipc_encode.specs.WholeColumns.{AreFullColumns, IsFullColumn, is_taken_whole};
-ghost use Rattle.ipc_encode.specs.WholeColumns.{IsLaidOutAs};
+ghost use Rattle.ipc_encode.specs.WholeColumns.{IsLaidOutAs, UseAllItems};
 
 use crate::bitmaps::valid_are_among;
 use crate::column_builder::MAX_DATA;
@@ -34,20 +33,13 @@ use crate::column_segments::{
 };
 use crate::fault::PushFault;
 use crate::segments::{Segment, SegmentedDraft, add_buffer, add_joined, push_pair};
-use crate::tree::Node;
 use ipc_column::{Numbers, SlotView};
 use ipc_model::{Field, Layout, Limits, layout_of};
 use std::alloc::{AllocError, Global};
 
 /// Returns true only if lists use all slots of their child, one list after another.
 pub(crate) fn lists_use_all_items(view: &SlotView<'_>) -> bool
-    ensures slots { IsTrue result → (child : Nested)
-        → slice_get (nested_in view.now) 0 ≡ Some child
-        → all_items (slot_values view.now) ≡ slot_values child }
-    ensures texts { IsTrue result → (child : Nested)
-        → slice_get (nested_in view.now) 0 ≡ Some child
-        → ((i : ℕ) → i < length (slot_values view.now) → HasUtf8Texts (only_column view.now) i)
-        → (i : ℕ) → i < length (slot_values child) → HasUtf8Texts (only_column child) i }
+    ensures { IsTrue result → UseAllItems view.now }
 {
     let buffers = view.buffers();
     let count = view.len();
@@ -106,7 +98,8 @@ pub(crate) fn structs_use_all_slots(view: &SlotView<'_>, i: usize) -> bool
 
 // Whether the slots of a column lead to all slots of a child, in their order.
 fn uses_all_slots(view: &SlotView<'_>, i: usize) -> bool
-    requires { i < length view.now.children }
+    requires child { i < length view.now.children }
+    requires lists { view.now.column.layout ≡ Lists → UseAllItems view.now }
     ensures slots { IsTrue result → (child : Nested)
         → slice_get (nested_in view.now) i ≡ Some child
         → child_values view.now.column.layout (slot_values view.now) i ≡ slot_values child }
@@ -116,49 +109,60 @@ fn uses_all_slots(view: &SlotView<'_>, i: usize) -> bool
         → (j : ℕ) → j < length (slot_values child) → HasUtf8Texts (only_column child) j }
 {
     match view.layout() {
-        Layout::Lists => i == 0 && lists_use_all_items(view),
+        Layout::Lists => i == 0,
         Layout::Structs => structs_use_all_slots(view, i),
         _ => false,
     }
 }
 
-// Whether the slots of a column of this layout can be taken all at once.
-fn is_taken_whole(layout: Layout) -> bool
-    ensures { result ≡ is_taken_whole layout }
+// Whether the slots of a column can be taken all at once. Lists must use all slots of their child.
+fn is_taken_whole(view: &SlotView<'_>) -> bool
+    ensures whole { IsTrue result → is_taken_whole view.now.column.layout ≡ true }
+    ensures lists { IsTrue result → view.now.column.layout ≡ Lists → UseAllItems view.now }
 {
-    !matches!(layout, Layout::FixedLists(_) | Layout::Indices { .. })
+    match view.layout() {
+        Layout::FixedLists(_) | Layout::Indices { .. } => false,
+        Layout::Lists => lists_use_all_items(view),
+        _ => true,
+    }
 }
 
-/// Returns true only if a column that was read and its descendants have the layouts of a node and
-/// its descendants. They must have no slots but those that the column's slots refer to.
-#[cycle(has_node_layout)]
-pub(crate) fn has_node_layout(node: &Node, view: &SlotView<'_>) -> bool
-    ensures { IsTrue result → (known : Numbering) (limits : Limits) (layout : Layout)
-        (children : Shape) (before : List Value)
-        → IsNode (IsColumn known limits) layout children node.now before
-        → ((i : ℕ) → i < length (slot_values view.now) → HasUtf8Texts (only_column view.now) i)
-        → IsFullColumn layout children view.now (slot_values view.now) }
+// The layout of a field.
+fn layout_at(field: &Field) -> Layout
+    ensures { result ≡ field_layout field.now }
 {
-    let layout = node.column.data.layout();
-    if !is_taken_whole(layout) || view.layout() != layout {
+    layout_of(&field.kind, field.dictionary)
+}
+
+/// Returns true only if a column that was read and its descendants have the layouts of a field and
+/// its descendants. They must have no slots but those that the column's slots refer to.
+#[cycle(has_field_layout)]
+pub(crate) fn has_field_layout(field: &Field, view: &SlotView<'_>) -> bool
+    ensures { IsTrue result
+        → ((i : ℕ) → i < length (slot_values view.now) → HasUtf8Texts (only_column view.now) i)
+        → IsFullColumn (field_layout field.now) (field_children field.now) view.now
+        (slot_values view.now) }
+{
+    let fields = field.children.as_slice();
+    if view.layout() != layout_at(field) || fields.len() != view.children() {
         return false;
     }
-    node.children.len() == view.children() && have_node_layouts(&node.children, view)
+    is_taken_whole(view) && have_field_layouts(fields, view)
 }
 
-// Whether each child of a column that was read has the layouts of its node, as in
-// `has_node_layout`.
-#[cycle(has_node_layout)]
-fn have_node_layouts(nodes: &[Node], view: &SlotView<'_>) -> bool
-    requires { length nodes.now ≡ length view.now.children }
-    ensures { IsTrue result → (known : Numbering) (limits : Limits) (shape : Shape)
-        (before : ℕ → List Value) → AreNodes (IsColumn known limits) shape nodes.now before
+// Whether each child of a column that was read has the layouts of its field, as in
+// `has_field_layout`.
+#[cycle(has_field_layout)]
+fn have_field_layouts(fields: &[Field], view: &SlotView<'_>) -> bool
+    requires count { length fields.now ≡ length view.now.children }
+    requires lists { view.now.column.layout ≡ Lists → UseAllItems view.now }
+    ensures { IsTrue result
         → ((i : ℕ) → i < length (slot_values view.now) → HasUtf8Texts (only_column view.now) i)
-        → AreFullColumns shape (nested_in view.now)
+        → AreFullColumns (shape_of fields.now) (nested_in view.now)
         (child_values view.now.column.layout (slot_values view.now)) }
 {
-    for i in 0..nodes.len() {
-        if !uses_all_slots(view, i) || !has_node_layout(&nodes[i], &view.child(i)) {
+    for i in 0..fields.len() {
+        if !uses_all_slots(view, i) || !has_field_layout(&fields[i], &view.child(i)) {
             return false;
         }
     }
@@ -247,7 +251,7 @@ fn add_data<'a>(
             let run = variable_binary_segments(alloc, pool, view)?;
             add_variable(draft, run, limits)
         }
-        Layout::Lists => add_buffer(draft, list_offsets(alloc, pool, view)?, limits),
+        Layout::Lists => add_buffer(draft, list_offsets(view), limits),
         Layout::Null | Layout::Structs | Layout::FixedLists(_) | Layout::Indices { .. } => Ok(()),
     }
 }
@@ -288,13 +292,6 @@ pub(crate) fn add_own<'a>(
     add_buffer(draft, validity, limits)?;
     add_data(alloc, pool, draft, layout, view, null_count, limits)?;
     Ok(())
-}
-
-// The layout of a field.
-fn layout_at(field: &Field) -> Layout
-    ensures { result ≡ field_layout field.now }
-{
-    layout_of(&field.kind, field.dictionary)
 }
 
 /// Adds the columns of a field and of its descendants, each with all slots of a column that was

@@ -45,7 +45,7 @@ slots_fit-returns-in-FixedSizeList-FixedLists t c = λ yes i m valid.
 
 pub items_fit-returns : goal.items_fit-returns
 items_fit-returns t c = λ yes.
-    let gives = c.lists_use_all_items.ensures.slots c.if-not-lists_use_all_items.false c.child.result c.child.ensures in
+    let gives = (c.lists_use_all_items.ensures c.if-not-lists_use_all_items.false).slots c.child.result c.child.ensures in
     inner_all c.args.fields.now (all_items (slot_values c.args.view.now)) c.index-fields-0.result
     (λ i m. subst (λ (g : Field). Fits g (get_or (all_items (slot_values c.args.view.now)) i Null)) c.index-fields-0.is
     (subst (λ (ws : List Value). Fits c.index-fields-0.result (get_or ws i Null)) (sym gives)

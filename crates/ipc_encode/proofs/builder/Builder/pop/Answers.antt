@@ -9,8 +9,8 @@ use Rattle.ipc_encode.proofs.Growing.{fewer_within}
 use Rattle.ipc_encode.proofs.Held.{columns_push, still_stored}
 use Rattle.ipc_encode.proofs.builder.Builder.pop.Goals as goal
 
-pub returns : goal.returns
-returns c = λ known limits fields rows row h.
+pub returns-clause-rows : goal.returns-clause-rows
+returns-clause-rows c = λ known limits fields rows row h.
     let builder = c.args.self.now in
     let begun = nodes_less known builder.bounds (shape_of fields) builder.nodes.items (row_columns rows) (λ j. cell j row ∷ [])
     (nodes_begin known builder.bounds (shape_of fields) builder.nodes.items (λ j. row_columns rows j ++ cell j row ∷ [])

@@ -6,7 +6,7 @@ use Rattle.ipc_model.specs.declared.limits.Limits.{Limits}
 use Rattle.ipc_model.specs.declared.value.Value.{Value}
 use Rattle.ipc_encode.specs.Built.{AreBytesWithin}
 use Rattle.ipc_encode.specs.Columns.{data_in}
-use Rattle.ipc_encode.proofs.FittingColumns.{data_append}
+use Rattle.ipc_encode.proofs.Steps.{data_append}
 use Rattle.ipc_encode.proofs.column.ColumnBuilder.cut.Goals as goal
 
 -- the first values have no more bytes than all
