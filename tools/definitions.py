@@ -60,9 +60,9 @@ definitions.
 WIDTH = 100
 # Where to begin on a page.
 FIRST = {
-    "STREAM": """Begin with `Denotes`, `Run` and `Step` of `ipc_stream_read`, then `Frame` of
-`ipc_frame`, `HeadOf` of `ipc_meta` and `Rows` of `ipc_column`. The others are what these use,
-lowest crate first.""",
+    "STREAM": "Begin with `Denotes`, `Run` and `Step` of `ipc_stream_read`, then `Frame` of "
+              "`ipc_frame`, `HeadOf` of `ipc_meta` and `Rows` of `ipc_column`. The others are what "
+              "these use, lowest crate first.",
 }
 
 # The pages in the order of reading: name, title, and the files whose contracts they serve.
@@ -89,7 +89,7 @@ STANDARD = re.compile(SOURCE.format(""))
 SECTION = re.compile(
     rf'((?:{SOURCE.format("Arrow|")})'
     r'(?:, (?:table|tables|struct|union|enum)s? [\w, ]*?\w(?=[,;):.]|$)'
-    r'|, "[^"]+"(?:(?:, | and )"[^"]+")*|, (?:and )?[A-Z]\w+\b(?!\.fbs)'
+    r'|, "[^"]+"(?:(?:, | and )"[^"]+")*|, (?:and )?(?!FlatBuffers)[A-Z]\w+\b(?!\.fbs)'
     r'|, (?:sections? [\d.]+|\d+ \w+|`\w+`|[a-z]+[A-Z]\w*)(?=[,;):.]|$))*)'
 )
 QUOTED = re.compile(r'(?<!, )(?<!and )"[A-Z][^"]+"(?:(?:, | and )"[A-Z][^"]+")*')
@@ -169,7 +169,7 @@ def explained(key, definitions):
 
 def page(title, first, keys, definitions):
     """A page of these definitions, crate by crate and module by module."""
-    parts, place = [f"# {title}", *filter(None, [first])], (None, None)
+    parts, place = [f"# {title}", *filter(None, [textwrap.fill(first, WIDTH)])], (None, None)
     for key in keys:
         crate, module, name = key
         if crate != place[0]:
@@ -194,7 +194,7 @@ def pages(definitions):
         new = (definitions.of_contracts(files) & definitions.public) - listed
         listed |= new
         keys = sorted(new, key=order.get)
-        made[FOLDER / f"{name}.md"] = page(title, FIRST.get(name), keys, definitions)
+        made[FOLDER / f"{name}.md"] = page(title, FIRST.get(name, ""), keys, definitions)
         rows.append(f"| [{title}](definitions/{name}.md) | {calls} | {len(new)} |")
     made[PAGE] = HEAD.format(table="\n".join(rows))
     return made
