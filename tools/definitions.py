@@ -23,8 +23,9 @@ HEAD = """# The definitions
 Made by `tools/definitions.py` from the definitions and the comments above them. The gate compares.
 
 Contracts cite these definitions: to trust a contract is to trust these. They relate whole values to
-whole lists of bytes, without reading order, buffers or passes. If a function that follows the code
-exists beside a relation, its comment says so, and a proved law joins the two.
+whole lists of bytes, without buffers or passes. Those of FlatBuffers tables return the first fault
+in the code's order, because the format states no faults. If a function that follows the code exists
+beside a relation, its comment says so, and a proved law joins the two.
 
 Each page has the definitions that the contracts of its calls cite, directly or through others, and
 that no page above it has. So the first page is all that has to be read to know what an accepted
