@@ -178,10 +178,10 @@ fn send_stream<R: Read + ReportsFailure, W: Sink>(
 /// `ipc_text::row_from_csv` reads it. Without records the stream has no batches.
 ///
 /// The stream is within `Limits::standard()`. The schema is sent when the header was checked. Each
-/// batch is sent after the dictionaries that it needs. At the end the end-of-stream mark is sent,
-/// and the sink is flushed. The code sends a batch before it reads the next record, and keeps one
-/// record, one row, the buffers of one batch, and the values of the dictionaries. No clause says
-/// so.
+/// batch is sent after the dictionaries that it needs; if a later record is refused, all full
+/// batches before it were sent. At the end the end-of-stream mark is sent, and the sink is flushed.
+/// The code keeps one record, one row, the buffers of one batch, and the values of the
+/// dictionaries; no clause says so.
 ///
 /// The values of dictionaries are hashed with `seed`, so that nobody who does not know a random
 /// seed can choose values whose hashes collide. No clause depends on it.
