@@ -49,6 +49,7 @@ prover reads it. In the folder of the crate, `rt lemma NAME` shows names of the 
 | `module _ (b : List ℕ) where` | each definition in it has this parameter too |
 | `Type 0` | a statement, or a type of values |
 | `ℕ`, `ℤ`, `List`, `[]`, `x ∷ xs` | numbers from 0, all integers, a list, the empty one, and one that begins with x |
+| `x ≡ y`, `x ≢ y`, `⊤`, `⊥`, `¬ P` | x equals y, x differs from y, true, false, not P |
 | `P → Q`, `P × Q`, `P ⊎ Q` | P implies Q, both, one of both |
 | `(x : T) → P`, `(x : T) × P` | P for every x, P for some x |
 | `{{x : T}}` | a parameter that follows from the others |
