@@ -73,7 +73,7 @@ template <typename Call, typename Handle> static std::string text_of(Call call, 
 
 enum : size_t { WHOLE = 0, AS_WANTED = SIZE_MAX };
 
-// Feeds a piece of so many bytes, and takes what came of it.
+// Feeds a piece, and keeps what the call reports and the batch that came.
 static void feed(arrowstream_reader *reader, Bytes piece, arrowstream_progress &progress,
                  Answer &all) {
     size_t wanted = progress.wanted;

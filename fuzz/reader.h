@@ -71,7 +71,7 @@ struct Table {
         all.part(vtable, size);
         fields_end = vtable + size;
     }
-    // The place of a field of so many bytes, or 0 if it is absent.
+    // The place of a field of this size, or 0 if it is absent.
     uint64_t place(int field, uint64_t size) const {
         uint64_t entry = vtable + 4 + 2 * field;
         uint16_t distance = entry + 2 <= fields_end ? all.number<uint16_t>(entry) : 0;

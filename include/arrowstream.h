@@ -1,6 +1,6 @@
 /* Reads and writes Apache Arrow IPC streams (streaming format, metadata version V5).
  *
- * A reader is fed bytes and reports the schema, record batches and the end of the stream. A batch
+ * A reader takes bytes and reports the schema, record batches and the end of the stream. A batch
  * that was taken from its reader stays valid until it is freed. Every accepted stream and every
  * refusal is that of the program `arrowstream` (docs/FAULTS.md lists the refusals F1 to F37).
  *
@@ -9,9 +9,11 @@
  *
  * PROVED, by machine, for each call below: it is memory safe and returns on every input. Its
  * result, what it writes and the state that it leaves are as its comment says (docs/PROVED.md names
- * the clauses). What several calls give of one column belongs together. Only tested: this for the
- * values of a dictionary, that the buffers are the bytes of the stream, that NULL with length 0 is
- * as good as another pointer, that memory ran out where a call says so, and that no memory leaks.
+ * the clauses). The buffers of one column are mutually consistent.
+ *
+ * ONLY TESTED: that the buffers of a dictionary's values are mutually consistent; that all buffers
+ * are the bytes of the stream; that NULL with length 0 is accepted; that memory ran out where a
+ * call says so; and that the calls that free give all memory back.
  *
  * THE CALLER OWES, and nothing checks:
  *   - a reader, batch or writer is NULL, or is one that a call set and that is not freed yet;
@@ -43,8 +45,8 @@
 extern "C" {
 #endif
 
-/* The version of the library, and that of this interface: of the former the major number times
- * 65,536, and the minor number. */
+/* The version of the library, and that of this interface: the major number of the former times
+ * 65,536, plus its minor number. */
 #define ARROWSTREAM_RELEASE "0.1.0"
 #define ARROWSTREAM_VERSION 1u
 
@@ -52,7 +54,7 @@ extern "C" {
 uint32_t arrowstream_version(void);
 
 /* The status of a call: ARROWSTREAM_OK, the number 1 to 37 of a refusal F1 to F37, or one of these.
- * ARROWSTREAM_WRITE + n stands for the refusal Wn, and ARROWSTREAM_TEXT + n for Xn. */
+ * ARROWSTREAM_WRITE + n is the status of the refusal Wn, and ARROWSTREAM_TEXT + n that of Xn. */
 #define ARROWSTREAM_OK 0u
 #define ARROWSTREAM_FAILED 35u        /* F35: an earlier call was refused */
 #define ARROWSTREAM_OUT_OF_MEMORY 37u /* F37 */
@@ -121,15 +123,17 @@ void arrowstream_reader_open(const arrowstream_limits *limits, arrowstream_reade
 uint32_t arrowstream_reader_feed(arrowstream_reader *reader, const uint8_t *bytes, size_t length,
                                  arrowstream_progress *out);
 
-/* Says that no more bytes come. The event is ARROWSTREAM_END after the end-of-stream mark, and
- * ARROWSTREAM_CLOSED after the schema and between two messages. The batch that came last remains.
+/* Ends the input: no more bytes come. The event is ARROWSTREAM_END after the end-of-stream mark,
+ * and ARROWSTREAM_CLOSED after the schema and between two messages. The batch that came last
+ * remains.
  *
  * Returns ARROWSTREAM_OK, or the number of the refusal: 4 inside a message and before the schema,
  * and ARROWSTREAM_FAILED after an earlier refusal. `out` is set in every case. */
 uint32_t arrowstream_reader_close(arrowstream_reader *reader, arrowstream_progress *out);
 
 /* Copies the schema as JSON text (UTF-8, no terminating zero; docs/SCHEMA.md) to `text`, and sets
- * `wanted` to its number of bytes. If `length` is less, nothing is copied: call again with as many.
+ * `wanted` to its number of bytes. If `length` is less, nothing is copied: call again with more
+ * room.
  *
  * Returns ARROWSTREAM_OK in both cases, ARROWSTREAM_ABSENT before the schema came, or
  * ARROWSTREAM_OUT_OF_MEMORY; in these two nothing is copied and `wanted` is 0. The reader stays as
@@ -190,11 +194,12 @@ uint32_t arrowstream_reader_line(const arrowstream_reader *reader, uint8_t *text
  * is NULL. */
 uint32_t arrowstream_reader_take(arrowstream_reader *reader, arrowstream_batch **out);
 
-/* Frees a batch of this reader or of another one, and lets the reader keep its memory. The next
- * body is read over it, which saves the time to allocate and clear as much. Nothing else changes.
+/* Frees a batch of this reader or of another one, and lets the reader read the next body into its
+ * memory, so that this need not be allocated and cleared again. Nothing else changes.
  *
- * The reader keeps no memory after its end and after a refusal, while the bytes of a body come, and
- * if it has more already. At a NULL reader this is arrowstream_batch_free. */
+ * The memory is given back instead if the reader has ended or refused, if bytes of a body already
+ * came, or if the reader already keeps more; this is not proved. At a NULL reader the call is
+ * arrowstream_batch_free. */
 void arrowstream_reader_reuse(arrowstream_reader *reader, arrowstream_batch *batch);
 
 /* Frees a reader. Batches that were taken from it remain. */
@@ -202,7 +207,7 @@ void arrowstream_reader_free(arrowstream_reader *reader);
 
 /* ---- batch ----------------------------------------------------------------------------------- */
 
-/* No call below changes a batch but arrowstream_batch_free. */
+/* Of the calls below, only arrowstream_batch_free changes a batch. */
 
 size_t arrowstream_batch_rows(const arrowstream_batch *batch);
 size_t arrowstream_batch_columns(const arrowstream_batch *batch);
@@ -264,7 +269,7 @@ enum {
 
 /* Copies one buffer of the column to which a path leads (see arrowstream_batch_column) to `bytes`,
  * and sets `wanted` to its number of bytes. If `length` is less, nothing is copied. A buffer has
- * the bytes that the slots need, and may have more. Slots that are null have values without a
+ * the bytes that the slots need, and may have more. The values of null slots have no
  * meaning.
  *
  * Returns ARROWSTREAM_OK in both cases, or ARROWSTREAM_ABSENT if the path leads to no column or
@@ -288,14 +293,14 @@ typedef struct arrowstream_writer arrowstream_writer;
 
 /* A writer is in one of three states:
  *
- *   new      the schema is wanted. Every call but arrowstream_writer_schema returns
+ *   new      it waits for the schema. Every call except arrowstream_writer_schema returns
  *            ARROWSTREAM_MISUSE.
  *   open     rows are given and sent.
  *   ended    the stream was finished, or W9 or W11 came. Every call returns
  *            ARROWSTREAM_WRITE_FAILED.
  *
- * This is said of the calls that return a status, but for arrowstream_writer_line. The bytes that a
- * call makes are ready at once, and remain so until they are taken. After W11 these are the bytes
+ * This applies to every call that returns a status, except arrowstream_writer_line. The bytes that
+ * a call makes are ready at once, and remain so until they are taken. After W11 these are the bytes
  * of earlier calls. After W9 they are a beginning of the stream.
  *
  * If a call returns another status than ARROWSTREAM_OK, the writer is as it was, unless the call
@@ -332,8 +337,8 @@ uint32_t arrowstream_writer_text(arrowstream_writer *writer, const uint8_t *text
 uint32_t arrowstream_writer_begin_list(arrowstream_writer *writer);
 uint32_t arrowstream_writer_begin_struct(arrowstream_writer *writer);
 
-/* Ends the list or struct that was begun last: it is one cell of what is around it. Returns
- * ARROWSTREAM_MISUSE also if none was begun. */
+/* Ends the list or struct that was begun last: it is one cell of the row, list or struct around it.
+ * Returns ARROWSTREAM_MISUSE also if none was begun. */
 uint32_t arrowstream_writer_end(arrowstream_writer *writer);
 
 /* Ends the row. It is added to the rows that are sent next.

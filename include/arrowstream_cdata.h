@@ -6,13 +6,13 @@
  * which uses the calls of arrowstream.h alone.
  *
  * A batch that is exported was written by an arrowstream_writer and read back by an
- * arrowstream_reader, whose calls are proved. So an exported array has no byte of the stream that
- * no row shows: its offsets begin at 0 and ascend, and indices are those of values.
+ * arrowstream_reader, whose calls are proved. So of the stream an exported array has only bytes
+ * that its rows show. Its offsets begin at 0 and ascend, and its indices are those of values.
  *
  * THE CALLER OWES, and nothing checks, what arrowstream.h demands, and:
  *   - `out` may be written. What is exported there is released once, by its `release`;
- *   - a schema, array or stream that is imported is as the interface demands: nothing checks that
- *     its buffers are as long as its lengths and offsets state;
+ *   - a schema, array or stream that is imported is as the interface demands. Its buffers are as
+ *     long as its lengths and offsets state;
  *   - an exporter and a stream are used on the thread that made them, by one call at a time.
  *     Schemas and arrays may be used, moved and released by any thread.
  *

@@ -23,8 +23,9 @@ HEAD = """# The definitions
 Made by `tools/definitions.py` from the definitions and the comments above them. The gate compares.
 
 Contracts cite these definitions: to trust a contract is to trust these. They relate whole values to
-whole lists of bytes, without reading order, buffers or passes. If a function that follows the code
-exists beside a relation, its comment says so, and a proved law joins the two.
+whole lists of bytes, without buffers or passes. Those of FlatBuffers tables return the first fault
+in the code's order, because the format states no faults. If a function that follows the code exists
+beside a relation, its comment says so, and a proved law joins the two.
 
 Each page has the definitions that the contracts of its calls cite, directly or through others, and
 that no page above it has. So the first page is all that has to be read to know what an accepted
@@ -48,6 +49,7 @@ prover reads it. In the folder of the crate, `rt lemma NAME` shows names of the 
 | `module _ (b : List ℕ) where` | each definition in it has this parameter too |
 | `Type 0` | a statement, or a type of values |
 | `ℕ`, `ℤ`, `List`, `[]`, `x ∷ xs` | numbers from 0, all integers, a list, the empty one, and one that begins with x |
+| `x ≡ y`, `x ≢ y`, `⊤`, `⊥`, `¬ P` | x equals y, x differs from y, true, false, not P |
 | `P → Q`, `P × Q`, `P ⊎ Q` | P implies Q, both, one of both |
 | `(x : T) → P`, `(x : T) × P` | P for every x, P for some x |
 | `{{x : T}}` | a parameter that follows from the others |
@@ -60,9 +62,9 @@ definitions.
 WIDTH = 100
 # Where to begin on a page.
 FIRST = {
-    "STREAM": """Begin with `Denotes`, `Run` and `Step` of `ipc_stream_read`, then `Frame` of
-`ipc_frame`, `HeadOf` of `ipc_meta` and `Rows` of `ipc_column`. The others are what these use,
-lowest crate first.""",
+    "STREAM": "Begin with `Denotes`, `Run` and `Step` of `ipc_stream_read`, then `Frame` of "
+              "`ipc_frame`, `HeadOf` of `ipc_meta` and `Rows` of `ipc_column`. The others are what "
+              "these use, lowest crate first.",
 }
 
 # The pages in the order of reading: name, title, and the files whose contracts they serve.
@@ -89,7 +91,7 @@ STANDARD = re.compile(SOURCE.format(""))
 SECTION = re.compile(
     rf'((?:{SOURCE.format("Arrow|")})'
     r'(?:, (?:table|tables|struct|union|enum)s? [\w, ]*?\w(?=[,;):.]|$)'
-    r'|, "[^"]+"(?:(?:, | and )"[^"]+")*|, (?:and )?[A-Z]\w+\b(?!\.fbs)'
+    r'|, "[^"]+"(?:(?:, | and )"[^"]+")*|, (?:and )?(?!FlatBuffers)[A-Z]\w+\b(?!\.fbs)'
     r'|, (?:sections? [\d.]+|\d+ \w+|`\w+`|[a-z]+[A-Z]\w*)(?=[,;):.]|$))*)'
 )
 QUOTED = re.compile(r'(?<!, )(?<!and )"[A-Z][^"]+"(?:(?:, | and )"[A-Z][^"]+")*')
@@ -169,7 +171,7 @@ def explained(key, definitions):
 
 def page(title, first, keys, definitions):
     """A page of these definitions, crate by crate and module by module."""
-    parts, place = [f"# {title}", *filter(None, [first])], (None, None)
+    parts, place = [f"# {title}", *filter(None, [textwrap.fill(first, WIDTH)])], (None, None)
     for key in keys:
         crate, module, name = key
         if crate != place[0]:
@@ -194,7 +196,7 @@ def pages(definitions):
         new = (definitions.of_contracts(files) & definitions.public) - listed
         listed |= new
         keys = sorted(new, key=order.get)
-        made[FOLDER / f"{name}.md"] = page(title, FIRST.get(name), keys, definitions)
+        made[FOLDER / f"{name}.md"] = page(title, FIRST.get(name, ""), keys, definitions)
         rows.append(f"| [{title}](definitions/{name}.md) | {calls} | {len(new)} |")
     made[PAGE] = HEAD.format(table="\n".join(rows))
     return made

@@ -81,7 +81,7 @@ def is_near(told, counted):
 
 
 def faults():
-    """The rows that the document lacks or tells otherwise."""
+    """The rows that the document lacks, or has with other numbers."""
     told = {found[1]: found for found in ROW.finditer((TOP / "docs/TESTING.md").read_text("utf-8"))}
     for what, where, files, size, unit in rows():
         row = told.get(what)

@@ -117,7 +117,7 @@ static type_facts facts_of(const char *format) {
     }
 }
 
-/* A text that grows. After want of memory it is empty, and `failed` is set. */
+/* A text that grows. If memory ran out, `failed` is set, and nothing more is added. */
 typedef struct {
     char *bytes;
     size_t used, room;

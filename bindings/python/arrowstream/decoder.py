@@ -104,12 +104,12 @@ class Decoder:
         return batches
 
     def _feed_wanted(self, room: memoryview) -> Batch | None:
-        """Takes bytes of a buffer that may be written, at most as many as are wanted. Returns the
-        batch if they complete one."""
+        """Takes the bytes of a buffer, no more than are wanted. Returns the batch if they complete
+        one."""
         return self._step(c.start_of(room), len(room))
 
     def close(self) -> str:
-        """Says that no more bytes come. Returns how the stream ended.
+        """Ends the input: no more bytes come. Returns how the stream ended.
 
         Raises ArrowError if the stream may not end here, or was refused.
         """

@@ -35,7 +35,7 @@ impl Values {
         })
     }
 
-    // The number of so many bits in a slot.
+    // The number in a slot, which has this number of bits.
     fn number(&self, slot: usize, bits: u32, signed: bool) -> i64 {
         let size = bits as usize / 8;
         let mut bytes = [0; 8];

@@ -154,7 +154,7 @@ impl<R: Read> Reader<R> {
         }
     }
 
-    // Feeds the first bytes of the room, at most as many as are wanted. Returns the event.
+    // Feeds the first `count` bytes of `room`, no more than are wanted. Returns the event.
     fn feed(&mut self, count: usize) -> Result<u64, Error> {
         let piece = &self.room[..count];
         let mut progress = ffi::Progress::new();

@@ -36,7 +36,7 @@ writer_or_null p x = held_or_null writing.the_row p x
 abbrev pub misuse : ℕ
 misuse = 65
 
--- the call is refused, and what it would fill stays
+-- the call is refused, and what it would fill does not change
 abbrev pub Refuses : {T : Type 0} → T → T → ℕ → Type 0
 Refuses old new status = (status ≡ misuse) × (new ≡ old)
 

@@ -44,8 +44,8 @@ column_size = 80
 abbrev pub field_size : ℕ
 field_size = 48
 
--- what a call does with a struct of the caller of at least the size of this version, and what with
--- a smaller one
+-- what a call does with a struct of the caller that has at least the size of this version, and what
+-- it does with a smaller one
 pub record BySize (size least : ℕ) (Large Small : Type 0) : Type 0 where
   pub large : least ≤ size → Large
   pub small : size < least → Small
@@ -105,7 +105,7 @@ pub record IsFieldText (number pair : ℕ) (found : Option FieldText) : Type 0 w
   pub value : number ≡ 4 → found ≡ Some (text.Value pair)
   pub none : 4 < number → found ≡ None
 
--- 1 for what holds, else 0
+-- 1 for true, 0 for false
 abbrev pub bit_of : Bool → ℕ
 bit_of true = 1
 bit_of false = 0

@@ -1,4 +1,4 @@
-//! What calls answer at a null handle, where they have more to answer than a number.
+//! What calls at a null handle write through a pointer, beside the number that they return.
 ghost use Rattle.arrowstream_c.specs.AtNull.{IsNowhere, RefusesText, TakesNothing};
 ghost use Rattle.arrowstream_c.specs.Handles.{Refuses};
 

@@ -27,7 +27,8 @@ impl Model for BatchHandle {
 }
 
 impl BatchHandle {
-    // Moves a batch to memory of its own, or drops it and is null if memory ran out.
+    // Moves a batch to memory of its own. If memory ran out, the batch is dropped, and the pointer
+    // is null.
     pub(crate) fn holding(alloc: Global, batch: ReadBatch) -> BatchHandle
         ensures { MayHold batch result.held result.status }
     {

@@ -2,8 +2,8 @@
 //! as opaque pointers. `include/arrowstream.h` is the header.
 //!
 //! Every export that takes a pointer requires what the pointer owns, and returns it at the value
-//! that its clause names. A null pointer owns nothing, and is answered by `MISUSE` or 0. C makes
-//! one call at a time on each reader, batch and writer, and a batch may change its thread.
+//! that its clause names. A null pointer owns nothing; the answer is then `MISUSE` or 0. C makes
+//! one call at a time on each reader, batch and writer. A batch may pass to another thread.
 #![tactic(auto)]
 
 ghost use Rattle.std.specs.Prelude.{◌≡◌, ⊤, None, Option};
@@ -234,7 +234,8 @@ pub unsafe extern "C" fn arrowstream_reader_take(
     status
 }
 
-/// Takes a batch back: it is freed, and the reader reads the next body into its memory.
+/// Takes a batch back, as `ReadSession::reuse` does: the handle ends, and the next body may be read
+/// into the batch's memory.
 #[unsafe(no_mangle)]
 pub unsafe extern "C" fn arrowstream_reader_reuse(alloc: Global, reader: *mut u8, batch: *mut u8)
     ghost was: { Option ReadSession × Option ReadBatch }

@@ -64,7 +64,7 @@ pub(crate) fn close(reader: &mut ReadSession, out: &mut Progress) -> u32
     }
 }
 
-// Copies a text that there may be. Without one, nothing is copied, and none of its bytes is wanted.
+// Copies a text, if there is one. Otherwise nothing is copied, and no byte is wanted.
 pub(crate) fn give(
     answer: Result<Option<String>, Fault>,
     target: &mut [u8],

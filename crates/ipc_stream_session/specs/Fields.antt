@@ -1,5 +1,5 @@
--- How a path of numbers leads to a field of a schema, and what is said of a field (Schema.fbs,
--- tables Schema and Field).
+-- How a path of numbers leads to a field of a schema, and the facts and texts of a field
+-- (Schema.fbs, tables Schema and Field).
 use Rattle.std.specs.Prelude.{◌≡◌, ◌≤◌, ◌⊎◌, ⊤, ℕ, List, [], ◌∷◌, length, slice_get}
 use Rattle.std.specs.Prelude.{codes, false, Option, Some, None, Result, Ok, Err, string_bytes}
 use Rattle.std.specs.declared.alloc.AllocError.{AllocError}

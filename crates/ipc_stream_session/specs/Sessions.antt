@@ -29,7 +29,7 @@ pub record IsNew (limits : Limits) (s : ReadSession) : Type 0 where
   pub batch : s.batch ≡ None
   pub refusal : s.refusal ≡ None
 
--- what an event of the decoder is called
+-- the arrival that names an event of the decoder, or none
 abbrev pub arrival_of : Option Event → Arrival
 arrival_of None = arrival.Nothing
 arrival_of (Some report.Schema) = arrival.Schema
@@ -48,12 +48,12 @@ abbrev pub with_refusal : Option FaultAt → Fault → ℕ → Option FaultAt
 with_refusal None fault message = Some (record { fault = fault; message = message })
 with_refusal (Some first) fault message = Some first
 
--- no list is kept, as after a refusal
+-- no buffer is kept, as after a refusal
 abbrev pub KeepsNoList : d.Decoding → Type 0
 KeepsNoList decoder = d.DropsLists d.refused decoder.room
 
 -- all that `Decoder::feed` promises: how the piece is taken, that the limits stay, that a batch has
--- a column for each field of the schema, and that no list is kept with an event or a refusal
+-- a column for each field of the schema, and that no buffer is kept with an event or a refusal
 pub record FeedsDecoder (old : d.Decoding) (piece : List ℕ) (new : d.Decoding)
     (r : Result (ℕ × Option Event) Fault) : Type 0 where
   pub fed : d.Feeds old piece new r
@@ -75,14 +75,14 @@ abbrev pub refusal_after : ReadSession → ReadSession → Result End Fault → 
 refusal_after old new (Ok end) = old.refusal
 refusal_after old new (Err fault) = with_refusal old.refusal fault new.decoder.messages
 
--- the decoder ends the input as `Decoder::close` does, and keeps no list. The session has the first
--- refusal
+-- the decoder ends the input as `Decoder::close` does, and keeps no buffer. The session has the
+-- first refusal
 abbrev pub Closes : ReadSession → ReadSession → Result End Fault → Type 0
 Closes old new r = d.ClosesAt old.decoder old.decoder.stage new.decoder r
     × KeepsNoList new.decoder × (new.batch ≡ old.batch)
     × (new.refusal ≡ refusal_after old new r)
 
--- only the room for the next body may be another, and there is none after the end or a refusal
+-- only the buffer for the next body may change, and there is none after the end or a refusal
 pub record TakesBack (old new : ReadSession) : Type 0 where
   pub same : new ≡ record old { decoder = record old.decoder { room = new.decoder.room } }
   pub metadata : new.decoder.room.metadata ≡ old.decoder.room.metadata

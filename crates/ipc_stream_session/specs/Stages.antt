@@ -1,4 +1,4 @@
--- How far a stream that is written has come, and what sending a batch makes of it.
+-- The state of a stream that is written, and how it changes when a batch is sent.
 use Rattle.std.specs.Prelude.{◌≡◌, ⊤, ℕ, false, List, [], Some, Result, Ok, Err}
 use Rattle.ipc_model.specs.declared.fault.WriteFault.{WriteFault}
 use Rattle.ipc_model.specs.declared.fault.WriteFault.TheVariants as w
@@ -12,13 +12,13 @@ use Rattle.ipc_stream_session.specs.declared.write_error.WriteError.{WriteError}
 use Rattle.ipc_stream_session.specs.declared.write_error.WriteError.TheVariants as error
 use Rattle.ipc_stream_session.specs.Tables.{TableState, emptied}
 
--- the error of a call that needs an open table, at another stage
+-- the error of a call that needs an open table, in another state
 abbrev pub IsNotOpen : Stage → WriteError → Type 0
 IsNotOpen stage.New e = e ≡ error.Misuse
 IsNotOpen (stage.Open table) e = ⊥
 IsNotOpen (stage.Ended ready) e = e ≡ error.Refused w.Failed
 
--- the error of a call that needs a stream without a schema, at another stage
+-- the error of a call that needs a stream without a schema, in another state
 abbrev pub IsNotNew : Stage → WriteError → Type 0
 IsNotNew stage.New e = ⊥
 IsNotNew (stage.Open table) e = e ≡ error.Misuse
@@ -30,7 +30,7 @@ HasWritten stage.New bytes = bytes ≡ []
 HasWritten (stage.Open table) bytes = table.stream.written ≡ Some bytes
 HasWritten (stage.Ended ready) bytes = bytes ≡ ready
 
--- the stage when all of these bytes are taken
+-- the state when all of these bytes are taken
 abbrev pub emptied_stage : Stage → Stage
 emptied_stage stage.New = stage.New
 emptied_stage (stage.Open table) = stage.Open (emptied table)
@@ -40,7 +40,7 @@ emptied_stage (stage.Ended ready) = stage.Ended []
 abbrev pub IsOver : Writer → Stage → Type 0
 IsOver stream new = (ready : List ℕ) × (stream.written ≡ Some ready) × (new ≡ stage.Ended ready)
 
--- the stage of a stream after a call that sent a batch: W9 and W11 end it
+-- the state of a stream after a call that sent a batch: W9 and W11 end it
 abbrev pub IsAfter : Writer → Schema → Result ⊤ WriteFault → Stage → Type 0
 IsAfter stream s (Err w.Write) new = IsOver stream new
 IsAfter stream s (Err w.OutOfMemory) new = IsOver stream new

@@ -14,8 +14,8 @@ pub record TableState : Type 0 where
 abbrev pub emptied : TableState → TableState
 emptied t = record t { stream = record t.stream { written = Some []; failures = 0 } }
 
--- the first bytes of the old list are at the beginning of the target, and the others remain: as
--- many are moved as there are and as the target has room for
+-- the first of the old bytes are at the beginning of the target, and the others remain: all are
+-- moved, or those for which the target has room
 pub record Moves (old new target_old target_new : List ℕ) (count : ℕ) : Type 0 where
   pub moved : List ℕ
   pub size : length moved ≡ count

@@ -82,7 +82,7 @@ pub record IsBegun (limits : Limits) (s : Schema) (t : TableState) : Type 0 wher
   pub starts : StartsWriter limits s (Some []) 0 t.stream
   pub schema_is : t.schema ≡ s
 
--- the stage after a schema was refused: W9 and W11 end the stream
+-- the state after a schema was refused: W9 and W11 end the stream
 abbrev pub stage_at : WriteFault → List ℕ → Stage
 stage_at w.Write ready = stage.Ended ready
 stage_at w.OutOfMemory ready = stage.Ended ready
@@ -299,8 +299,8 @@ pub record Reports (Call : WriteSession → WriteSession → Result ⊤ WriteErr
   pub called : Call old after answer
   pub report : IsStatusOf after answer new status
 
--- the bytes that were written and not taken are the front, and then those of the stage: if the
--- front is empty, those of the stage become it
+-- the bytes that were written and not taken are `front`, and then those of `stage`: if `front` is
+-- empty, those of `stage` become `front`
 pub record Gathers (old new : WriteSession) : Type 0 where
   pub some : old.front ≢ [] → new ≡ old
   pub none : old.front ≡ [] → (last : List ℕ) × HasWritten old.stage last

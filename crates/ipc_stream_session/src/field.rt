@@ -99,7 +99,7 @@ fn field_below<'a>(field: &'a Field, steps: &[u64]) -> Option<&'a Field>
     }
 }
 
-// The field to which a path leads that begins with the number of one of these fields.
+// The field to which a path leads. Its first number is that of one of these fields.
 fn field_at<'a>(fields: &'a [Field], first: u64, rest: &[u64]) -> Option<&'a Field>
     ensures { IsFieldAt fields.now first rest.now (option_copied result) }
 {

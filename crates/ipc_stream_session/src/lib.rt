@@ -1,5 +1,4 @@
-//! Streams as values that a program in another language can hold: what crosses the edge is numbers
-//! and bytes.
+//! Streams as values that a program in another language can hold: each result is a number or bytes.
 #![tactic(auto)]
 
 mod arrival;

@@ -180,8 +180,8 @@ impl ReadSession {
     }
 
     /// Takes back a batch that is no longer needed, of this session or of another one. The next
-    /// body is read over its bytes, so no memory of that length is allocated and cleared. The state
-    /// of the stream does not change. The memory is freed where `Decoder::reuse` drops the batch.
+    /// body may be read into its buffer, so that no new memory is allocated and cleared;
+    /// `Decoder::reuse` says when. The state of the stream does not change.
     pub fn reuse(&mut self, batch: ReadBatch)
         ensures { TakesBack self.old self.new }
     {

@@ -4,8 +4,8 @@ use crate::batch::ReadBatch;
 
 fn may_move<T: Send>(_value: &T) {}
 
-/// The law: a batch may be used by another thread than the session that read it. A type that may
-/// not is refused at this function's call.
+/// A batch may be used by another thread than the session that read it: this function is proved
+/// only if the type of a batch is `Send`. No clause says so.
 pub fn may_change_threads(batch: &ReadBatch) {
     may_move(batch);
 }

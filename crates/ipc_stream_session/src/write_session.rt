@@ -28,7 +28,7 @@ const MAX_NESTING: usize = 64;
 pub struct WriteSession {
     limits: Limits,
     stage: Stage,
-    // The bytes that are taken next. Those of the stage follow.
+    // The bytes that are taken next. Those of `stage` follow.
     front: Ready,
     // The cells of the innermost list or struct that has not ended, or of the row.
     cells: Items<Value>,
@@ -203,7 +203,7 @@ impl WriteSession {
         Ok(())
     }
 
-    // Takes the open table out of the session, whose stage is then to be set.
+    // Takes the open table out of the session. The caller then sets `stage`.
     fn take_table(&mut self) -> Result<OpenTable, WriteError>
         ensures { w.TakesTable self.old self.new result }
     {
@@ -434,7 +434,7 @@ impl WriteSession {
         self.report(answer)
     }
 
-    // Makes the bytes that were written the front, if that is empty.
+    // Moves the bytes that were written to `front`, if that is empty.
     fn gather(&mut self)
         ensures { w.Gathers self.old self.new }
     {

@@ -14,8 +14,8 @@ pub record IsFullBatch (size : ℕ) (b : BatchRows) : Type 0 where
   pub pairs : b.pairs ≡ []
   pub rows : length b.rows ≡ size
 
--- rows fill these batches in their order, each with exactly `size` rows; fewer than `size` are left
--- over
+-- the rows fill these batches in order, each with exactly `size` rows; fewer than `size` rows
+-- remain
 pub record Fill (size : ℕ) (rows : List (List Value)) (batches : List BatchRows)
     (left : List (List Value)) : Type 0 where
   pub full : AllByRecursion (IsFullBatch size) batches
@@ -23,7 +23,7 @@ pub record Fill (size : ℕ) (rows : List (List Value)) (batches : List BatchRow
   pub joined : flat_map (λ b. b.rows) batches ++ left ≡ rows
 
 -- the columns can be written as CSV, and each of these records reads as a row; the rows fill these
--- batches, and these rows are left over
+-- batches, and these rows remain
 pub record AreBatched (d : Dialect) (s : Schema) (size : ℕ) (records : List (List (List ℕ)))
     (batches : List BatchRows) (left : List (List Value)) : Type 0 where
   pub flat : flat_fault s.fields ≡ None
@@ -35,7 +35,7 @@ pub record AreBatched (d : Dialect) (s : Schema) (size : ℕ) (records : List (L
 abbrev pub batch_of : List (List Value) → BatchRows
 batch_of rows = record { pairs = []; rows = rows }
 
--- the last batch, of the rows that are left over, if there are any
+-- the last batch, of the remaining rows, if there are any
 abbrev pub last_batch : List (List Value) → List BatchRows
 last_batch [] = []
 last_batch (row ∷ rows) = batch_of (row ∷ rows) ∷ []

@@ -31,8 +31,8 @@ abbrev pub table_of_batches : Schema → List BatchRows → Table
 table_of_batches s batches = record { schema = s; batches = batches }
 
 -- the header and all records of the input were read, and the stream of their table was sent, with
--- its end mark. Each batch has exactly `size` rows; a last one has the rows that are left over, if
--- there are any
+-- its end mark. Each batch has exactly `size` rows; a last one has the remaining rows, if there are
+-- any
 pub record Converts (d : Dialect) (input : Option (List ℕ)) (s : Schema) (size : ℕ) (old new :
     Option (List ℕ))
     (failures_old failures_new : ℕ) : Type 0 where
@@ -132,9 +132,9 @@ IsOfLengths write.DictionaryFull = ⊤
 IsOfLengths write.TooManyRows = ⊤
 IsOfLengths fault = ⊥
 
--- writing the table of some first records broke off. At W6 to W8 the last of these records is the
--- cause: the table of those before it is accepted. W9 occurs only if the last batch is full or all
--- records were read
+-- writing the table of some first records stopped. At W6 to W8 the last of these records is the
+-- cause: the table of the records before it is accepted. W9 occurs only if the last batch is full
+-- or all records were read
 pub record StopsWriting (d : Dialect) (input : Option (List ℕ)) (s : Schema) (size : ℕ) (old new :
     Option
     (List ℕ))

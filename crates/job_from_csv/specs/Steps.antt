@@ -63,8 +63,8 @@ pub record HoldsLeftover {R : Type 0} (d : Dialect) (remaining : R
   pub came : Came d remaining input s size old failures now writer left
   pub held_rows : HoldsBatch writer.limits writer.schema (batch_of left) held
 
--- the rows that are stored fill a batch; or all records were read, and fewer rows are stored, but
--- at least one
+-- the stored rows fill a batch; or all records were read, and the stored rows are fewer than a
+-- batch but at least one
 abbrev pub HoldsLast : {R : Type 0} → Dialect → (R → Option (List ℕ)) → Option (List ℕ) → Schema → ℕ
     → Option (List ℕ) → ℕ → RowReader R → Writer → PendingBatch → Bool → Type 0
 HoldsLast d remaining input s size old failures now writer held true =
@@ -98,8 +98,8 @@ pub record SendsAll (d : Dialect) (input : Option (List ℕ)) (s : Schema) (size
   pub batched : AreBatched d s size records batches left
   pub out : IsOut s (batches ++ last_batch left) old failures writer
 
--- a batch was sent, after which no row is left over: there may be more records, or these were all;
--- or why it was not sent
+-- a batch was sent, and no row remains: there may be more records, or these were all; or why it was
+-- not sent
 abbrev pub SendsCsvBatch : {R : Type 0} → Dialect → (R → Option (List ℕ)) → Option (List ℕ)
     → Schema → ℕ
     → Option (List ℕ) → ℕ → RowReader R → Writer → Result Bool FromCsvStop → Type 0

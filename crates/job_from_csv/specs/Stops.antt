@@ -1,4 +1,4 @@
--- Why a conversion stops, and how that tells whether its source failed.
+-- Why a conversion stops, and whether its source failed.
 use Rattle.std.specs.Prelude.{◌≡◌, ◌≢◌, ℕ, Result, Ok, Err, ⊤}
 use Rattle.csv.specs.Records.{Row}
 use Rattle.ipc_model.specs.declared.fault.WriteFault.TheVariants as w
@@ -8,7 +8,7 @@ use Rattle.ipc_text_csv.specs.declared.record_fault.RecordFault.TheVariants as n
 use Rattle.job_from_csv.specs.declared.stop.FromCsvStop.{FromCsvStop}
 use Rattle.job_from_csv.specs.declared.stop.FromCsvStop.TheVariants as stop
 
--- the reason for which a conversion stops, from the reason for which this record is read as no row
+-- why a conversion stops if this record is read as no row, for this reason
 abbrev pub stop_of : RecordFault → Row → FromCsvStop
 stop_of none.Input refused = stop.Input
 stop_of (none.Text OutOfMemory) refused = stop.Text OutOfMemory

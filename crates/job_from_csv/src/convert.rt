@@ -178,12 +178,13 @@ fn send_stream<R: Read + ReportsFailure, W: Sink>(
 /// `ipc_text::row_from_csv` reads it. Without records the stream has no batches.
 ///
 /// The stream is within `Limits::standard()`. The schema is sent when the header was checked. Each
-/// batch is sent as soon as its last record is read, after the dictionaries that it needs. At the
-/// end the end-of-stream mark is sent, and the sink is flushed. One record, one row, the buffers of
-/// one batch, and the values of the dictionaries are kept.
+/// batch is sent after the dictionaries that it needs; if a later record is refused, all full
+/// batches before it were sent. At the end the end-of-stream mark is sent, and the sink is flushed.
+/// The code keeps one record, one row, the buffers of one batch, and the values of the
+/// dictionaries; no clause says so.
 ///
-/// The values of dictionaries are hashed with `seed`. Nobody who does not know a random seed can
-/// choose values whose hashes collide.
+/// The values of dictionaries are hashed with `seed`, so that nobody who does not know a random
+/// seed can choose values whose hashes collide. No clause depends on it.
 ///
 /// Errors, after which the bytes that were sent remain sent, with the full batches of earlier
 /// records:
@@ -201,8 +202,6 @@ fn send_stream<R: Read + ReportsFailure, W: Sink>(
 /// - `Write` W9: the sink failed.
 /// - `Write` W11: memory ran out.
 /// - `Input`: the source failed, perhaps before the call.
-///
-/// Faults at a record come before the next record is read.
 pub fn from_csv<R: Source, W: Sink>(
     alloc: Global,
     seed: Seed,

@@ -21,7 +21,7 @@ pub enum FromCsvStop {
     /// CSV cannot represent the columns (X1, X2), there is no header (X5 of record 0), or memory
     /// ran out.
     Text(TextFault),
-    /// The header is another, or a record is no row.
+    /// The header has other names, or a record is no row of the schema.
     Record {
         /// X5 or X4.
         fault: TextFault,
@@ -31,7 +31,7 @@ pub enum FromCsvStop {
     },
 }
 
-/// The reason why the conversion stops at a record that is not read, for this reason.
+/// Why the conversion stops at a record that is not read as a row, for this reason.
 pub(crate) fn stop_at(why: RecordFault, fields: ByteRecord) -> FromCsvStop
     ensures { result ≡ stop_of why fields }
 {

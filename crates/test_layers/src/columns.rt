@@ -47,7 +47,7 @@ pub(crate) fn cell_of(batch: &Batch, row: usize) -> Option<Cell<'_>> {
     }
 }
 
-// Whether a batch and its copy have as many rows as there may be, and no slot is tested.
+// Whether a batch and its copy have the greatest number of rows, and no slot is tested.
 fn is_longest(batch: &Batch) -> bool {
     let copy: Result<_, _> = batch.clone();
     batch.rows() == 2_147_483_647
@@ -65,13 +65,13 @@ fn ends_in_no_bytes(batch: &Batch) -> bool {
     matches!(cell_of(batch, 2_147_483_646), Some(Cell::Bytes([])))
 }
 
-// As many nulls as there may be.
+// The greatest number of nulls.
 fn are_nulls(alloc: Global) -> Result<bool, Fault> {
     let found = batch(alloc, DataType::Null, (&[(MOST, 5)], &[]), &[])?;
     Ok(ends_in_null(&found) && is_longest(&found))
 }
 
-// As many rows of no bytes.
+// The greatest number of rows without bytes.
 fn are_of_no_bytes(alloc: Global) -> Result<bool, Fault> {
     let parts: Parts<'_> = (&[(MOST, 0)], &[(0, 0), (0, 0)]);
     let found = batch(alloc, DataType::FixedSizeBinary(0), parts, &[])?;

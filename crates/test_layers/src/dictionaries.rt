@@ -8,7 +8,7 @@ use std::alloc::{AllocError, Global};
 use std::sync::Arc;
 use std::test::Fail;
 
-// Columns of texts, whose values stand in dictionary 7 under signed indices of 8 bits.
+// Columns of texts that are encoded with dictionary 7, by signed indices of 8 bits.
 pub(crate) fn schema_of(alloc: Global, columns: usize) -> Result<Schema, AllocError> {
     let index = IndexType {
         bits: IntBits::B8,
@@ -33,7 +33,7 @@ fn letter_of<'a>(cell: Cell<'a>) -> &'a str {
     }
 }
 
-// Tells the letters of a batch's one column, and a blank.
+// Appends the letters of a batch's one column, and a blank.
 fn tell_letters(told: &mut Vec<u8>, batch: &Batch) -> Result<(), AllocError> {
     if 0 < batch.columns() {
         for row in 0..batch.rows() {
@@ -50,8 +50,8 @@ fn current(dictionaries: &Dictionaries) -> Result<Arc<Batch>, Fault> {
     }
 }
 
-// Sets c in place of a and b. After a refused growth these must be in force still. Then the result
-// is that refusal.
+// Replaces the values a and b by c. After a refused growth a and b must still be in force; then the
+// result is that refusal.
 fn replace(alloc: Global, dictionaries: &mut Dictionaries) -> Result<bool, Fault> {
     match set(alloc, dictionaries, &ONLY_C) {
         Ok(()) => Ok(true),
@@ -67,8 +67,9 @@ fn current_rows(dictionaries: &Dictionaries) -> usize {
     }
 }
 
-// Takes values that are a and b, and others in their place; tells those that were handed out before
-// and after, and answers how many bytes were held each time, or none if the first were not kept.
+// Sets the values a and b, and replaces them. Appends the letters of the values that were lent
+// before and after. Returns how many bytes were held each time, or `None` if the first values were
+// not kept.
 fn replaced(
     alloc: Global,
     told: &mut Vec<u8>,
@@ -87,8 +88,8 @@ fn replaced(
     Ok((held, dictionaries.held()))
 }
 
-// Tells the letters of a batch that was handed out before the values were replaced, and of one that
-// is read then.
+// Appends the letters of a batch that was read before the values were replaced, and of one that is
+// read afterwards.
 fn tell_read_before(
     alloc: Global,
     told: &mut Vec<u8>,
@@ -114,8 +115,9 @@ fn are_replaced(alloc: Global, told: &mut Vec<u8>) -> Result<bool, Fault> {
     Ok(are_named && held == (24, 16))
 }
 
-// Values that were handed out stay, and so does a batch that was read under them; one that is read
-// later takes the new ones. The columns of a dictionary's values are told, and of no other.
+// Values that were lent do not change, nor does a batch that was read with them. A batch that is
+// read later has the new values. `fields_of` has the column of the dictionary's id, and of no other
+// id.
 #[test]
 fn grows_dictionaries_in_force(rt: HostRuntime) -> Result<(), Fail> {
     let mut told = Vec::new(rt.alloc());

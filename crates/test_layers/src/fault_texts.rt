@@ -48,7 +48,7 @@ fn a_field_in_one_line(rt: HostRuntime) -> Result<(), Fail> {
     Ok(())
 }
 
-// What is said of a row that doesn't fit a schema.
+// The text of the fault of a row that doesn't fit a schema.
 #[tactic(auto, using(ipc_model::proofs::Depths::short_paths))]
 fn fault_of(alloc: Global, schema: &Schema, row: &[Value]) -> Result<Option<RowFault>, Fault> {
     schema.check(alloc, &Limits::standard())?;
@@ -63,7 +63,7 @@ fn schema_over(alloc: Global, kind: DataType, child: DataType) -> Result<Schema,
     Ok(Schema::new(fields))
 }
 
-// What is said of the row of a text under such a column.
+// The text of the fault of a row whose one value is a text, in such a column.
 fn fault_under(
     alloc: Global,
     kind: DataType,

@@ -20,7 +20,7 @@ const STREAM: [u8; 288] = [
     0, 0,
 ];
 
-// Feeds a piece, and says how many bytes were taken, and whether a frame was given.
+// Feeds a piece. Returns how many bytes were taken, and whether a frame is complete.
 fn feed(frames: &mut Frames, piece: &[u8]) -> Result<(usize, bool), Fault> {
     let (taken, frame) = frames.feed(piece)?;
     Ok((taken, frame.is_some()))

@@ -9,8 +9,8 @@ use ipc_model::{DataType, Dictionary, Fault, Field, IndexType, IntBits};
 use std::alloc::{AllocError, Global};
 use std::collections::BTreeMap;
 
-// How many values there are, where their bytes lie, and the body: the offsets of texts of one byte
-// each, and then the bytes.
+// The number of values, the place of their bytes, and the body: the offsets of texts of one byte
+// each, and then these bytes.
 pub(crate) struct Values {
     count: i64,
     offsets: (i64, i64),
@@ -50,7 +50,7 @@ pub(crate) fn set(
     dictionaries.apply(alloc, 7, values)
 }
 
-// What is in force of dictionary 7 before any values came.
+// The dictionaries in force before dictionary 7 is set.
 pub(crate) fn in_force(alloc: Global) -> Result<Dictionaries, Fault> {
     let schema = schema_of(alloc, 2)?;
     Ok(Dictionaries::new(alloc, &schema)?)
@@ -70,21 +70,21 @@ fn column(alloc: Global) -> Result<Field, AllocError> {
     }))
 }
 
-// A batch of so many indices of 8 bits, of which so many are null, under the values in force.
+// A batch of indices of 8 bits under the values in force. The node has their number and null count.
 pub(crate) fn indexed(
     alloc: Global,
     node: (i64, i64),
     body: &[u8],
     dictionaries: &Dictionaries,
 ) -> Result<Batch, Fault> {
-    // A bitmap stands in front of the indices, where there are nulls.
+    // A bitmap precedes the indices if there are nulls.
     let bitmap = if node.1 == 0 { 0 } else { 1 };
     let parts: Parts<'_> = (&[node], &[(0, bitmap), (bitmap, node.0)]);
     batch_under(alloc, column(alloc)?, parts, body, dictionaries.current())
 }
 
-// One scan tells that an index has a value. Null slots with an index that has none make each slot
-// visited.
+// One scan finds that each index has a value. If a null slot has an index without a value, each
+// slot is visited.
 fn are_few(alloc: Global, dictionaries: &Dictionaries) -> Result<bool, Fault> {
     let one = indexed(alloc, (1, 0), &[0], dictionaries)?.tests();
     let found = indexed(alloc, (3, 2), &[0b010, 2, 0, 0xff], dictionaries)?;
@@ -219,7 +219,7 @@ const THOUSANDS: [Thousand; 6] = [
     },
 ];
 
-// Whether all of them are told under the values a and b, and few slots of few indices are tested.
+// Whether all indices show the values a and b, and few slots are tested of few indices.
 fn are_told(alloc: Global) -> Result<bool, Fault> {
     let mut dictionaries = in_force(alloc)?;
     set(alloc, &mut dictionaries, &A_AND_B)?;

@@ -41,7 +41,7 @@ fn standard_but(place: usize, value: u64) -> Option<Limits>
     limits_of(values)
 }
 
-// Whether a limit may be what it is at its greatest, and no more.
+// Whether a limit may have its greatest value, and no greater one.
 fn is_greatest(place: usize) -> bool
     requires { place < 7 }
 {

@@ -1,5 +1,5 @@
 //! Columns of lists and structs that no stream in `cases/` can show: how many slots are tested, and
-//! what is lent of those below.
+//! what the slots of children show.
 ghost use Rattle.ipc_column.specs.DictionaryBatches.{AreDictionaries};
 
 use crate::nested::{LISTS_OF_LISTS, list, row_of};
@@ -24,7 +24,7 @@ pub(crate) fn batch(
     batch_under(alloc, field, parts, body, &none)
 }
 
-// What a batch says of its nodes and of where its buffers lie.
+// The nodes of a batch, and the places of its buffers.
 pub(crate) type Parts<'a> = (&'a [(i64, i64)], &'a [(i64, i64)]);
 
 // A batch of one field, which is a schema's, under dictionaries.
@@ -109,7 +109,7 @@ fn child_of<'a>(slots: &SlotView<'a>) -> Option<SlotView<'a>> {
     }
 }
 
-// A slot in the first place below so many fields, from the one column on.
+// A slot at this depth below the one column, by the first child at each level.
 fn slot_below<'a>(batch: &'a Batch, levels: usize, slot: usize) -> Option<Slot<'a>> {
     if batch.columns() == 0 {
         return None;
@@ -152,8 +152,8 @@ const MOST_BODY: [u8; 24] = [
     1, 0, 0, 0, 0, 0, 0, 0, 0, 0, 0, 0, 1, 0, 0, 0, 0, 0, 0, 0, 0xff, 0xff, 0xff, 0x7f,
 ];
 
-// One list in another, eight times, and in the last as many nulls as there may be: no slot of them
-// is tested, though each list has a validity bitmap.
+// Eight lists nested in one another, and the greatest number of nulls in the innermost: no slot of
+// them is tested, though each list has a validity bitmap.
 fn are_most_slots(alloc: Global) -> Result<bool, Fault> {
     let field = eight_lists(alloc, false, DataType::Null)?;
     let found = batch(alloc, field, (&MOST_NODES, &MOST_BUFFERS), &MOST_BODY)?;
@@ -167,8 +167,8 @@ fn are_most_slots(alloc: Global) -> Result<bool, Fault> {
     Ok(is_last && found.rows() == 1 && found.tests() == 0)
 }
 
-// Lists of one slot each, eight times over each other, and over as many nulls as there may be: they
-// are as many rows, and none of their slots is tested.
+// Lists of one slot each, nested eight times, over the greatest number of nulls: there are as many
+// rows, and no slot is tested.
 fn are_most_rows(alloc: Global) -> Result<bool, Fault> {
     let field = eight_lists(alloc, true, DataType::Null)?;
     let found = batch(alloc, field, (&[(MOST, 0); 9], &[(0, 0); 8]), &[])?;
@@ -242,8 +242,8 @@ fn are_thousands(alloc: Global, body: &[u8]) -> Result<bool, Fault> {
     Ok(found.rows() == 1000 && found.tests() == 9000)
 }
 
-// A thousand lists of one slot each, eight times over each other, and over texts of which the last
-// is null and isn't UTF-8: each slot is visited once.
+// A thousand lists of one slot each, nested eight times, over texts of which the last is null and
+// is not UTF-8: each slot is visited once.
 #[test]
 fn a_null_text_below_eight_lists(rt: HostRuntime) -> Result<(), Fail> {
     let mut body = Vec::new(rt.alloc());
@@ -252,7 +252,7 @@ fn a_null_text_below_eight_lists(rt: HostRuntime) -> Result<(), Fail> {
     Ok(())
 }
 
-// Whether the text of a null struct isn't asked for, and stands in the child's slot.
+// Whether the text below a null struct is not visited, and the child's slot still has it.
 fn is_over_no_text(found: &Batch) -> bool {
     matches!(slot_below(found, 0, 0), Some(Slot::Null))
         && matches!(slot_below(found, 1, 0), Some(Slot::Text([0xff])))

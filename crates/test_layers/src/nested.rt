@@ -108,8 +108,8 @@ fn spell(alloc: Global, open: &mut Vec<Vec<Value>>, letter: u8) -> Result<(), Al
     put(open, value)
 }
 
-// The row that a text spells: a digit is a number, `-` a null, and the values of a list stand
-// within `[` and `]`, those of a struct within `(` and `)`.
+// The row that a text spells: a digit is a number, `-` is null, `[` and `]` enclose the values of a
+// list, and `(` and `)` those of a struct.
 pub(crate) fn row_of(alloc: Global, text: &[u8]) -> Result<Row, AllocError> {
     let mut open = Vec::new(alloc);
     open.push(Vec::new(alloc))?;
@@ -215,7 +215,7 @@ const COLUMNS: [Written; 5] = [
             2, 0, 0, 0, 0, 0, 0, 0, 2, 0, 0, 0, 0, 0, 0, 0, 0, 5, 0, 0, 0, 0, 0, 0,
         ],
     },
-    // Below the null list stand two nulls.
+    // The null list has two null slots below it.
     Written {
         kind: Kind::Twos,
         rows: &[b"[12]", b"-", b"[3-]"],
@@ -244,7 +244,8 @@ fn are_written(alloc: Global, room: &mut BufferPool, wanted: &Written) -> Result
     Ok(are_parts)
 }
 
-// The rows are written alike in the room that a builder of other fields leaves, or of the same.
+// The rows are written alike in the room that is left by a builder of other fields, or of the same
+// ones.
 #[test]
 fn grows_columns_row_by_row(rt: HostRuntime) -> Result<(), Fail> {
     let mut room = BufferPool::new(rt.alloc());
@@ -256,8 +257,8 @@ fn grows_columns_row_by_row(rt: HostRuntime) -> Result<(), Fail> {
     Ok(())
 }
 
-// Rows under limits on the body and on the rows of a batch; how many of them are taken, why no
-// further one is, and the body of those that are, where it is looked at.
+// Rows under limits on the body and on the rows of a batch. How many of them are taken, why the
+// next one is refused, and the body of those that are taken, if it is compared.
 struct Limited {
     kind: Kind,
     body: u64,

@@ -60,8 +60,8 @@ const A_B_C: Sent = (
 );
 
 const SCRIPTS: [Script; 4] = [
-    // A dictionary is sent where none was, or where the last one lacks a value. The indices stand
-    // after a bitmap where there is a null.
+    // A dictionary is sent if none was sent before, or if the last one lacks a value. If there is a
+    // null, a bitmap precedes the indices.
     Script {
         column: Column::Letters,
         batches: &[
@@ -135,7 +135,7 @@ fn is_wanted(frame: &Option<Frame>, (id, wanted): Sent) -> bool {
     is_kind && body.as_slice() == wanted
 }
 
-// How many of the bytes are those of the wanted message: none where another one begins them.
+// How many of the bytes are those of the wanted message: none if another message comes first.
 fn taken(frames: &mut Frames, bytes: &[u8], wanted: Sent) -> Result<usize, Fault> {
     let (count, frame) = frames.feed(bytes)?;
     Ok(if is_wanted(&frame, wanted) { count } else { 0 })
@@ -223,9 +223,9 @@ fn full_table(alloc: Global, many: &[Option<i64>]) -> Result<Table, AllocError> 
     Column::Letters.table(alloc, many.get(..128).unwrap_or_default(), true)
 }
 
-// Nothing of a batch with too many values goes out, and the writer writes on: the value that was
-// sent before isn't sent again. Of rows that are pushed, those before the one that is too many are
-// sent. As many as the indices count come back.
+// Nothing of a batch with too many values is sent, and the writer goes on: the value that was sent
+// before is not sent again. Of pushed rows, those before the first refused one are sent. A table
+// with the greatest number of values that the indices count comes back.
 #[test]
 fn full_dictionaries(rt: HostRuntime) -> Result<(), Fail> {
     let many = many(rt.alloc())?;

@@ -17,7 +17,7 @@ pub enum Step<'a> {
     Push(Rows<'a>),
     /// The same with one pair, of two bytes.
     PushPaired(Rows<'a>),
-    /// To take this number as a row, and to send nothing.
+    /// To push this number as a row, and to drop the batch.
     LetGo(i64),
     /// To write a batch of these rows that was read, from its columns.
     Columns(Rows<'a>),
@@ -89,7 +89,8 @@ fn push_rows<W: Sink>(
     batch.send()
 }
 
-// Begins a batch, pushes a row and lets it go. Unless memory is refused, the writer is as it was.
+// Begins a batch, pushes a row and drops the batch. Unless memory is refused, the writer is as it
+// was.
 fn let_go<W: Sink>(
     writer: &mut StreamWriter<W>,
     pairs: Items<(Text, Text)>,

@@ -1,5 +1,5 @@
-//! What writers refuse, alone and under limits, and what they send all the same: it is what another
-//! writer sends of the rows that are left. What a reader answers under limits is in `cases/`.
+//! What writers refuse, with and without limits, and what they send nevertheless: what another
+//! writer sends for the remaining rows. What a reader answers under limits is in `cases/`.
 
 use crate::scripts::{Step, ended, sent, started, stream_of};
 use crate::tables::{AB, BC, CD, Column, NUMBERS, empty};
@@ -9,7 +9,7 @@ use std::alloc::{AllocError, Global};
 use std::test::Fail;
 
 // The steps that a writer is asked to take under limits on metadata, body, slots, fields, depth,
-// text and pairs; what it tells; and the steps that give the same bytes.
+// text and pairs; the lines of its faults; and the steps that give the same bytes.
 struct Script {
     limits: [u64; 7],
     column: Column,
@@ -44,7 +44,7 @@ const SCRIPTS: [Script; 15] = [
         told: "",
         same: &[Step::Write(&[Some(6)])],
     },
-    // A batch with a row that doesn't fit is refused, nothing goes out, and the writer writes on.
+    // A batch with a row that doesn't fit is refused, nothing is sent, and the writer goes on.
     Script {
         limits: WIDE,
         column: Column::Bytes,
@@ -70,7 +70,7 @@ const SCRIPTS: [Script; 15] = [
         told: "W4 OutOfRange at row 1 path 0\n",
         same: &[],
     },
-    // Rows that take no bytes are too many all the same, and the writer writes on.
+    // Rows that take no bytes can still be too many, and the writer goes on.
     Script {
         limits: [1 << 24, 0, 2, 10, 4, 1000, 10],
         column: Column::Absent,
@@ -78,7 +78,7 @@ const SCRIPTS: [Script; 15] = [
         told: "W8 TooManyRows\n",
         same: &[Step::Write(&[None, None])],
     },
-    // One pair of two bytes fits, and doesn't where one byte or no pair may stand.
+    // One pair of two bytes fits, but not under a limit of one byte or of no pair.
     Script {
         limits: [1 << 24, 1 << 20, 1000, 10, 4, 2, 1],
         column: Column::Absent,
@@ -100,7 +100,7 @@ const SCRIPTS: [Script; 15] = [
         told: "W6 TooLong\n",
         same: &[],
     },
-    // Limits that three numbers just keep, but for the metadata, and a body one byte too long.
+    // Limits that three numbers just meet, except that of metadata; and a body one byte too long.
     Script {
         limits: [4096, 24, 3, 1, 1, 1, 0],
         column: Column::Numbers,
@@ -115,7 +115,7 @@ const SCRIPTS: [Script; 15] = [
         told: "W6 TooLong\n",
         same: &[],
     },
-    // Three letters keep limits of 3 slots and of a body of 24 bytes, and four don't, though there
+    // Three letters meet limits of 3 slots and of a body of 24 bytes, and four don't, though there
     // are two rows: a dictionary's values are rows of its message.
     Script {
         limits: [1 << 24, 1 << 20, 3, 10, 4, 1000, 10],
@@ -204,7 +204,7 @@ const BODY_AND_END: [u8; 32] = [
     255, 127, 255, 255, 255, 255, 0, 0, 0, 0,
 ];
 
-// Whether no writer is started for a column of this type, and nothing goes out.
+// Whether no writer is started for a column of this type, and nothing is sent.
 fn is_bad(alloc: Global, kind: DataType) -> Result<bool, AllocError> {
     let mut fields = Vec::new(alloc);
     fields.push(Field::new(alloc, "a", kind)?)?;

@@ -79,7 +79,7 @@ fn form_of(shown: OutputKind) -> Form<'static> {
     Form::Rows { shape, pairs }
 }
 
-// Whether a stream is printed so.
+// Whether a stream is printed as its case says.
 fn is_printed(alloc: Global, stream: &[u8], case: Case) -> Result<bool, AllocError> {
     let (shown, limit, wanted, unread) = case;
     let options = PrintOptions {

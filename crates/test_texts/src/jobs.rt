@@ -48,7 +48,7 @@ enum JobKind {
 }
 
 // A job, its input, the fewest calls that read it, how often its output is flushed, and the whole
-// output where it is a text. A text is flushed before the first batch, after each batch, and at the
+// output if it is a text. A text is flushed before the first batch, after each batch, and at the
 // end.
 type Case = (JobKind, &'static [u8], u64, u64, Option<&'static [u8]>);
 
@@ -211,8 +211,9 @@ fn writes(alloc: Global, case: Case, whole: &[u8]) -> Result<Option<u64>, AllocE
     Ok(None)
 }
 
-// Whether a job stops so at each call of its input and of its output, and the whole output is the
-// wanted one. The input is read to its last byte at least, and the output flushed so often.
+// Whether a job stops as it should at each call of its input and of its output, and the whole
+// output is the wanted one. The input is read to its last byte at least, and the output is flushed
+// as often as the case says.
 fn stops(alloc: Global, case: Case) -> Result<bool, AllocError> {
     let (asked, input, least, flushes, wanted) = case;
     let (status, whole, _) = done(alloc, asked, input, (u64::MAX, u64::MAX))?;

@@ -1,4 +1,4 @@
-//! Texts whose right form is given.
+//! Texts that are compared with the wanted ones.
 use csv::ByteRecord;
 use ipc_model::{DateUnit, Items, Row, Schema, Text, TimeUnit, Value};
 use ipc_text::{
@@ -23,7 +23,7 @@ const FLAT: &str = "{\"fields\":[\
 \"type\":[\"timestamp\",\"us\",\"UTC\"]}],\
 \"metadata\":[[\"k\",\"v\"]]}";
 
-// A list of structs, and a column whose values stand in a dictionary.
+// A list of structs, and a column with a dictionary.
 const NESTED: &str = "{\"fields\":[\
 {\"children\":1,\"dictionary\":null,\"metadata\":[],\"name\":\"l\",\"nullable\":true,\
 \"type\":[\"list\"]},\
@@ -37,7 +37,7 @@ const NESTED: &str = "{\"fields\":[\
 \"nullable\":true,\"type\":[\"utf8\"]}],\
 \"metadata\":[]}";
 
-// Columns whose names are empty, repeated, and of control characters.
+// Columns whose names are empty, repeated, or of control characters.
 const NAMES: &str = "{\"fields\":[\
 {\"children\":0,\"dictionary\":null,\"metadata\":[],\"name\":\"\",\"nullable\":true,\
 \"type\":[\"bool\"]},\
@@ -64,7 +64,7 @@ enum Ask {
     Pairs,
     // The header of its columns.
     Header,
-    // Nothing, where the record is that header.
+    // Nothing if the record is that header.
     IsHeader,
     // The record's row as JSON, in this shape.
     Json(RowShape),
@@ -131,7 +131,7 @@ fn answer(alloc: Global, schema: &Schema, case: &Case) -> Result<Vec<u8>, TextFa
     }
 }
 
-// Whether a case is answered as it should be. Memory that ran out is no answer.
+// Whether a case has its wanted answer. If memory ran out, there is no answer.
 fn is_answered(alloc: Global, case: &Case) -> Result<bool, TextFault> {
     let schema = schema_from_json(alloc, case.schema)?;
     match answer(alloc, &schema, case) {
@@ -141,7 +141,7 @@ fn is_answered(alloc: Global, case: &Case) -> Result<bool, TextFault> {
     }
 }
 
-// What is asked under a schema, of a record where it takes one, and the answer.
+// What is asked under a schema, of a record if it takes one, and the wanted answer.
 struct Case {
     schema: &'static str,
     ask: Ask,
@@ -343,7 +343,7 @@ fn read_moment(moment: Moment, text: &[u8]) -> Option<i64> {
     }
 }
 
-// Whether a number has this text, which is read as the number; or none.
+// Whether a number has this text, which is read back as the number; or has none.
 fn is_told(moment: Moment, number: i64, wanted: Option<&str>) -> bool {
     let text = moment_text(moment, number);
     match (&text, wanted) {
