@@ -2,9 +2,9 @@
 use Rattle.std.proofs.Common.{◌≡◌, ◌∙◌, refl, sym, ap, ℕ, zero, suc, ◌+◌, ◌-◌, ◌*◌, ◌/◌, ◌%◌, ◌^◌, ◌<◌, ◌≤◌, Bool, true, false, cond}
 use Rattle.std.proofs.Common.{List, [], ◌∷◌, ◌++◌, length, take, drop, get_or, append_assoc, length-append, length-drop, arith, add-one}
 use Rattle.std.proofs.Math.Nat.{mod-eq_of_lt}
-use Rattle.std.proofs.lemmas.List.{drop-append-le, drop_at, length-take, map-append, take-append-le, take-take, take_all, take_at}
+use Rattle.std.proofs.lemmas.List.{drop-append-le, drop_at, length-take, take-append-le, take-take, take_all, take_at}
 use Rattle.std.proofs.lemmas.Nat.{and_mask, mod-pow-add, one_shl}
-use Rattle.std.specs.Prelude.{Option, bit_and, min, slice_set}
+use Rattle.std.specs.Prelude.{bit_and, min, slice_set}
 use Rattle.std.specs.Int.{bytes_low_first}
 use Rattle.ipc_scalar.specs.Bytes.{bit, clear, num}
 use Rattle.ipc_model.specs.declared.layout.Layout.{Layout}
@@ -16,15 +16,14 @@ use Rattle.ipc_encode.specs.Built.{AreContents, AreListEnds}
 use Rattle.ipc_encode.specs.Cells.{HasUtf8, extent, ends, flags, nulls, offsets, slots}
 use Rattle.ipc_encode.specs.Buffers.{column_nulls}
 use Rattle.ipc_encode.specs.Columns.{validity_bytes, validity_in}
-use Rattle.ipc_encode.specs.Numbers.{index_of, indices_of}
 use Rattle.ipc_encode.specs.Pieces.{Bytes, Content, Items, Run, Valid, ValueSlot}
 use Rattle.ipc_encode.proofs.Bits.{clear_is, clear_so_far, flags_append, flags_length, flags_number-lt, length_bytes, nulls_append}
 use Rattle.ipc_encode.proofs.HeldValues.{all_left}
-use Rattle.ipc_encode.proofs.NumberSlots.{indices_length, slots_append}
+use Rattle.ipc_encode.proofs.NumberSlots.{slots_append}
 use Rattle.ipc_encode.proofs.ReadbackParts.{Wide, bitmap_length, end_is, nulls_most, reach}
 use Rattle.ipc_encode.proofs.ReadbackParts.{reach_bytes, reach_items, validity_cases, wide_length}
 use Rattle.ipc_encode.proofs.Sizes.{items_data, offsets_size}
-use Rattle.ipc_encode.proofs.Steps.{no_nulls, some_null}
+use Rattle.ipc_encode.proofs.Steps.{some_null}
 
 -- ---- the first bits
 
@@ -215,13 +214,6 @@ list_ends_cut vs ws old_ends ends items count end size h cut last =
       short = omega (arith, front.1, reach_append Items vs ws, short);
     }
 
--- the indices
-pub indices_cut : (index : Value → ℕ) (vs ws : List Value) (items : List (Option ℕ)) (count : ℕ) → items ≡ indices_of index (vs ++ ws)
-    → count ≡ length vs → take count items ≡ indices_of index vs
-indices_cut index vs ws items count same many =
-    ap (λ (is : List (Option ℕ)). take count is) (same ∙ map-append (index_of index) vs ws)
-    ∙ take_at (indices_of index vs) (indices_of index ws) count (indices_length index vs ∙ sym many)
-
 -- ---- the validity of the first slots
 
 -- a bitmap that is cut, where some slot is null
@@ -241,11 +233,6 @@ validity_cut layout vs ws old new count none size nil some same cut empty = by l
     by : (lay : Layout) → column_nulls lay vs ≡ none → old ≡ validity_in lay (vs ++ ws) → new ≡ validity_in lay vs
     by l.Null nil same = empty same
     by _ nil same = other nil same
-
--- without a null there is none
-pub validity_gone : (layout : Layout) (vs : List Value) → column_nulls layout vs ≡ 0 → validity_in layout vs ≡ []
-validity_gone l.Null vs none = refl
-validity_gone _ vs none = no_nulls vs none
 
 -- ---- the nulls of the first slots
 

@@ -33,7 +33,6 @@ use Rattle.ipc_column.specs.Views.{part_columns}
 use Rattle.ipc_column.specs.declared.ranges.ColumnRanges.{ColumnRanges}
 use Rattle.ipc_encode.specs.Cells.{cell, cells, all_items, is_set, items_in}
 use Rattle.ipc_encode.specs.Cells as c
-use Rattle.ipc_encode.specs.Columns.{data_in}
 use Rattle.ipc_encode.specs.Mismatches.{AreMismatches}
 use Rattle.ipc_encode.specs.Pieces.{Valid}
 use Rattle.ipc_encode.specs.PlainColumns.{layout_implies_type}

@@ -1,8 +1,7 @@
 -- Rows that columns hold, within the limits.
-use Rattle.std.proofs.Common.{refl, ◌≡◌, ◌∙◌, sym, ap, subst, ℕ, suc, ◌+◌, ◌<◌, ◌≤◌, List, [], ◌∷◌, ◌++◌, length, take, drop, arith, inl}
+use Rattle.std.proofs.Common.{refl, ◌≡◌, ◌∙◌, sym, ap, subst, ℕ, suc, ◌+◌, ◌<◌, ◌≤◌, List, [], ◌∷◌, ◌++◌, length, take, arith, inl}
 use Rattle.std.proofs.Common.{inr, append_assoc, false, Result, Ok, Err, IfErr}
 use Rattle.std.proofs.lemmas.Bool.{cases_lt}
-use Rattle.std.proofs.lemmas.List.{take-append-drop}
 use Rattle.ipc_model.specs.declared.fault.WriteFault.TheVariants as fault
 use Rattle.ipc_model.specs.declared.layout.Layout.{Layout}
 use Rattle.ipc_model.specs.declared.limits.Limits.{Limits}
@@ -12,7 +11,7 @@ use Rattle.ipc_column.specs.Shapes.{Shape, bare, field, node_count, shape_of}
 use Rattle.ipc_encode.specs.Buffers.{child_values, row_columns, rows_body, column_buffers, padded_bytes}
 use Rattle.ipc_encode.specs.Built.{HoldColumns, HoldsRows, StoresRows, AreColumnsWithin, ArePushesRefused, AreCountsOf, IsPushRefused}
 use Rattle.ipc_encode.specs.Built.{AreShares}
-use Rattle.ipc_encode.specs.Cells.{cell, cells}
+use Rattle.ipc_encode.specs.Cells.{cell}
 use Rattle.ipc_encode.specs.ColumnSizes.{as_rows}
 use Rattle.ipc_encode.specs.Faults.{write_fault}
 use Rattle.ipc_encode.specs.Limits.{IsTooMany, AreColumnsTooLong, IsWithin, AreRowsRefused}
@@ -23,7 +22,7 @@ use Rattle.ipc_encode.specs.declared.column.ColumnCounts.{ColumnCounts}
 use Rattle.ipc_encode.specs.declared.fault.PushFault.{PushFault}
 use Rattle.ipc_encode.specs.declared.fault.PushFault.TheVariants as push
 use Rattle.ipc_encode.specs.declared.tree.Node.{Node, out-Node}
-use Rattle.ipc_encode.proofs.Growing.{refused_grow, held_few, held_short, all_refused, first_refused, own_refused, parts_length}
+use Rattle.ipc_encode.proofs.Growing.{held_few, held_short, all_refused, first_refused, own_refused, parts_length}
 use Rattle.ipc_encode.proofs.Growing.{few_leaf, short_leaf}
 use Rattle.ipc_encode.proofs.Shares.{columns_share, columns_wider}
 use Rattle.ipc_encode.proofs.Sizes.{data_some, held_stored, items_some}
@@ -141,14 +140,6 @@ rows_refused limits fields rows push.TooMany h = inr h
 rows_refused limits fields rows push.DictionaryFull h = absurd h
 rows_refused limits fields rows push.Failed h = absurd h
 rows_refused limits fields rows _ h = h
-
--- why the first rows aren't taken is why all aren't
-pub first_rows_refused : (limits : Limits) (shape : Shape) (rows : List (List Value)) (i : ℕ) (e : PushFault)
-    → ArePushesRefused limits shape (row_columns (take i rows)) e → ArePushesRefused limits shape (row_columns rows) e
-first_rows_refused limits shape rows i e h =
-    subst (λ (given : ℕ → List Value). ArePushesRefused limits shape given e)
-    (λ d j. (sym (cells_append j (take i rows) (drop i rows)) ∙ ap (λ (rs : List (List Value)). cells j rs) (take-append-drop i rows)) d)
-    (refused_grow limits shape (row_columns (take i rows)) (row_columns (drop i rows)) e h)
 
 -- there is room for a row where there are not as many as there may be
 pub not_full : (rows slots : ℕ) → (slots ≤ rows → ⊥) → rows < slots

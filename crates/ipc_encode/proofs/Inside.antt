@@ -13,7 +13,7 @@ use Rattle.ipc_model.specs.declared.value.Value.TheOpen.{Value-F}
 use Rattle.ipc_model.specs.declared.value.Value.TheOpen as o
 use Rattle.ipc_model.specs.declared.value.Value.TheVariants as v
 use Rattle.std.proofs.Common.{ℕ, zero, suc, ◌≤◌, ◌++◌, get_or, arith}
-use Rattle.ipc_encode.specs.Cells.{cell, items_in}
+use Rattle.ipc_encode.specs.Cells.{cell}
 use Rattle.ipc_encode.proofs.Sizes.{FirstFit, first_fit_next}
 use Rattle.std.specs.Borrow.{Bor}
 use Rattle.ipc_encode.specs.Fitting.{FitsOwn, FitsSome, InsideFits, IsInsideFit, ItemsFit}
@@ -121,13 +121,6 @@ deep_fits (Some f) value fs own those inside = by (out-Value value) refl inside
 pub items_fit : (fields : List Field) (items : List Value) → AllByRecursion (FitsSome (slice_get fields 0)) items → ItemsFit fields items
 items_fit [] items h = tt
 items_fit (f ∷ fs) items h = h
-
--- what is inside a list fits where its items do, and there is nothing inside a value that is no struct either
-pub no_struct_inside : (fields : List Field) (w : Value-F Value) → ((vs : List Value) → w ≡ o.Struct vs → ⊥)
-    → ItemsFit fields (items_in w) → IsInsideFit fields w
-no_struct_inside fields (o.List vs) other h = h
-no_struct_inside fields (o.Struct vs) other h = absurd (other vs refl)
-no_struct_inside fields w other h = tt
 
 -- the next value fits the field at its index
 pub next_fits : (i : ℕ) (fields : List Field) (row : List Value) (field : Option (Bor Field)) (v : Value)

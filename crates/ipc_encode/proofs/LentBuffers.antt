@@ -1,7 +1,7 @@
 -- What the buffers of a column that was read hold, as those of a column that is built hold it.
 use Rattle.std.proofs.Common.{◌≡◌, ◌∙◌, refl, sym, ap, subst, ℕ, zero, suc, ◌+◌, ◌-◌, ◌*◌, ◌/◌, ◌<◌, ◌≤◌, Bool, true, false, cond, List}
-use Rattle.std.proofs.Common.{[], ◌∷◌, ◌++◌, length, take, drop, get_or, Some, add-one, arith, replicate, inl, inr, ◌^◌, get_or-drop}
-use Rattle.std.proofs.Common.{get_or-take, length-drop}
+use Rattle.std.proofs.Common.{[], ◌∷◌, ◌++◌, length, take, drop, get_or, Some, add-one, arith, replicate, inl, inr, ◌^◌}
+use Rattle.std.proofs.Common.{length-drop}
 use Rattle.std.proofs.Math.Nat.{mul-le-mul_left}
 use Rattle.std.proofs.Math.Seq.{take-add}
 use Rattle.std.proofs.lemmas.Bool.{eqb-false, eqb-true, false≢true, leb-true, ne_eqb, cases_lt}
@@ -41,8 +41,8 @@ use Rattle.ipc_encode.specs.Pieces.{Fixed, True, Valid, ValueSlot, Number, Bytes
 use Rattle.ipc_encode.specs.WholeColumns.{is_taken_whole}
 use Rattle.ipc_encode.specs.Writing.{AreStored}
 use Rattle.ipc_encode.proofs.Bits.{clear_nulls, unmarked}
-use Rattle.ipc_encode.proofs.NumberSlots.{null_out, signed_out, slots_next, unsigned_out, valid_at, null_slot, valid_slot, num_more}
-use Rattle.ipc_encode.proofs.NumberSlots.{num_none, num_small, unsigned_bytes}
+use Rattle.ipc_encode.proofs.NumberSlots.{null_out, signed_out, slots_next, unsigned_out, valid_at, null_slot, valid_slot}
+use Rattle.ipc_encode.proofs.NumberSlots.{num_small, unsigned_bytes}
 use Rattle.ipc_encode.proofs.Sizes.{content_data}
 use Rattle.ipc_encode.proofs.Steps.{bytes_extents, ends_push, extents, of_size}
 

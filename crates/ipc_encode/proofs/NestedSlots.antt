@@ -31,17 +31,15 @@ use Rattle.ipc_column.specs.Values.{first_of, is_valid, items, own_value, offset
 use Rattle.ipc_column.specs.Views.{part_columns, column_of, children_of}
 use Rattle.ipc_column.specs.declared.buffers.Buffers.{Buffers}
 use Rattle.ipc_column.specs.declared.ranges.ColumnRanges.{ColumnRanges}
-use Rattle.ipc_encode.specs.Built.{AreNodes, IsNode}
 use Rattle.ipc_encode.specs.Cells.{all_items, all_parts, cell, ends, is_set, items_in, offsets, struct_member, part_in}
 use Rattle.ipc_encode.specs.Cells as cells
 use Rattle.ipc_encode.specs.Marks.{MarksNulls}
 use Rattle.ipc_encode.specs.Columns.{data_in}
 use Rattle.ipc_encode.specs.Pieces.{Items, Valid}
 use Rattle.ipc_encode.specs.WholeColumns.{AreFullColumns, IsFullColumn}
-use Rattle.ipc_encode.specs.declared.column.ColumnBuilder.{ColumnBuilder}
-use Rattle.ipc_encode.specs.declared.tree.Node.{Node}
 use Rattle.ipc_encode.proofs.Growing.{IsAt}
-use Rattle.ipc_encode.proofs.LentBuffers.{buffers_at, ends_lie, list_out, slot_count, slot_is, struct_out, place_few, place_is, start_of, own_set}
+use Rattle.ipc_encode.proofs.LentBuffers.{buffers_at, ends_lie, list_out, slot_count, slot_is, struct_out, place_few, place_is}
+use Rattle.ipc_encode.proofs.LentBuffers.{own_set, start_of}
 use Rattle.ipc_encode.proofs.NumberSlots.{null_out, unsigned_bytes}
 use Rattle.ipc_encode.proofs.Steps.{below_append, extents, items_extents, items_next}
 

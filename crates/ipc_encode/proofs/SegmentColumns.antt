@@ -1,12 +1,11 @@
 -- Columns that are added one after another to a list of segments.
 use Rattle.std.proofs.Common.{◌≡◌, ◌∙◌, refl, sym, ap, ℕ, zero, suc, ◌+◌, ◌<◌, ◌≤◌, List, [], ◌∷◌, ◌++◌, length, take, get_or}
 use Rattle.std.proofs.Common.{append_assoc, arith, Some, slice_get, length-append, ℤ, pos, ◌+ℤ◌, subst, ◌-◌, ◌%◌, replicate, inl, inr}
-use Rattle.std.proofs.Common.{◌⊎◌, true}
+use Rattle.std.proofs.Common.{true}
 use Rattle.std.proofs.lemmas.Bool.{false≢true}
 use Rattle.std.proofs.lemmas.List.{take_more, append-nil, length-replicate}
 use Rattle.std.proofs.lemmas.Option.{get_or_from_slice_get}
 use Rattle.ipc_model.specs.Layouts.{layout}
-use Rattle.ipc_model.specs.Limits.{max_data}
 use Rattle.ipc_model.specs.declared.layout.Layout.{Layout}
 use Rattle.ipc_model.specs.declared.layout.Layout.TheVariants as l
 use Rattle.ipc_model.specs.declared.limits.Limits.{Limits}
@@ -19,7 +18,7 @@ use Rattle.ipc_encode.specs.Buffers.{padded_bytes, padded_buffer, ranges_from, c
 use Rattle.ipc_encode.specs.Buffers.{row_columns, nodes_of, written_values}
 use Rattle.ipc_encode.specs.Built.{ArePushesRefused, IsColumn, IsNode}
 use Rattle.ipc_encode.specs.Buffers.{column_nulls}
-use Rattle.ipc_encode.specs.Columns.{data_in, validity_bytes}
+use Rattle.ipc_encode.specs.Columns.{validity_bytes}
 use Rattle.ipc_encode.specs.Faults.{write_fault}
 use Rattle.ipc_encode.specs.Limits.{HasLongData, HasLongItems, HasLongNode, HasExcessData, AreRowsRefused, IsWithin, SomeExcessData}
 use Rattle.ipc_encode.specs.Numbers.{Numbering}
@@ -37,7 +36,6 @@ use Rattle.ipc_encode.proofs.Growing.{long_node_at, nodes_next, short_next, some
 use Rattle.ipc_encode.proofs.Held.{all_stored, rows_within}
 use Rattle.ipc_encode.proofs.Indexed.{buffers_size, buffers_with_next}
 use Rattle.ipc_encode.proofs.Ranges.{ranges_length}
-use Rattle.ipc_encode.proofs.Sizes.{long_is}
 
 -- ---- the ranges of buffers that follow others in a body
 

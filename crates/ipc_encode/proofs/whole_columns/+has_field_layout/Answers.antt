@@ -1,16 +1,16 @@
-use Rattle.std.proofs.Common.{◌≡◌, ◌∙◌, sym, ap, subst, ℕ, List, Some, length, arith}
+use Rattle.std.proofs.Common.{◌≡◌, ◌∙◌, sym, subst, ℕ, List, Some, arith}
 use Rattle.std.specs.Prelude.{slice_get}
 use Rattle.std.proofs.lemmas.List.{length-map}
 use Rattle.std.proofs.lemmas.Option.{get_or_from_slice_get}
 use Rattle.ipc_model.specs.declared.schema.Field.{Field}
 use Rattle.ipc_model.specs.declared.value.Value.{Value}
 use Rattle.ipc_column.specs.Nested.{Nested, slot_values}
-use Rattle.ipc_column.specs.Shapes.{Shape, field_children, field_layout, shape_of}
+use Rattle.ipc_column.specs.Shapes.{field_children, field_layout}
 use Rattle.ipc_column.specs.Slots.{nested, nested_in}
 use Rattle.ipc_encode.specs.Buffers.{child_values}
-use Rattle.ipc_encode.specs.WholeColumns.{AreFullColumns, IsFullColumn}
+use Rattle.ipc_encode.specs.WholeColumns.{IsFullColumn}
 use Rattle.ipc_encode.proofs.NestedSlots.{some_same, first_and_next}
-use Rattle.ipc_encode.proofs.SegmentColumns.{field_parts, whole_all}
+use Rattle.ipc_encode.proofs.SegmentColumns.{whole_all}
 use Rattle.ipc_encode.proofs.whole_columns.+has_field_layout.Goals as goal
 
 pub have_field_layouts-loop-i-preserved : goal.have_field_layouts-loop-i-preserved
@@ -31,7 +31,8 @@ have_field_layouts-loop-i-preserved t c = λ spelled.
     let there = subst (λ (vs : List Value). IsFullColumn (field_layout of) (field_children of) own vs) (sym
     (c.uses_all_slots.ensures.slots c.if-not-uses_all_slots.false own c.child.ensures)) whole in
     subst (λ (g : Field). IsFullColumn (field_layout g) (field_children g) v (values i)) same
-    (subst (λ (n : Nested). IsFullColumn (field_layout of) (field_children of) n (values i)) (some_same own v (sym c.child.ensures ∙ is)) there))
+    (subst (λ (n : Nested). IsFullColumn (field_layout of) (field_children of) n (values i))
+    (some_same own v (sym c.child.ensures ∙ is)) there))
 
 pub have_field_layouts-returns : goal.have_field_layouts-returns
 have_field_layouts-returns t c = λ report spelled.

@@ -37,8 +37,8 @@ returns-then-count-eq0 c = λ none.
     let s = c.args.view.now in
     let empty : length (slot_values s) ≡ 0 = sym c.len-count.ensures ∙ c.if-count-eq0.true in
     let below : (child : Nested) → slice_get (nested_in s) 0 ≡ Some child → length (slot_values child) ≡ 0 =
-    λ child is. none_there c.child-child.result child c.len.result none (some_same c.child-child.result child (sym c.child-child.ensures ∙ is))
-    c.len.ensures in
+    λ child is. none_there c.child-child.result child c.len.result none
+    (some_same c.child-child.result child (sym c.child-child.ensures ∙ is)) c.len.ensures in
     record {
       offsets_are = λ some. absurd (omega (arith, some, empty));
       few = no_data (slot_values s) empty;
