@@ -18,6 +18,7 @@ use Rattle.job_arguments.specs.declared.csv_dialect.CsvDialect.{CsvDialect}
 use Rattle.job_arguments.specs.declared.arguments.Invocation.{Invocation}
 use Rattle.job_arguments.specs.declared.arguments.Job.{Job}
 use Rattle.job_arguments.specs.declared.arguments.Job.TheVariants as job
+use Rattle.job_arguments.specs.declared.arguments.OutputLimits.{OutputLimits}
 use Rattle.job_arguments.specs.declared.arguments.Usage.{Usage}
 use Rattle.job_arguments.specs.declared.arguments.Usage.TheVariants as usage
 
@@ -69,6 +70,18 @@ HasWrongLimit rows = LacksNumber (codes "max-metadata") 0 max_metadata rows
     ⊎ (LacksNumber (codes "max-text") 0 max_text rows
     ⊎ LacksNumber (codes "max-pairs") 0 max_pairs rows)))))
 
+-- the options of a subcommand ask for these limits of what is written
+pub record AskForOutput (rows : List Row) (limits : OutputLimits) : Type 0 where
+  pub body : HasCount (codes "max-output-body") 0 max_body rows limits.body
+  pub batches : HasCount (codes "max-batches") 0 (2 ^ 64 - 1) rows limits.batches
+  pub total : HasCount (codes "max-total-rows") 0 (2 ^ 64 - 1) rows limits.rows
+
+-- one of these limits is no number from 0 to its greatest value
+abbrev pub HasWrongOutput : List Row → Type 0
+HasWrongOutput rows = LacksCount (codes "max-output-body") 0 max_body rows
+    ⊎ (LacksCount (codes "max-batches") 0 (2 ^ 64 - 1) rows
+    ⊎ LacksCount (codes "max-total-rows") 0 (2 ^ 64 - 1) rows)
+
 -- the options ask for this dialect of CSV: the delimiter is one byte
 pub record AskForDialect (rows : List Row) (dialect : CsvDialect) : Type 0 where
   pub delimiter : first_of (codes "delimiter") rows ≡ Some (dialect.delimiter ∷ [])
@@ -90,7 +103,7 @@ HasGoodSize (job.Schema limits) = ⊤
 HasGoodSize (job.Check limits mark) = ⊤
 HasGoodSize (job.Show limits objects pairs count mark) = ⊤
 HasGoodSize (job.ToCsv limits dialect count mark) = ⊤
-HasGoodSize (job.Rewrite limits mark) = ⊤
+HasGoodSize (job.Rewrite limits output mark) = ⊤
 HasGoodSize (job.FromCsv path size dialect) = IsBatchSize size
 
 -- the subcommand of this name, with what was found for its options, asks for this job
@@ -107,8 +120,9 @@ IsJobOf name rows (job.Show limits objects pairs count mark) =
 IsJobOf name rows (job.ToCsv limits dialect count mark) =
     (name ≡ codes "to-csv") × AskForLimits rows limits × AskForDialect rows dialect
     × HasCount (codes "limit") 0 (2 ^ 64 - 1) rows count × HasFlag (codes "require-mark") rows mark
-IsJobOf name rows (job.Rewrite limits mark) =
-    (name ≡ codes "rewrite") × AskForLimits rows limits × HasFlag (codes "require-mark") rows mark
+IsJobOf name rows (job.Rewrite limits output mark) =
+    (name ≡ codes "rewrite") × AskForLimits rows limits × AskForOutput rows output
+    × HasFlag (codes "require-mark") rows mark
 IsJobOf name rows (job.FromCsv path size dialect) = (name ≡ codes "from-csv")
     × (first_of (codes "schema") rows ≡ Some (string_bytes path))
     × HasNumber (codes "batch") 1 max_slots rows size × AskForDialect rows dialect
@@ -136,6 +150,8 @@ pub data HasWrongValue (name : Text) (rows : List Row) : Type 0 where
   limit : HasLimits name → HasWrongLimit rows → HasWrongValue name rows
   -- the number of rows to print is no number of 64 bits
   count : HasLimit name → LacksCount (codes "limit") 0 (2 ^ 64 - 1) rows → HasWrongValue name rows
+  -- a limit of what is written is out of its range
+  output : name ≡ codes "rewrite" → HasWrongOutput rows → HasWrongValue name rows
   -- the dialect of CSV is not allowed
   dialect : HasDialect name → HasWrongDialect rows → HasWrongValue name rows
   -- `from-csv` has no path

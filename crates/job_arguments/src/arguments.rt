@@ -2,10 +2,12 @@
 ghost use Rattle.std.specs.Prelude.{◌≡◌, ◌≢◌, ◌^◌, ◌-◌, ◌∷◌, [], ℕ, IfErr, IfOk, IfSome, None};
 ghost use Rattle.std.specs.Prelude.{codes, map, string_bytes};
 ghost use Rattle.clap.specs.Words.{found_of, kind_of, rows_of, subcommand_rows_of};
-ghost use Rattle.job_arguments.specs.Arguments.{AskForDialect, AskForLimits, Asks, AsksNoJob};
+ghost use Rattle.job_arguments.specs.Arguments.{AskForDialect, AskForLimits, AskForOutput};
+ghost use Rattle.job_arguments.specs.Arguments.{Asks, AsksNoJob};
 ghost use Rattle.job_arguments.specs.Arguments.{IsFound, IsHint, IsInvocationOf, IsJobOf};
 ghost use Rattle.job_arguments.specs.Arguments.{HasCount, HasFlag, HasGoodSize, HasNumber};
-ghost use Rattle.job_arguments.specs.Arguments.{HasWrongDialect, HasWrongLimit, HasWrongValue};
+ghost use Rattle.job_arguments.specs.Arguments.{HasWrongDialect, HasWrongLimit, HasWrongOutput};
+ghost use Rattle.job_arguments.specs.Arguments.{HasWrongValue};
 ghost use Rattle.job_arguments.specs.Arguments.{IsUsageOf, IsWrong, IsWrongFor, IsWrongFound};
 ghost use Rattle.job_arguments.specs.Arguments.{LacksCount, LacksNumber};
 
@@ -17,6 +19,17 @@ use ipc_model::{
     Limits, MAX_BODY, MAX_DEPTH, MAX_FIELDS, MAX_METADATA, MAX_PAIRS, MAX_SLOTS, MAX_TEXT,
 };
 use std::alloc::{AllocError, Global};
+
+/// The limits of a stream that is written. Each is `None` if the words have no such option.
+#[derive(Clone, Copy, Debug, Drop)]
+pub struct OutputLimits {
+    /// The maximum number of bytes of a message's body, at most 2^42.
+    pub body: Option<u64>,
+    /// The maximum number of batches.
+    pub batches: Option<u64>,
+    /// The maximum number of rows of all batches together.
+    pub rows: Option<u64>,
+}
 
 /// What to do, and the limits of a stream that is read.
 #[derive(Debug, Drop)]
@@ -58,6 +71,8 @@ pub enum Job {
     Rewrite {
         /// The limits of the stream.
         limits: Limits,
+        /// The limits of what is written.
+        output: OutputLimits,
         /// Whether the end-of-stream mark is required.
         require_mark: bool,
     },
@@ -211,20 +226,36 @@ fn read_limits(alloc: Global, options: &ArgMatches<'_>) -> Result<Limits, Usage>
     }
 }
 
-// The number of rows that are printed at most, if the words say one.
-fn read_limit(alloc: Global, options: &ArgMatches<'_>) -> Result<Option<u64>, Usage>
-    ensures asked { IfOk result
-        (HasCount (codes "limit") 0 (2 ^ 64 - 1) (rows_of (found_of options.now))) }
-    ensures refused { IfErr result (IsWrongFor
-        (LacksCount (codes "limit") 0 (2 ^ 64 - 1) (rows_of (found_of options.now)))) }
+// The number of an option, from 0 to a greatest one, if the words have the option.
+fn read_count(
+    alloc: Global,
+    options: &ArgMatches<'_>,
+    name: &str,
+    greatest: u64,
+) -> Result<Option<u64>, Usage>
+    ensures asked { IfOk result (HasCount name.now 0 greatest (rows_of (found_of options.now))) }
+    ensures refused { IfErr result
+        (IsWrongFor (LacksCount name.now 0 greatest (rows_of (found_of options.now)))) }
 {
-    let Some(_text) = options.get_str("limit") else {
+    let Some(_text) = options.get_str(name) else {
         return Ok(None);
     };
-    match number_option(options, "limit", 0, u64::MAX) {
+    match number_option(options, name, 0, greatest) {
         Some(count) => Ok(Some(count)),
-        None => Err(wrong(alloc, "error: --limit is no number below 2^64\n")),
+        None => Err(wrong(alloc, "error: a number is above its greatest value\n")),
     }
+}
+
+// The limits of what is written that the options ask for.
+fn read_output(alloc: Global, options: &ArgMatches<'_>) -> Result<OutputLimits, Usage>
+    ensures asked { IfOk result (AskForOutput (rows_of (found_of options.now))) }
+    ensures refused { IfErr result (IsWrongFor (HasWrongOutput (rows_of (found_of options.now)))) }
+{
+    Ok(OutputLimits {
+        body: read_count(alloc, options, "max-output-body", MAX_BODY)?,
+        batches: read_count(alloc, options, "max-batches", u64::MAX)?,
+        rows: read_count(alloc, options, "max-total-rows", u64::MAX)?,
+    })
 }
 
 // The only byte of a text that has one.
@@ -271,7 +302,7 @@ fn read_show(alloc: Global, options: &ArgMatches<'_>) -> Result<Job, Usage>
         limits: read_limits(alloc, options)?,
         objects: has_flag(options, "objects"),
         pairs: has_flag(options, "pairs"),
-        limit: read_limit(alloc, options)?,
+        limit: read_count(alloc, options, "limit", u64::MAX)?,
         require_mark: has_flag(options, "require-mark"),
     })
 }
@@ -286,7 +317,7 @@ fn read_to_csv(alloc: Global, options: &ArgMatches<'_>) -> Result<Job, Usage>
     Ok(Job::ToCsv {
         limits: read_limits(alloc, options)?,
         dialect: read_dialect(alloc, options)?,
-        limit: read_limit(alloc, options)?,
+        limit: read_count(alloc, options, "limit", u64::MAX)?,
         require_mark: has_flag(options, "require-mark"),
     })
 }
@@ -328,6 +359,20 @@ fn read_check(alloc: Global, options: &ArgMatches<'_>) -> Result<Job, Usage>
     })
 }
 
+// The job of `rewrite` that is given these options.
+fn read_rewrite(alloc: Global, options: &ArgMatches<'_>) -> Result<Job, Usage>
+    ensures asked { IfOk result (IsJobOf (codes "rewrite") (rows_of (found_of options.now))) }
+    ensures refused { IfErr result
+        (IsWrongFor (HasWrongValue (codes "rewrite") (rows_of (found_of options.now)))) }
+    ensures size { IfOk result HasGoodSize }
+{
+    Ok(Job::Rewrite {
+        limits: read_limits(alloc, options)?,
+        output: read_output(alloc, options)?,
+        require_mark: has_flag(options, "require-mark"),
+    })
+}
+
 // The job of a subcommand that is given these options.
 fn read_job(alloc: Global, name: &str, options: &ArgMatches<'_>) -> Result<Job, Usage>
     ensures asked { IfOk result (IsJobOf name.now (rows_of (found_of options.now))) }
@@ -340,10 +385,7 @@ fn read_job(alloc: Global, name: &str, options: &ArgMatches<'_>) -> Result<Job, 
         "show" => read_show(alloc, options),
         "to-csv" => read_to_csv(alloc, options),
         "from-csv" => read_from_csv(alloc, options),
-        "rewrite" => Ok(Job::Rewrite {
-            limits: read_limits(alloc, options)?,
-            require_mark: has_flag(options, "require-mark"),
-        }),
+        "rewrite" => read_rewrite(alloc, options),
         _ => Err(wrong(alloc, "error: no subcommand\n")),
     }
 }

@@ -60,12 +60,15 @@ Examples:
 
 const REWRITE_EXAMPLES: &str = "\
 The schema, the batches, their pairs and their rows stay the same. Each batch is laid out as this
-program does it, and the stream ends with the end-of-stream mark. The --max options bound the input.
-A batch that is written may be longer, up to the default.
+program does it, and the stream ends with the end-of-stream mark. --max-output-body, --max-batches
+and --max-total-rows bound what is written, and the other --max options what is read. A batch that
+is written may have a longer body than the one that was read: without --max-output-body, up to the
+default of --max-body, or --max-body if that is greater.
 
 Examples:
   arrowstream rewrite < other.arrows > trades.arrows
-  arrowstream rewrite --max-rows 1000000 < upload.arrows > trades.arrows";
+  arrowstream rewrite --max-rows 1000000 < upload.arrows > trades.arrows
+  arrowstream rewrite --max-output-body 1000000 --max-batches 1000 < upload.arrows > trades.arrows";
 
 const FROM_CSV_EXAMPLES: &str = "\
 The first record is the header: the names of the schema's columns, in order. A field with the text
@@ -103,6 +106,16 @@ fn number<'a>(
     let number = option(alloc, name, "N").default_value(usual);
     let parser = ValueParser::unsigned(least, greatest);
     number.value_parser(parser).help(help)
+}
+
+// An option with a number up to a greatest one, without a default.
+fn count<'a>(alloc: Global, name: &'a str, greatest: u64, help: &'a str) -> Arg<'a>
+    ensures rule { rule_of result ≡ line.count name.entry.now 0 greatest }
+    ensures own { result.global ≡ false }
+{
+    let count = option(alloc, name, "N");
+    let parser = ValueParser::unsigned(0, greatest);
+    count.value_parser(parser).help(help)
 }
 
 // An option with a text, and the one that it has where it isn't given.
@@ -236,11 +249,8 @@ fn limit<'a>(alloc: Global) -> Arg<'a>
     ensures rule { rule_of result ≡ line.limit }
     ensures own { result.global ≡ false }
 {
-    let limit = option(alloc, "limit", "N");
-    let parser = ValueParser::unsigned(0, u64::MAX);
-    limit
-        .value_parser(parser)
-        .help("Print the first N rows, and read no batch after them")
+    let help = "Print the first N rows, and read no batch after them";
+    count(alloc, "limit", u64::MAX, help)
 }
 
 // A subcommand with this help and no options.
@@ -339,15 +349,39 @@ fn from_csv<'a>(alloc: Global) -> Result<Command<'a>, AllocError>
     with_dialect(alloc, from_csv)?.arg(explain(alloc))
 }
 
+// The options for the limits of what is written.
+fn with_output_limits<'a>(alloc: Global, command: Command<'a>) -> Result<Command<'a>, AllocError>
+    requires { IsCommand (app_of command) command }
+    ensures { IfOk result (IsCommand (line.with_output_limits (app_of command.entry))) }
+{
+    command
+        .arg(count(
+            alloc,
+            "max-output-body",
+            MAX_BODY,
+            "Maximum bytes of a message's body in what is written",
+        ))?
+        .arg(count(
+            alloc,
+            "max-batches",
+            u64::MAX,
+            "Maximum batches that are written; stop before the next one",
+        ))?
+        .arg(count(
+            alloc,
+            "max-total-rows",
+            u64::MAX,
+            "Maximum rows that are written; stop before a batch with more",
+        ))
+}
+
 // The subcommand that writes a stream anew.
 fn rewrite<'a>(alloc: Global) -> Result<Command<'a>, AllocError>
     ensures { IfOk result (IsCommand line.rewrite) }
 {
     let about = "Rewrite an Arrow IPC stream in canonical layout, batch by batch";
-    with_stream(
-        alloc,
-        command_with_help(alloc, "rewrite", about, REWRITE_EXAMPLES),
-    )
+    let rewrite = command_with_help(alloc, "rewrite", about, REWRITE_EXAMPLES);
+    with_stream(alloc, with_output_limits(alloc, rewrite)?)
 }
 
 // The program's words without its subcommands.

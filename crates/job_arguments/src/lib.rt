@@ -5,5 +5,5 @@ mod arguments;
 mod command_line;
 mod csv_dialect;
 
-pub use arguments::{Invocation, Job, Usage, read_words};
+pub use arguments::{Invocation, Job, OutputLimits, Usage, read_words};
 pub use csv_dialect::CsvDialect;

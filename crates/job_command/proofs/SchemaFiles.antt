@@ -1,15 +1,8 @@
 -- What is read of a schema's file, and the schema of its text.
-use Rattle.std.proofs.Common.{◌≡◌, ◌∙◌, sym, ap, subst, ℕ, List, Option, Some, None, ◌⊎◌, ⊎_elim, inl, inr}
-use Rattle.std.proofs.Common.{Result, Ok, Err}
-use Rattle.std.specs.Prelude.{◌≢◌, IfSome, IfOk, IfErr, MatchResult}
-use Rattle.std.specs.List.{AllByRecursion}
+use Rattle.std.proofs.Common.{◌≡◌, ◌∙◌, sym, ap, subst, ℕ, List, Option, Some, None, ◌⊎◌, ⊎_elim}
+use Rattle.std.specs.Prelude.{◌≢◌, IfSome}
 use Rattle.serde_json.specs.Read.{read}
-use Rattle.ipc_model.specs.Entries.{entries}
-use Rattle.ipc_model.specs.Limits.{IsStandard}
-use Rattle.ipc_model.specs.WellFormed.{WellFormed}
-use Rattle.ipc_model.specs.declared.limits.Limits.{Limits}
 use Rattle.ipc_model.specs.declared.schema.Schema.{Schema}
-use Rattle.ipc_text_json.specs.SchemaJson.{schema_json}
 use Rattle.ipc_text_json.specs.SchemaTexts.{StatesSchema, StatesNoSchema}
 use Rattle.ipc_text_temporal.specs.declared.fault.TextFault.{TextFault}
 use Rattle.ipc_text_temporal.specs.declared.fault.TextFault.TheVariants.{OutOfMemory, BadSchemaJson}

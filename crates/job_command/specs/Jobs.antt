@@ -23,12 +23,14 @@ use Rattle.job_print.specs.declared.form.Form.TheVariants.{Counts, Rows, Records
 use Rattle.job_print.specs.declared.stop.PrintStop.{PrintStop}
 use Rattle.job_print.specs.declared.stop.PrintStop.TheVariants as print
 use Rattle.job_rewrite.specs.Rewriting.{Rewrites, CountsRewriteFailures as RewriteTells}
+use Rattle.job_rewrite.specs.declared.options.RewriteOptions.{RewriteOptions}
 use Rattle.job_rewrite.specs.declared.stop.RewriteStop.{RewriteStop}
 use Rattle.job_rewrite.specs.declared.stop.RewriteStop.TheVariants as rewrite
 use Rattle.job_from_csv.specs.Conversion as csv
 use Rattle.job_from_csv.specs.Stops.{CountsSinkFailure, CountsSourceFailure}
 use Rattle.job_from_csv.specs.declared.stop.FromCsvStop.{FromCsvStop as CsvStop}
 use Rattle.job_from_csv.specs.declared.stop.FromCsvStop.TheVariants as from_csv
+use Rattle.job_arguments.specs.declared.arguments.OutputLimits.{OutputLimits}
 use Rattle.job_arguments.specs.declared.csv_dialect.CsvDialect.{CsvDialect}
 use Rattle.job_command.specs.declared.stop.Stop.{Stop}
 use Rattle.job_command.specs.declared.stop.Stop.TheVariants as stop
@@ -47,6 +49,7 @@ stop_status (stop.Read fault message) = fault_status fault
 stop_status stop.Input = fault_status f.Read
 stop_status stop.Schema = fault_status f.Read
 stop_status (stop.Write fault) = write_fault_status fault
+stop_status (stop.Above total number) = 1
 stop_status (stop.Rows fault s) = write_fault_status fault
 stop_status (stop.Text fault) = text_status fault
 stop_status (stop.SchemaText text) = 1
@@ -67,6 +70,7 @@ stop_of_print (print.Text fault) = stop.Text fault
 abbrev pub stop_of_rewrite : RewriteStop → Stop
 stop_of_rewrite (rewrite.Read fault message) = stop.Read fault message
 stop_of_rewrite (rewrite.Write fault) = stop.Write fault
+stop_of_rewrite (rewrite.Above total number) = stop.Above total number
 
 -- the reason why a conversion from CSV by a schema stopped, as the job's
 abbrev pub stop_of_csv : Schema → CsvStop → Stop
@@ -89,6 +93,15 @@ abbrev pub shape_of : Bool → RowShape
 shape_of true = Object
 shape_of false = Array
 
+-- how a stream is rewritten with these limits of what is written, and whether the mark is required
+abbrev pub rewrite_options : OutputLimits → Bool → RewriteOptions
+rewrite_options output mark = record {
+  require_mark = mark;
+  max_body = output.body;
+  max_batches = output.batches;
+  max_rows = output.rows;
+}
+
 -- what a result states about the schema of a stream that is printed
 abbrev pub AnswersSchemaJob : Limits → Option (List ℕ) → Option (List ℕ) → Option (List ℕ)
     → Option (List ℕ) → ℕ → ℕ → ℕ → ℕ → Result ⊤ Stop → Type 0
@@ -108,12 +121,12 @@ AnswersPrint options limits old new written_old written_new source_old source_ne
 
 -- what a result states about a stream that is rewritten. When W9 and F36 come, the counts of
 -- failures of sink and source tell, as `rewrite` states it
-abbrev pub AnswersRewrite : Bool → Limits → Option (List ℕ) → Option (List ℕ) → Option (List ℕ)
-    → Option (List ℕ) → ℕ → ℕ → ℕ → ℕ → Result ⊤ Stop → Type 0
-AnswersRewrite mark limits old new written_old written_new source_old source_new sink_old sink_new
-    r =
+abbrev pub AnswersRewrite : RewriteOptions → Limits → Option (List ℕ) → Option (List ℕ)
+    → Option (List ℕ) → Option (List ℕ) → ℕ → ℕ → ℕ → ℕ → Result ⊤ Stop → Type 0
+AnswersRewrite options limits old new written_old written_new source_old source_new sink_old
+    sink_new r =
     (p : Result ⊤ RewriteStop) × (r ≡ job_result stop_of_rewrite p)
-    × Rewrites mark limits old new written_old written_new sink_old sink_new p
+    × Rewrites options limits old new written_old written_new sink_old sink_new p
     × RewriteTells source_old source_new sink_old sink_new p
 
 -- the bytes of a file, if it was opened and they are known
@@ -184,9 +197,9 @@ Answers (job.ToCsv limits dialect count mark) bytes failures old new written_old
     source_old source_new sink_old sink_new r = (d : Dialect) × IsDialectOf dialect d
     × AnswersPrint (record { form = Records d; require_mark = mark; limit = count }) limits old new
     written_old written_new source_old source_new sink_old sink_new r
-Answers (job.Rewrite limits mark) bytes failures old new written_old written_new source_old
-    source_new sink_old sink_new r = AnswersRewrite mark limits old new written_old written_new
-    source_old source_new sink_old sink_new r
+Answers (job.Rewrite limits output mark) bytes failures old new written_old written_new source_old
+    source_new sink_old sink_new r = AnswersRewrite (rewrite_options output mark) limits old new
+    written_old written_new source_old source_new sink_old sink_new r
 Answers (job.FromCsv path size dialect) bytes failures old new written_old written_new source_old
     source_new sink_old sink_new r = (d : Dialect) × IsDialectOf dialect d
     × AnswersCsv d bytes failures size old written_old written_new source_old source_new sink_old

@@ -1,6 +1,7 @@
 -- The line that is printed for a job that stopped.
 use Rattle.std.specs.Prelude.{◌≡◌, ◌++◌, ◌∷◌, [], ℕ, List, Option, Result, Ok, Err, ⊤}
 use Rattle.std.specs.Prelude.{◌⊎◌, Bool, IsTrue, codes}
+use Rattle.std.specs.Fmt.{decimal}
 use Rattle.std.specs.Io.KnownBytes.{Appends}
 use Rattle.ipc_model.specs.Texts.{fault_text, stop_line, write_fault_text}
 use Rattle.ipc_model.specs.declared.fault.Fault.TheVariants as f
@@ -14,6 +15,8 @@ use Rattle.job_explain.specs.Schemas.{ExplainsSchema}
 use Rattle.job_explain.specs.Writes.{ExplainsWrite}
 use Rattle.job_explain.specs.declared.message_record.MessageRecord.{MessageRecord}
 use Rattle.ipc_text_temporal.specs.declared.fault.TextFault.TheVariants as x
+use Rattle.job_rewrite.specs.declared.options.Total.{Total}
+use Rattle.job_rewrite.specs.declared.options.Total.TheVariants.{Batches, Rows}
 use Rattle.job_command.specs.declared.stop.Stop.{Stop}
 use Rattle.job_command.specs.declared.stop.Stop.TheVariants as stop
 
@@ -22,12 +25,18 @@ abbrev pub write_line : WriteFault → List ℕ
 write_line w.OutOfMemory = codes "out of memory"
 write_line fault = write_fault_text fault
 
+-- the line of a batch that would exceed a total: the total's option, and the batch's number
+abbrev pub above_text : Total → ℕ → List ℕ
+above_text Batches number = codes "output above --max-batches at batch " ++ decimal number
+above_text Rows number = codes "output above --max-total-rows at batch " ++ decimal number
+
 -- the line of a job that stopped, without its line feed
 abbrev pub stop_text : Stop → List ℕ
 stop_text (stop.Read fault message) = stop_line fault message
 stop_text stop.Input = fault_text f.Read
 stop_text stop.Schema = codes "cannot read schema"
 stop_text (stop.Write fault) = write_line fault
+stop_text (stop.Above total number) = above_text total number
 stop_text (stop.Rows fault s) = write_line fault
 stop_text (stop.Text fault) = text_fault_line fault
 stop_text (stop.SchemaText text) = text_fault_line x.BadSchemaJson

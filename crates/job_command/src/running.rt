@@ -5,7 +5,7 @@ ghost use Rattle.std.specs.Prelude.{IfSome, IsTrue};
 ghost use Rattle.ipc_device.specs.Failures.{CountsFailures};
 ghost use Rattle.job_command.specs.Jobs.{Answers, AnswersCsv, AnswersPrint, AnswersRewrite};
 ghost use Rattle.job_command.specs.Jobs.{AnswersSchemaJob, shape_of, file_bytes, exit_status};
-ghost use Rattle.job_command.specs.Jobs.{failures_of, job_result, stop_of_csv};
+ghost use Rattle.job_command.specs.Jobs.{failures_of, job_result, rewrite_options, stop_of_csv};
 ghost use Rattle.job_command.specs.Lines.{ExplainsStop, PrintsStopLines, stop_text};
 ghost use Rattle.job_arguments.specs.Arguments.{HasGoodSize, IsBatchSize};
 ghost use Rattle.job_command.specs.declared.stop.Stop.{Stop};
@@ -18,11 +18,11 @@ use ipc_model::{Limits, Schema};
 use ipc_stream::Seed;
 use ipc_text_csv::Dialect;
 use ipc_text_json::RowShape;
-use job_arguments::{Invocation, Job};
+use job_arguments::{Invocation, Job, OutputLimits};
 use job_explain::{Recorder, explain_record, explain_schema, explain_write};
 use job_from_csv::from_csv;
 use job_print::{Form, PrintOptions, print, print_schema};
-use job_rewrite::rewrite;
+use job_rewrite::{RewriteOptions, rewrite};
 use std::alloc::Global;
 
 // Prints the schema of a stream.
@@ -75,19 +75,19 @@ fn print_job<S: Source, W: Sink, N: Progress>(
 fn rewrite_job<S: Source, W: Sink, N: Progress>(
     alloc: Global,
     seed: Seed,
-    require_mark: bool,
+    options: RewriteOptions,
     limits: Limits,
     input: S,
     sink: W,
     progress: &mut N,
 ) -> (Result<(), Stop>, S, W)
-    ensures answers { AnswersRewrite require_mark limits (S.remaining input) (S.remaining result.1)
+    ensures answers { AnswersRewrite options limits (S.remaining input) (S.remaining result.1)
         (W.written sink) (W.written result.2) (S.failures input) (S.failures result.1)
         (W.failures sink) (W.failures result.2) result.0 }
     ensures handed_on { OnOk result.0 (W.held_back result.2 ≡ Some []) }
     ensures works { exit_status result.0 ≢ 3 → W.failures sink ≡ 0 → W.failures result.2 ≡ 0 }
 {
-    let (result, source, sink) = rewrite(alloc, seed, require_mark, limits, input, sink, progress);
+    let (result, source, sink) = rewrite(alloc, seed, options, limits, input, sink, progress);
     let result = match result {
         Ok(()) => Ok(()),
         Err(why) => Err(why.into()),
@@ -160,6 +160,18 @@ fn print_options(form: Form<'_>, limit: Option<u64>, require_mark: bool) -> Prin
     }
 }
 
+// The options of a job that writes a stream anew.
+fn rewrite_options(output: OutputLimits, require_mark: bool) -> RewriteOptions
+    ensures { result ≡ rewrite_options output require_mark }
+{
+    RewriteOptions {
+        require_mark,
+        max_body: output.body,
+        max_batches: output.batches,
+        max_rows: output.rows,
+    }
+}
+
 // Does a job, as `run`.
 fn do_job<P: Source, S: Source, W: Sink, N: Progress>(
     alloc: Global,
@@ -208,8 +220,12 @@ fn do_job<P: Source, S: Source, W: Sink, N: Progress>(
         }
         Job::Rewrite {
             limits,
+            output,
             require_mark,
-        } => rewrite_job(alloc, seed, require_mark, limits, input, sink, progress),
+        } => {
+            let options = rewrite_options(output, require_mark);
+            rewrite_job(alloc, seed, options, limits, input, sink, progress)
+        }
         Job::FromCsv {
             schema: _,
             batch,

@@ -6,12 +6,13 @@ ghost use Rattle.job_command.specs.Lines.{stop_text};
 ghost use Rattle.ipc_device.specs.Failures.{CountsAny, CountsFailures};
 
 use crate::stop_line::{
-    end_line, send, send_fault, send_read_fault, send_text_fault, send_write_fault,
+    end_line, send, send_above, send_fault, send_read_fault, send_text_fault, send_write_fault,
 };
 use csv::ByteRecord;
 use ipc_device::{Failed, Sink};
 use ipc_model::{Fault, Schema, WriteFault};
 use ipc_text_temporal::TextFault;
+use job_rewrite::Total;
 
 /// Why a job stopped.
 #[derive(Debug, Drop)]
@@ -26,6 +27,8 @@ pub enum Stop {
     SchemaText(Vec<u8>),
     /// What was read could not be written.
     Write(WriteFault),
+    /// The batch with this number, counted from 0, would exceed this total of what is written.
+    Above(Total, u64),
     /// Rows of CSV could not be written.
     Rows {
         /// Why they could not be written.
@@ -76,6 +79,7 @@ impl From<job_rewrite::RewriteStop> for Stop {
         match why {
             job_rewrite::RewriteStop::Read(fault, message) => Stop::Read(fault, message),
             job_rewrite::RewriteStop::Write(fault) => Stop::Write(fault),
+            job_rewrite::RewriteStop::Above(total, number) => Stop::Above(total, number),
         }
     }
 }
@@ -106,6 +110,7 @@ impl Stop {
             Stop::Read(fault, _) => fault.exit_status(),
             Stop::Input | Stop::Schema => Fault::Read.exit_status(),
             Stop::Write(fault) => fault.exit_status(),
+            Stop::Above(..) => 1,
             Stop::Rows { fault, .. } => fault.exit_status(),
             Stop::Text(TextFault::OutOfMemory) => WriteFault::OutOfMemory.exit_status(),
             Stop::Text(_) => 1,
@@ -115,8 +120,9 @@ impl Stop {
     }
 
     /// Writes it as one line to a sink: the fault with the number of its message, as in
-    /// `F4 Truncated at message 1`. The input and the schema's file have a line without a message,
-    /// and out of memory has no number. Nothing is allocated.
+    /// `F4 Truncated at message 1`, or the option whose total a batch would exceed, with the number
+    /// of the batch. The input and the schema's file have a line without a message, and out of
+    /// memory has no number. Nothing is allocated.
     ///
     /// Errors: the sink failed, and it may have taken a part of the line.
     pub fn write_line<E: Sink>(&self, messages: &mut E) -> Result<(), Failed>
@@ -140,6 +146,7 @@ impl Stop {
             Stop::Input => send_fault(messages, &Fault::Read),
             Stop::Schema => send(messages, "cannot read schema"),
             Stop::Write(fault) => send_write_fault(messages, fault),
+            Stop::Above(total, number) => send_above(messages, total, *number),
             Stop::Rows { fault, .. } => send_write_fault(messages, fault),
             Stop::Text(fault) => send_text_fault(messages, fault),
             Stop::SchemaText(_) => send_text_fault(messages, &TextFault::BadSchemaJson),

@@ -6,12 +6,13 @@ ghost use Rattle.ipc_model.specs.Texts.{fault_text, label, place_text, steps_tex
 ghost use Rattle.ipc_model.specs.Texts.{code_text};
 ghost use Rattle.ipc_text_temporal.specs.FaultLines.{text_fault_line};
 ghost use Rattle.ipc_device.specs.Failures.{CountsAny, CountsFailures};
-ghost use Rattle.job_command.specs.Lines.{write_line};
+ghost use Rattle.job_command.specs.Lines.{above_text, write_line};
 
 use ipc_device::{Failed, Sink, send_all};
 use ipc_model::{Fault, WriteFault};
 use ipc_text_temporal::TextFault;
 use itoa::Buffer;
+use job_rewrite::Total;
 
 // Sends a text.
 pub fn send<E: Sink>(messages: &mut E, text: &str) -> Result<(), Failed>
@@ -132,6 +133,24 @@ pub fn send_write_fault<E: Sink>(messages: &mut E, fault: &WriteFault) -> Result
         _ => {
             send_label(messages, "W", fault.number(), fault.name())?;
             send_place(messages, fault)
+        }
+    }
+}
+
+// Sends the option whose total a batch would exceed, and the number of the batch.
+pub fn send_above<E: Sink>(messages: &mut E, total: &Total, number: u64) -> Result<(), Failed>
+    ensures sent { OnOk result (Appends (E.written messages.old) (E.written messages.new)
+        (above_text total.now number)) }
+    ensures failures { CountsAny (E.failures messages.old) (E.failures messages.new) result }
+{
+    match total {
+        Total::Batches => {
+            send(messages, "output above --max-batches at batch ")?;
+            send_number(messages, number)
+        }
+        Total::Rows => {
+            send(messages, "output above --max-total-rows at batch ")?;
+            send_number(messages, number)
         }
     }
 }

@@ -1,6 +1,6 @@
 -- Batches that are read and sent.
 use Rattle.std.proofs.Common.{◌≡◌, ◌∙◌, refl, sym, ap, subst, ℕ, suc, ◌+◌, List, [], ◌∷◌, ◌++◌, map, Some, None, Result, Ok}
-use Rattle.std.proofs.Common.{Err, Option, append-nil, append_assoc, arith, false, true}
+use Rattle.std.proofs.Common.{Err, Option, append-nil, append_assoc, arith, false, length, true}
 use Rattle.std.specs.Prelude.{Bool, IsTrue, unwrap_or}
 use Rattle.std.specs.List.{AllByRecursion}
 use Rattle.std.specs.Io.KnownBytes.{Consumes}
@@ -20,6 +20,7 @@ use Rattle.ipc_stream_read.specs.Reader.{EndsBehind, LeadsTo, Reader, end_of, in
 use Rattle.ipc_stream_read.specs.Reasons.{Ends}
 use Rattle.ipc_stream_read.specs.Stream.{State, Event, batch, Run, done}
 use Rattle.ipc_stream_read.specs.Counts.{count_up, messages_in}
+use Rattle.ipc_stream_read.specs.Progress.{all_rows}
 use Rattle.ipc_stream.specs.Dictionaries.{SendsBatch, SendsBatches, kept_after, sends_none}
 use Rattle.ipc_stream.specs.OpenStreams.{OpenStreamState}
 use Rattle.ipc_stream.specs.Writer.{Writer}
@@ -27,11 +28,20 @@ use Rattle.ipc_stream.specs.Writing.{AcceptsBatch, RefusesBatch, Sent, NotSentWh
 use Rattle.ipc_stream_read.proofs.Runs.{run_one, run_then, messages_one, messages_then}
 use Rattle.ipc_stream.proofs.Chains.{batches_more, kept_then}
 use Rattle.job_rewrite.specs.declared.stop.RewriteStop.TheVariants as stop
-use Rattle.job_rewrite.specs.Rewriting.{CopiesBatches, CopiesRest, RefusesLast}
+use Rattle.job_rewrite.specs.declared.options.RewriteOptions.{RewriteOptions}
+use Rattle.job_rewrite.specs.declared.options.Total.{Total}
+use Rattle.job_rewrite.specs.Rewriting.{CopiesBatches, CopiesRest, RefusesLast, StopsAtLast}
+use Rattle.job_rewrite.specs.Totals.{AreAbove, AreWithin, IsWithin}
 use Rattle.ipc_stream_read.specs.Ends.{as_required}
+use Rattle.job_rewrite.proofs.Totals.{count_last, rows_last}
 
--- these batches were read behind the schema, and sent
-pub record Copied (old now : Reader) (before after : Writer) : Type 0 where
+-- none are within each total
+within_none : (most : Option ℕ) → IsWithin most 0
+within_none None = tt
+within_none (Some n) = omega arith
+
+-- these batches were read behind the schema, and sent; they are so many, with so many rows
+pub record Copied (options : RewriteOptions) (count rows : ℕ) (old now : Reader) (before after : Writer) : Type 0 where
   pub x : List ℕ
   pub batches : List BatchRows
   pub bytes : Consumes old.remaining now.remaining x
@@ -47,14 +57,17 @@ pub record Copied (old now : Reader) (before after : Writer) : Type 0 where
   pub sent_limits : after.limits ≡ before.limits
   pub kept : after.kept ≡ kept_after old.schema.fields before.kept batches
   pub works : after.failed ≡ false
+  pub batches_are : count ≡ count_up 0 (length batches)
+  pub rows_are : rows ≡ count_up 0 (all_rows batches)
+  pub within : AreWithin options batches
 
 zero_more : (k : ℕ) → k + 0 ≡ k
 zero_more k = omega arith
 
 -- before the first batch nothing was read and sent
-pub copied_none : (r : Reader) (w : Writer) → r.phase ≡ Reading → r.failures ≡ 0 → w.failed ≡ false → w.failures ≡ 0 → w.schema ≡ r.schema
-    → Copied r r w w
-copied_none r w reading source works sink is = record {
+pub copied_none : (options : RewriteOptions) (r : Reader) (w : Writer) → r.phase ≡ Reading → r.failures ≡ 0
+    → w.failed ≡ false → w.failures ≡ 0 → w.schema ≡ r.schema → Copied options 0 0 r r w w
+copied_none options r w reading source works sink is = record {
   x = [];
   batches = [];
   bytes = Consumes-nil r.remaining;
@@ -76,6 +89,9 @@ copied_none r w reading source works sink is = record {
   sent_limits = refl;
   kept = refl;
   works = works;
+  batches_are = omega arith;
+  rows_are = omega arith;
+  within = record { batches_within = within_none options.max_batches; rows_within = within_none options.max_rows };
 }
 
 -- what a call that gave a batch says, where the reader was reading
@@ -143,7 +159,8 @@ record Came (limits : Limits) (now new : Reader) (x : List ℕ) (found : ReadRow
   pub run : Counted limits (Some (in_force_of now)) x (batch (batch_rows found) ∷ []) (Some (in_force_of new)) count
   pub messages : new.messages ≡ count_up now.messages count
 
-module _ (old now new : Reader) (before after : Writer) (b : Copied old now before after) where
+module _ (options : RewriteOptions) (count rows : ℕ) (old now new : Reader) (before after : Writer)
+    (b : Copied options count rows old now before after) where
   -- the batch that came, under the limits that the reader was opened with
   came : (found : ReadRows) → (t : NextCall now new (Ok (Some found))) → (new.phase ≡ Reading) × Came old.limits now new t.x found
   came found t =
@@ -190,11 +207,14 @@ module _ (old now new : Reader) (before after : Writer) (b : Copied old now befo
   as_before P h = subst P (λ i. record { limits = b.sent_limits i; schema = b.sent_schema i; kept = b.kept i; seed = after.seed }) h
 
   -- where one batch more is read and sent, the batches that were sent are those from before and it
-  pub copied_more : (found : ReadRows) (next : Writer) → NextCall now new (Ok (Some found)) → new.failures ≡ now.failures
+  pub copied_more : (found : ReadRows) (next : Writer) (batches_then rows_then : ℕ) → batches_then ≡ count_up count 1
+      → rows_then ≡ count_up rows (length (batch_rows found).rows) → AreWithin options (b.batches ++ batch_rows found ∷ [])
+      → NextCall now new (Ok (Some found)) → new.failures ≡ now.failures
       → Sent (SendsBatch after.limits after.schema after.kept (batch_rows found)) after.written next.written after.failures next.failures
       → AcceptsBatch after.limits after.schema (batch_rows found) → next.limits ≡ after.limits → next.schema ≡ after.schema
-      → next.kept ≡ kept_after after.schema.fields after.kept (batch_rows found ∷ []) → next.failed ≡ false → Copied old new before next
-  copied_more found next t works sent accepts limits schema kept ready =
+      → next.kept ≡ kept_after after.schema.fields after.kept (batch_rows found ∷ []) → next.failed ≡ false
+      → Copied options batches_then rows_then old new before next
+  copied_more found next batches_then rows_then one more within t works sent accepts limits schema kept ready =
       let sent_here = as_before (λ w. SendsBatch w.limits w.schema w.kept (batch_rows found) sent.x) sent.whole in
       let accepts_here = as_before (λ w. AcceptsBatch w.limits w.schema (batch_rows found)) accepts in
       let kept_here = as_before (λ w. next.kept ≡ kept_after w.schema.fields w.kept (batch_rows found ∷ [])) kept in
@@ -220,18 +240,25 @@ module _ (old now new : Reader) (before after : Writer) (b : Copied old now befo
         sent_limits = limits ∙ b.sent_limits;
         kept = kept_here ∙ sym (kept_then old.schema.fields before.kept b.batches (batch_rows found ∷ []));
         works = ready;
+        batches_are =
+            let long = count_last b.batches (batch_rows found) in omega (arith, b.batches_are, one, long);
+        rows_are =
+            let all = rows_last b.batches (batch_rows found) in omega (arith, b.rows_are, more, all);
+        within = within;
       }
 
   -- where the batch that came is refused, it is the last that was read, and those before it were sent
-  pub copied_refused : (found : ReadRows) (next : Writer) (fault : WriteFault) → NextCall now new (Ok (Some found))
+  pub copied_refused : (found : ReadRows) (next : Writer) (fault : WriteFault) → AreWithin options (b.batches ++ batch_rows found ∷ [])
+      → NextCall now new (Ok (Some found))
       → NotSentWhole (SendsBatch after.limits after.schema after.kept (batch_rows found)) after.written next.written after.failures
-      next.failures fault → RefusesBatch after.limits after.schema (batch_rows found) fault → RefusesLast old new before next fault
-  copied_refused found next fault t unsent refuses = record {
+      next.failures fault → RefusesBatch after.limits after.schema (batch_rows found) fault → RefusesLast options old new before next fault
+  copied_refused found next fault within t unsent refuses = record {
     x = b.x ++ t.x;
     batches = b.batches;
     last = batch_rows found;
     bytes = Consumes-trans old.remaining now.remaining new.remaining b.x t.x b.bytes t.bytes;
     run = (all_came found t).0;
+    within = within;
     accepts = b.accepts;
     between = after.written;
     failures = after.failures;
@@ -239,6 +266,23 @@ module _ (old now new : Reader) (before after : Writer) (b : Copied old now befo
     refuses = as_before (λ w. RefusesBatch w.limits w.schema (batch_rows found) fault) refuses;
     unsent = as_before (λ w. NotSentWhole (SendsBatch w.limits w.schema w.kept (batch_rows found)) after.written next.written after.failures
         next.failures fault) unsent;
+  }
+
+  -- where the batch that came would exceed a total, those before it were sent
+  pub copied_above : (found : ReadRows) (total : Total) (number : ℕ) → number ≡ count
+      → AreAbove options total (b.batches ++ batch_rows found ∷ []) → NextCall now new (Ok (Some found))
+      → StopsAtLast options old new before after total number
+  copied_above found total number same above t = record {
+    x = b.x ++ t.x;
+    batches = b.batches;
+    last = batch_rows found;
+    bytes = Consumes-trans old.remaining now.remaining new.remaining b.x t.x b.bytes t.bytes;
+    run = (all_came found t).0;
+    counted = same ∙ b.batches_are;
+    within = b.within;
+    above = above;
+    accepts = b.accepts;
+    sent = b.sent;
   }
 
   -- the messages that tell nothing behind the batches, and how many all are
@@ -259,7 +303,7 @@ module _ (old now new : Reader) (before after : Writer) (b : Copied old now befo
 
   -- where reading ends behind the batches that were sent, so much was read and sent
   rest : (y : List ℕ) (r : Result End Fault) → Consumes now.remaining new.remaining y → EndsBehind now new y r
-      → CopiesRest old new before after r
+      → CopiesRest options old new before after r
   rest y r bytes h = record {
     x = b.x ++ y;
     batches = b.batches;
@@ -273,32 +317,33 @@ module _ (old now new : Reader) (before after : Writer) (b : Copied old now befo
       ends = subst (λ limits. Ends limits (Some (in_force_of new)) h.rest new.remaining r) b.same_limits h.ends;
     };
     counted = λ k is. omega (arith, b.counted k is, h.messages, (behind y r h).1);
+    within = b.within;
     accepts = b.accepts;
     sent = b.sent;
   }
 
   -- where the stream's end is read, all its batches were sent
   copied_rest : (found : Option End) (e : End) → NextCall now new (Ok None) → found ≡ end_of new.phase → e ≡ unwrap_or found Closed
-      → CopiesRest old new before after (Ok e)
+      → CopiesRest options old new before after (Ok e)
   copied_rest found e t is given =
       let h = ended now new now.phase new.phase t.x b.reading t.gives in
       let same : e ≡ h.0 =
       given ∙ (ap (λ (o : Option End). unwrap_or o Closed) is ∙ ap (λ (q : StreamPhase). unwrap_or (end_of q) Closed) h.2) in
-      subst (λ (e : End). CopiesRest old new before after (Ok e)) (sym same) (rest t.x (Ok h.0) t.bytes h.1)
+      subst (λ (e : End). CopiesRest options old new before after (Ok e)) (sym same) (rest t.x (Ok h.0) t.bytes h.1)
 
   -- also where the mark is required and there is one
-  pub copied_end : (mark : Bool) (found : Option End) (e f : End) → NextCall now new (Ok None) → found ≡ end_of new.phase
-      → e ≡ unwrap_or found Closed → as_required mark (Ok e) ≡ Ok f → CopiesBatches mark old new before after (Ok tt)
-  copied_end mark found e f t is given ends = (e, copied_rest found e t is given, marked mark e f ends)
+  pub copied_end : (found : Option End) (e f : End) → NextCall now new (Ok None) → found ≡ end_of new.phase
+      → e ≡ unwrap_or found Closed → as_required options.require_mark (Ok e) ≡ Ok f → CopiesBatches options old new before after (Ok tt)
+  copied_end found e f t is given ends = (e, copied_rest found e t is given, marked options.require_mark e f ends)
 
   -- where it has no mark, that is the fault
-  pub copied_unmarked : (mark : Bool) (found : Option End) (e : End) (fault : Fault) → NextCall now new (Ok None) → found ≡ end_of new.phase
-      → e ≡ unwrap_or found Closed → as_required mark (Ok e) ≡ Err fault
-      → CopiesBatches mark old new before after (Err (stop.Read fault new.messages))
-  copied_unmarked mark found e fault t is given ends = (Ok e, copied_rest found e t is given, ends, refl)
+  pub copied_unmarked : (found : Option End) (e : End) (fault : Fault) → NextCall now new (Ok None) → found ≡ end_of new.phase
+      → e ≡ unwrap_or found Closed → as_required options.require_mark (Ok e) ≡ Err fault
+      → CopiesBatches options old new before after (Err (stop.Read fault new.messages))
+  copied_unmarked found e fault t is given ends = (Ok e, copied_rest found e t is given, ends, refl)
 
   -- where reading breaks off, all batches before were sent
-  pub copied_break : (mark : Bool) (fault : Fault) → NextCall now new (Err fault)
-      → CopiesBatches mark old new before after (Err (stop.Read fault new.messages))
-  copied_break mark fault t =
+  pub copied_break : (fault : Fault) → NextCall now new (Err fault)
+      → CopiesBatches options old new before after (Err (stop.Read fault new.messages))
+  copied_break fault t =
       (Err fault, rest t.x (Err fault) t.bytes (broke now new now.phase new.phase t.x fault b.reading t.gives), refl, refl)

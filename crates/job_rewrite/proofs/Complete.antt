@@ -29,11 +29,14 @@ use Rattle.ipc_stream_read.proofs.Runs.{reads_after}
 use Rattle.ipc_stream_read.proofs.Beginnings.{Holds, front_begins, holds_closed, holds_marked, left_of}
 use Rattle.ipc_stream_read.proofs.Beginnings.{reads_of, schema_begins, table_begins}
 use Rattle.ipc_stream.proofs.TablesWritten.{IsOut, batch_breaks, end_broken, start_breaks}
+use Rattle.job_rewrite.specs.declared.options.RewriteOptions.{RewriteOptions}
+use Rattle.job_rewrite.specs.declared.options.Total.{Total}
 use Rattle.job_rewrite.specs.declared.stop.RewriteStop.{RewriteStop}
 use Rattle.job_rewrite.specs.declared.stop.RewriteStop.TheVariants as stop
-use Rattle.job_rewrite.specs.RewriteLimits.{at_least_standard}
+use Rattle.job_rewrite.specs.RewriteLimits.{sent_limits}
 use Rattle.job_rewrite.specs.Rewriting.{AnswersRewrittenTable, BreaksReading, unopened, broken, BreaksWriting, unstarted, refused}
-use Rattle.job_rewrite.specs.Rewriting.{unended, Rewrites, CountsRewriteFailures, with_batch}
+use Rattle.job_rewrite.specs.Rewriting.{unended, BreaksTotals, Rewrites, CountsRewriteFailures, StopsAbove, with_batch}
+use Rattle.job_rewrite.specs.Totals.{AreWithin}
 
 -- the batch behind the first ones is inside
 inside_behind : (xs more : List BatchRows) (last : BatchRows) → length xs < length (xs ++ last ∷ more)
@@ -77,7 +80,7 @@ mark_breaks {limits} t w0 between w1 f0 f f1 accepts sent cut =
     (first_out t [] w0 between f0 f accepts sent) in
     end_broken t w0 between w1 f0 f f1 (length t.batches) out (omega arith) (Err w.Write) cut refl
 
-module _ {limits : Limits} (mark : Bool) (new : Option (List ℕ)) (z : List ℕ) (t : Table) (h : Holds limits z t)
+module _ {limits : Limits} (options : RewriteOptions) (new : Option (List ℕ)) (z : List ℕ) (t : Table) (h : Holds limits z t)
     (w0 w1 : Option (List ℕ)) (f0 f1 : ℕ)
     (only : (u : Table) (end : End) → TakesTable limits (Some z) new (Ok (u, end)) → u ≡ t) where
   -- the table that was read to its end is this one
@@ -85,35 +88,49 @@ module _ {limits : Limits} (mark : Bool) (new : Option (List ℕ)) (z : List ℕ
       → u ≡ t
   same_table x u end bytes d closed = only u end (record { x = x; bytes = bytes; gives = reads_of x new u end d closed })
 
-  writing : (fault : WriteFault) → BreaksWriting limits (Some z) new w0 w1 f0 f1 fault
-      → BreaksOff (at_least_standard limits) t w0 w1 f0 f1 fault
+  writing : (fault : WriteFault) → BreaksWriting options limits (Some z) new w0 w1 f0 f1 fault
+      → BreaksOff (sent_limits options limits) t w0 w1 f0 f1 fault
   writing fault (unstarted x s bytes run refuses unsent) =
       let left = left_of z new x bytes in
       let begins = front_begins z x left.0 t _ _ h left.1 run in
       let same = schema_begins t s begins.0 begins.1 in
-      start_breaks t w0 w1 f0 f1 fault (subst (λ (q : Schema). RefusesSchema (at_least_standard limits) q fault) same refuses)
-      (subst (λ (q : Schema). NotSentWhole (OpensStream (at_least_standard limits) q) w0 w1 f0 f1 fault) same unsent)
-  writing fault (refused x u last between f bytes run accepts sent refuses unsent) =
+      start_breaks t w0 w1 f0 f1 fault (subst (λ (q : Schema). RefusesSchema (sent_limits options limits) q fault) same refuses)
+      (subst (λ (q : Schema). NotSentWhole (OpensStream (sent_limits options limits) q) w0 w1 f0 f1 fault) same unsent)
+  writing fault (refused x u last between f bytes run within accepts sent refuses unsent) =
       let left = left_of z new x bytes in
       let begins = front_begins z x left.0 t _ _ h left.1 run.1 in
       let others = table_begins t (with_batch u last) begins.0 begins.1 in
       let joined : record { schema = u.schema; batches = u.batches ++ last ∷ others.0 } ≡ t =
       (λ i. record { schema = u.schema; batches = sym (append_assoc u.batches (last ∷ []) others.0) i }) ∙ sym others.1 in
-      subst (λ (q : Table). BreaksOff (at_least_standard limits) q w0 w1 f0 f1 fault) joined
+      subst (λ (q : Table). BreaksOff (sent_limits options limits) q w0 w1 f0 f1 fault) joined
       (last_breaks u last others.0 w0 between w1 f0 f f1 fault accepts sent refuses unsent)
-  writing fault (unended x u end between f bytes d closed accepts sent is cut) =
-      subst (λ (e : WriteFault). BreaksOff (at_least_standard limits) t w0 w1 f0 f1 e) (sym is)
-      (subst (λ (q : Table). BreaksOff (at_least_standard limits) q w0 w1 f0 f1 w.Write) (same_table x u end bytes d closed)
+  writing fault (unended x u end between f bytes d closed within accepts sent is cut) =
+      subst (λ (e : WriteFault). BreaksOff (sent_limits options limits) t w0 w1 f0 f1 e) (sym is)
+      (subst (λ (q : Table). BreaksOff (sent_limits options limits) q w0 w1 f0 f1 w.Write) (same_table x u end bytes d closed)
       (mark_breaks u w0 between w1 f0 f f1 accepts sent cut))
+
+  -- the batches that were sent before a total are the first ones of the table
+  stopping : (total : Total) (number : ℕ) → BreaksTotals options limits (Some z) new w0 w1 f0 f1 total number
+      → (front : Table) × (last : BatchRows) × (rest : List BatchRows)
+      × (record { schema = front.schema; batches = front.batches ++ last ∷ rest } ≡ t)
+      × StopsAbove options (sent_limits options limits) front last w0 w1 f0 f1 total number
+  stopping total number c =
+      let u = c.table in
+      let left = left_of z new c.x c.bytes in
+      let begins = front_begins z c.x left.0 t _ _ h left.1 c.denotes.1 in
+      let others = table_begins t (with_batch u c.last) begins.0 begins.1 in
+      let joined : record { schema = u.schema; batches = u.batches ++ c.last ∷ others.0 } ≡ t =
+      (λ i. record { schema = u.schema; batches = sym (append_assoc u.batches (c.last ∷ []) others.0) i }) ∙ sym others.1 in
+      (u, c.last, others.0, joined, c.stops)
 
   -- reading breaks off for want of memory, or at an end without the mark
   reading : (fault : Fault) (message : ℕ) → ((f : Fault) → f ≡ fault → TakesTable limits (Some z) new (Err f) → f ≡ OutOfMemory)
-      → ((u : Table) → TakesTable limits (Some z) new (Ok (u, Closed)) → IsTrue mark → ⊥)
-      → BreaksReading mark limits (Some z) new w0 w1 f0 f1 fault message → fault ≡ OutOfMemory
+      → ((u : Table) → TakesTable limits (Some z) new (Ok (u, Closed)) → IsTrue options.require_mark → ⊥)
+      → BreaksReading options limits (Some z) new w0 w1 f0 f1 fault message → fault ≡ OutOfMemory
   reading fault message memory ends (unopened x bytes reads number same count) =
       memory fault refl (record { x = x; bytes = bytes; gives = ([], reads) })
-  reading fault message memory ends (broken x y u answer bytes opens reads required number accepts sent) =
-      by_answer mark answer required
+  reading fault message memory ends (broken x y u answer bytes opens reads required number within accepts sent) =
+      by_answer options.require_mark answer required
       (reads_after None (Some (initial_state u.schema)) x y new (schema u.schema ∷ []) (map batch u.batches) answer opens reads) ends
     where
       by_answer : (m : Bool) (a : Result End Fault) → as_required m a ≡ Err fault → Reads limits None (x ++ y) new (events_of u) a
@@ -129,39 +146,40 @@ module _ {limits : Limits} (mark : Bool) (new : Option (List ℕ)) (z : List ℕ
   -- what is answered of a source that holds the table
   pub answered : (g0 g1 : ℕ) → ((fault : Fault) → TakesTable limits (Some z) new (Err fault) → CountsFault g0 g1 fault → fault
       ≡ OutOfMemory)
-      → ((u : Table) → TakesTable limits (Some z) new (Ok (u, Closed)) → IsTrue mark → ⊥)
-      → (r : Result ⊤ RewriteStop) → CountsRewriteFailures g0 g1 f0 f1 r → Rewrites mark limits (Some z) new w0 w1 f0 f1 r
-      → AnswersRewrittenTable (at_least_standard limits) t w0 w1 f0 f1 r
+      → ((u : Table) → TakesTable limits (Some z) new (Ok (u, Closed)) → IsTrue options.require_mark → ⊥)
+      → (r : Result ⊤ RewriteStop) → CountsRewriteFailures g0 g1 f0 f1 r → Rewrites options limits (Some z) new w0 w1 f0 f1 r
+      → AnswersRewrittenTable options (sent_limits options limits) t w0 w1 f0 f1 r
   answered g0 g1 memory ends (Ok done) tells c =
-      subst (λ (u : Table). Sent (IsTableOf (at_least_standard limits) u) w0 w1 f0 f1)
-      (same_table c.x c.table c.end c.bytes c.denotes c.closed) c.sent
+      subst (λ (u : Table). AreWithin options u.batches × Sent (IsTableOf (sent_limits options limits) u) w0 w1 f0 f1)
+      (same_table c.x c.table c.end c.bytes c.denotes c.closed) (c.within, c.sent)
   answered g0 g1 memory ends (Err (stop.Read fault message)) tells c =
       reading fault message (λ f same takes. memory f takes (subst (λ e. CountsFault g0 g1 e) (sym same) tells.0)) ends c
   answered g0 g1 memory ends (Err (stop.Write fault)) tells c = writing fault c
+  answered g0 g1 memory ends (Err (stop.Above total number)) tells c = stopping total number c
 
-module _ {limits : Limits} (mark : Bool) (old new w0 w1 : Option (List ℕ)) (g0 g1 f0 f1 : ℕ) (r : Result ⊤ RewriteStop)
-    (tells : CountsRewriteFailures g0 g1 f0 f1 r) (c : Rewrites mark limits old new w0 w1 f0 f1 r) (none : g1 ≡ 0) where
+module _ {limits : Limits} (options : RewriteOptions) (old new w0 w1 : Option (List ℕ)) (g0 g1 f0 f1 : ℕ) (r : Result ⊤ RewriteStop)
+    (tells : CountsRewriteFailures g0 g1 f0 f1 r) (c : Rewrites options limits old new w0 w1 f0 f1 r) (none : g1 ≡ 0) where
   -- where bytes up to an end mark denote a table, that one is written or refused, unless memory runs out
   pub answered_marked : (x rest : List ℕ) (t : Table) → old ≡ Some (x ++ rest)
-      → Denotes limits x t Mark → AnswersRewrittenTable (at_least_standard limits) t w0 w1 f0 f1 r
+      → Denotes limits x t Mark → AnswersRewrittenTable options (sent_limits options limits) t w0 w1 f0 f1 r
   answered_marked x rest t is d =
       let z = x ++ rest in
-      answered mark new z t (holds_marked x rest t d) w0 w1 f0 f1
+      answered options new z t (holds_marked x rest t d) w0 w1 f0 f1
       (λ u end takes. (answers_marked (Some z) new 0 0 (Ok (u, end)) takes refl (refl, refl) x rest t refl d).0) g0 g1
       (λ fault takes failed. answers_marked (Some z) new g0 g1 (Err fault) takes none failed x rest t refl d)
       (λ u takes required.
       let same : Closed ≡ Mark = (answers_marked (Some z) new 0 0 (Ok (u, Closed)) takes refl (refl, refl) x rest t refl d).1 in
       absurd (cc))
-      r tells (subst (λ (o : Option (List ℕ)). Rewrites mark limits o new w0 w1 f0 f1 r) is c)
+      r tells (subst (λ (o : Option (List ℕ)). Rewrites options limits o new w0 w1 f0 f1 r) is c)
 
   -- where all bytes of the source denote a table, and no mark is required, that one is written or refused, unless memory runs out
-  pub answered_closed : (x : List ℕ) (t : Table) → mark ≡ false → old ≡ Some x → Denotes limits x t Closed
-      → AnswersRewrittenTable (at_least_standard limits) t w0 w1 f0 f1 r
+  pub answered_closed : (x : List ℕ) (t : Table) → options.require_mark ≡ false → old ≡ Some x → Denotes limits x t Closed
+      → AnswersRewrittenTable options (sent_limits options limits) t w0 w1 f0 f1 r
   answered_closed x t free is d =
-      answered mark new x t (holds_closed x t d) w0 w1 f0 f1
+      answered options new x t (holds_closed x t d) w0 w1 f0 f1
       (λ u end takes. (answers_closed (Some x) new 0 0 (Ok (u, end)) takes refl (refl, refl) x t refl d).0) g0 g1
       (λ fault takes failed. answers_closed (Some x) new g0 g1 (Err fault) takes none failed x t refl d)
       (λ u takes required.
       let bad : false ≡ true = sym free ∙ required in
       absurd (cc))
-      r tells (subst (λ (o : Option (List ℕ)). Rewrites mark limits o new w0 w1 f0 f1 r) is c)
+      r tells (subst (λ (o : Option (List ℕ)). Rewrites options limits o new w0 w1 f0 f1 r) is c)

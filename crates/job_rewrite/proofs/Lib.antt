@@ -1,4 +1,5 @@
 pub mod Batches
 pub mod Leaving
 pub mod Complete
+pub mod Totals
 pub mod Whole

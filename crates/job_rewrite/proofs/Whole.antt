@@ -1,7 +1,7 @@
 -- A whole stream, from its schema on.
 use Rattle.std.proofs.Common.{◌≡◌, ◌∙◌, refl, sym, ap, subst, ℕ, List, [], ◌∷◌, ◌++◌, map, Option, Some, None, Result, Ok, Err}
 use Rattle.std.proofs.Common.{arith}
-use Rattle.std.specs.Prelude.{Bool, IsTrue, false}
+use Rattle.std.specs.Prelude.{IsTrue, false}
 use Rattle.std.specs.List.{AllByRecursion}
 use Rattle.std.specs.Io.KnownBytes.{Consumes}
 use Rattle.std.proofs.KnownBytes.{Appends-trans, Consumes-trans}
@@ -24,9 +24,10 @@ use Rattle.ipc_stream.specs.Writing.{AcceptsBatch, AcceptsSchema, AcceptsTable, 
 use Rattle.ipc_stream.specs.Writing.{RefusesBatch, Sent}
 use Rattle.ipc_stream_read.proofs.Answered.{taken_denotes}
 use Rattle.ipc_stream_read.proofs.Runs.{run_then, reads_after}
+use Rattle.job_rewrite.specs.declared.options.RewriteOptions.{RewriteOptions}
 use Rattle.job_rewrite.specs.declared.stop.RewriteStop.{RewriteStop}
 use Rattle.job_rewrite.specs.declared.stop.RewriteStop.TheVariants as stop
-use Rattle.job_rewrite.specs.RewriteLimits.{at_least_standard}
+use Rattle.job_rewrite.specs.RewriteLimits.{sent_limits}
 use Rattle.ipc_stream.proofs.Chains.{table_sends, table_tells}
 use Rattle.job_rewrite.specs.Rewriting.{CopiesTable, BreaksReading, unopened, broken, BreaksWriting, unstarted}
 use Rattle.job_rewrite.specs.Rewriting.{refused, unended, Rewrites, CopiesRest, CopiesBatches}
@@ -41,18 +42,19 @@ opened {limits} start s o =
     subst (λ (i : InForce). Run limits None o.x (schema s.schema ∷ []) (Some i)) (in_force_here start s o) o.run
 
 -- where a new stream isn't begun, it is since the schema that was read is refused
-pub schema_refused : {limits : Limits} → (start : Option (List ℕ)) (s : Reader) (w0 w1 : Option (List ℕ)) (f0 f1 : ℕ) (fault : WriteFault)
-    → Opens limits start s → StartFails (at_least_standard s.limits) s.schema w0 w1 f0 f1 fault
-    → BreaksWriting limits start s.remaining w0 w1 f0 f1 fault
-schema_refused {limits} start s w0 w1 f0 f1 fault o h =
-    let fails = subst (λ l. StartFails (at_least_standard l) s.schema w0 w1 f0 f1 fault) o.same_limits h in
+pub schema_refused : {limits : Limits} → (options : RewriteOptions) (start : Option (List ℕ)) (s : Reader) (w0 w1 : Option (List ℕ))
+    (f0 f1 : ℕ) (fault : WriteFault) → Opens limits start s → StartFails (sent_limits options s.limits) s.schema w0 w1 f0 f1 fault
+    → BreaksWriting options limits start s.remaining w0 w1 f0 f1 fault
+schema_refused {limits} options start s w0 w1 f0 f1 fault o h =
+    let fails = subst (λ l. StartFails (sent_limits options l) s.schema w0 w1 f0 f1 fault) o.same_limits h in
     unstarted o.x s.schema o.bytes (opened start s o) fails.cause fails.unsent
 
-module _ {limits : Limits} (start : Option (List ℕ)) (s t : Reader) (before : Writer) (w0 : Option (List ℕ)) (f0 : ℕ)
-    (o : Opens limits start s) (begun : StartsWriter (at_least_standard s.limits) s.schema w0 f0 before) where
+module _ {limits : Limits} (options : RewriteOptions) (start : Option (List ℕ)) (s t : Reader) (before : Writer)
+    (w0 : Option (List ℕ)) (f0 : ℕ) (o : Opens limits start s)
+    (begun : StartsWriter (sent_limits options s.limits) s.schema w0 f0 before) where
   -- the new stream's limits
-  raised_here : before.limits ≡ at_least_standard limits
-  raised_here = begun.same_limits ∙ ap at_least_standard o.same_limits
+  raised_here : before.limits ≡ sent_limits options limits
+  raised_here = begun.same_limits ∙ ap (sent_limits options) o.same_limits
 
   -- the schema and these batches
   abbrev table_with : List BatchRows → Table
@@ -66,17 +68,17 @@ module _ {limits : Limits} (start : Option (List ℕ)) (s t : Reader) (before : 
     seed =
         before.seed;
   })
-      → P (record { limits = at_least_standard limits; schema = s.schema; kept = kept_at_start s.schema; seed = before.seed })
+      → P (record { limits = sent_limits options limits; schema = s.schema; kept = kept_at_start s.schema; seed = before.seed })
   raised_too P h = subst P (λ i. record { limits = raised_here i; schema = s.schema; kept = begun.nothing_kept i; seed = before.seed }) h
 
   -- the messages of the schema and of these batches were sent
   all_sent : (batches : List BatchRows) (w1 : Option (List ℕ)) (f1 : ℕ)
       → Sent (SendsBatches before.limits s.schema before.kept batches) before.written w1 before.failures f1
-      → Sent (SendsTable (at_least_standard limits) (table_with batches)) w0 w1 f0 f1
+      → Sent (SendsTable (sent_limits options limits) (table_with batches)) w0 w1 f0 f1
   all_sent batches w1 f1 sent = record {
     x = begun.sent.x ++ sent.x;
-    whole = table_sends (at_least_standard limits) s.schema batches begun.sent.x sent.x
-        (subst (λ l. OpensStream (at_least_standard l) s.schema begun.sent.x) o.same_limits begun.sent.whole)
+    whole = table_sends (sent_limits options limits) s.schema batches begun.sent.x sent.x
+        (subst (λ l. OpensStream (sent_limits options l) s.schema begun.sent.x) o.same_limits begun.sent.whole)
         (raised_too (λ w. SendsBatches w.limits w.schema w.kept batches sent.x) sent.whole);
     bytes = Appends-trans w0 before.written w1 begun.sent.x sent.x begun.sent.bytes sent.bytes;
     worked = begun.sent.worked;
@@ -85,13 +87,13 @@ module _ {limits : Limits} (start : Option (List ℕ)) (s t : Reader) (before : 
 
   -- the schema and these batches are accepted
   all_accepted : (batches : List BatchRows) → AllByRecursion (AcceptsBatch before.limits s.schema) batches
-      → AcceptsTable (at_least_standard limits) (table_with batches)
+      → AcceptsTable (sent_limits options limits) (table_with batches)
   all_accepted batches accepts = record {
-    schema = subst (λ l. AcceptsSchema (at_least_standard l) s.schema) o.same_limits begun.accepts;
+    schema = subst (λ l. AcceptsSchema (sent_limits options l) s.schema) o.same_limits begun.accepts;
     batches = subst (λ l. AllByRecursion (AcceptsBatch l s.schema) batches) raised_here accepts;
   }
 
-  module _ (after : Writer) (answer : Result End Fault) (r : CopiesRest s t before after answer) where
+  module _ (after : Writer) (answer : Result End Fault) (r : CopiesRest options s t before after answer) where
     taken : Consumes start t.remaining (o.x ++ r.x)
     taken = Consumes-trans start s.remaining t.remaining o.x r.x o.bytes r.bytes
 
@@ -113,14 +115,14 @@ module _ {limits : Limits} (start : Option (List ℕ)) (s t : Reader) (before : 
         omega (arith, counted, reads_behind.1)
 
   -- where all batches and the mark were sent, so was the table
-  pub table_copied : (required : Bool) (after : Writer) (end : End) (w1 : Option (List ℕ)) (f1 : ℕ)
-      → CopiesRest s t before after (Ok end) → (IsTrue required → end ≡ Mark) → Sent EndsStream after.written w1 after.failures f1
-      → CopiesTable required limits start t.remaining w0 w1 f0 f1
-  table_copied required after end w1 f1 r marked mark =
+  pub table_copied : (after : Writer) (end : End) (w1 : Option (List ℕ)) (f1 : ℕ)
+      → CopiesRest options s t before after (Ok end) → (IsTrue options.require_mark → end ≡ Mark)
+      → Sent EndsStream after.written w1 after.failures f1 → CopiesTable options limits start t.remaining w0 w1 f0 f1
+  table_copied after end w1 f1 r marked mark =
       let h = taken_denotes start t.remaining (Ok (table_with r.batches, end))
       (record { x = o.x ++ r.x; bytes = taken after (Ok end) r; gives = reads after (Ok end) r }) in
       let sent = all_sent r.batches after.written after.failures r.sent in
-      let report = table_tells (at_least_standard limits) (table_with r.batches) sent.x sent.whole in
+      let report = table_tells (sent_limits options limits) (table_with r.batches) sent.x sent.whole in
       record {
         x = h.0;
         table = table_with r.batches;
@@ -129,6 +131,7 @@ module _ {limits : Limits} (start : Option (List ℕ)) (s t : Reader) (before : 
         denotes = h.2;
         closed = h.3;
         marked = marked;
+        within = r.within;
         accepts = all_accepted r.batches r.accepts;
         sent = record {
           x = sent.x ++ mark.x;
@@ -139,21 +142,21 @@ module _ {limits : Limits} (start : Option (List ℕ)) (s t : Reader) (before : 
         };
       }
 
-  mark_refused : (after : Writer) (end : End) (w1 : Option (List ℕ)) (f1 : ℕ) → CopiesRest s t before after (Ok end)
-      → CutShort EndsStream after.written w1 f1 → BreaksWriting limits start t.remaining w0 w1 f0 f1 w.Write
+  mark_refused : (after : Writer) (end : End) (w1 : Option (List ℕ)) (f1 : ℕ) → CopiesRest options s t before after (Ok end)
+      → CutShort EndsStream after.written w1 f1 → BreaksWriting options limits start t.remaining w0 w1 f0 f1 w.Write
   mark_refused after end w1 f1 r cut =
       let h = taken_denotes start t.remaining (Ok (table_with r.batches, end))
       (record { x = o.x ++ r.x; bytes = taken after (Ok end) r; gives = reads after (Ok end) r }) in
-      unended h.0 (table_with r.batches) end after.written after.failures h.1 h.2 h.3 (all_accepted r.batches r.accepts)
+      unended h.0 (table_with r.batches) end after.written after.failures h.1 h.2 h.3 r.within (all_accepted r.batches r.accepts)
       (all_sent r.batches after.written after.failures r.sent) refl cut
 
   -- where the mark was not sent after all batches, the sink failed
-  pub end_refused : (required : Bool) (after : Writer) (end : End) (w1 : Option (List ℕ)) (f1 : ℕ) (fault : WriteFault)
-      → after.failed ≡ false → CopiesRest s t before after (Ok end) → FinishFails after w1 f1 fault
-      → Rewrites required limits start t.remaining w0 w1 f0 f1 (Err (stop.Write fault))
-  end_refused required after end w1 f1 w.Write works r fails = mark_refused after end w1 f1 r fails.1
-  end_refused required after end w1 f1 w.Failed works r fails = absurd (cc (works, fails.0))
-  end_refused required after end w1 f1 fault works r fails = absurd fails
+  pub end_refused : (after : Writer) (end : End) (w1 : Option (List ℕ)) (f1 : ℕ) (fault : WriteFault)
+      → after.failed ≡ false → CopiesRest options s t before after (Ok end) → FinishFails after w1 f1 fault
+      → Rewrites options limits start t.remaining w0 w1 f0 f1 (Err (stop.Write fault))
+  end_refused after end w1 f1 w.Write works r fails = mark_refused after end w1 f1 r fails.1
+  end_refused after end w1 f1 w.Failed works r fails = absurd (cc (works, fails.0))
+  end_refused after end w1 f1 fault works r fails = absurd fails
 
   -- the schema and these batches were read
   all_read : (batches : List BatchRows) (x : List ℕ) → Run s.limits (Some (in_force_of s)) x (map batch batches) (Some (in_force_of t))
@@ -164,31 +167,46 @@ module _ {limits : Limits} (start : Option (List ℕ)) (s t : Reader) (before : 
         (subst (λ l. Run l (Some (in_force_of s)) x (map batch batches) (Some (in_force_of t))) o.same_limits run),
   )
 
-  broken_here : (required : Bool) (after : Writer) (why : RewriteStop) → CopiesBatches required s t before after (Err why)
-      → Rewrites required limits start t.remaining w0 after.written f0 after.failures (Err why)
-  broken_here required after (stop.Read fault message) (answer, r, ends, number) =
+  broken_here : (after : Writer) (why : RewriteStop) → CopiesBatches options s t before after (Err why)
+      → Rewrites options limits start t.remaining w0 after.written f0 after.failures (Err why)
+  broken_here after (stop.Read fault message) (answer, r, ends, number) =
       broken o.x r.x (table_with r.batches) answer (taken after answer r) (opened start s o) (reads_behind after answer r).0 ends
-      (number ∙ numbered after answer r) (all_accepted r.batches r.accepts) (all_sent r.batches after.written after.failures r.sent)
-  broken_here required after (stop.Write fault) r =
+      (number ∙ numbered after answer r) r.within (all_accepted r.batches r.accepts)
+      (all_sent r.batches after.written after.failures r.sent)
+  broken_here after (stop.Write fault) r =
       refused (o.x ++ r.x) (table_with r.batches) r.last r.between r.failures
       (Consumes-trans start s.remaining t.remaining o.x r.x o.bytes r.bytes)
-      (all_read (r.batches ++ r.last ∷ []) r.x r.run)
+      (all_read (r.batches ++ r.last ∷ []) r.x r.run) r.within
       (all_accepted r.batches r.accepts) (all_sent r.batches r.between r.failures r.sent)
       (subst (λ l. RefusesBatch l s.schema r.last fault) raised_here r.refuses)
       (raised_too (λ w. NotSentWhole (SendsBatch w.limits w.schema (kept_after w.schema.fields w.kept r.batches) r.last) r.between
       after.written r.failures after.failures fault) r.unsent)
+  broken_here after (stop.Above total number) r = record {
+    x = o.x ++ r.x;
+    table = table_with r.batches;
+    last = r.last;
+    bytes = Consumes-trans start s.remaining t.remaining o.x r.x o.bytes r.bytes;
+    denotes = all_read (r.batches ++ r.last ∷ []) r.x r.run;
+    stops = record {
+      counted = r.counted;
+      within = r.within;
+      above = r.above;
+      accepts = all_accepted r.batches r.accepts;
+      sent = all_sent r.batches after.written after.failures r.sent;
+    };
+  }
 
   -- where the batches were not all read and sent, neither was the stream
-  pub batches_broken : (required : Bool) (after : Writer) (w1 : Option (List ℕ)) (f1 : ℕ) (why : RewriteStop) → w1 ≡ after.written
-      → f1 ≡ after.failures → CopiesBatches required s t before after (Err why)
-      → Rewrites required limits start t.remaining w0 w1 f0 f1 (Err why)
-  batches_broken required after w1 f1 why same_bytes same_count copies =
-      subst (λ b. Rewrites required limits start t.remaining w0 b f0 f1 (Err why)) (sym same_bytes)
-      (subst (λ n. Rewrites required limits start t.remaining w0 after.written f0 n (Err why)) (sym same_count)
-      (broken_here required after why copies))
+  pub batches_broken : (after : Writer) (w1 : Option (List ℕ)) (f1 : ℕ) (why : RewriteStop) → w1 ≡ after.written
+      → f1 ≡ after.failures → CopiesBatches options s t before after (Err why)
+      → Rewrites options limits start t.remaining w0 w1 f0 f1 (Err why)
+  batches_broken after w1 f1 why same_bytes same_count copies =
+      subst (λ b. Rewrites options limits start t.remaining w0 b f0 f1 (Err why)) (sym same_bytes)
+      (subst (λ n. Rewrites options limits start t.remaining w0 after.written f0 n (Err why)) (sym same_count)
+      (broken_here after why copies))
 
 -- where no schema is read, nothing is, and nothing was asked of the sink
-pub none_read : {limits : Limits} → (required : Bool) (old new w0 : Option (List ℕ)) (f0 : ℕ) (fault : Fault)
+pub none_read : {limits : Limits} → (options : RewriteOptions) (old new w0 : Option (List ℕ)) (f0 : ℕ) (fault : Fault)
     → OpenFails limits old new fault
-    → BreaksReading required limits old new w0 w0 f0 f0 fault 0
-none_read required old new w0 f0 fault fails = unopened fails.x fails.bytes fails.reads refl refl refl
+    → BreaksReading options limits old new w0 w0 f0 f0 fault 0
+none_read options old new w0 f0 fault fails = unopened fails.x fails.bytes fails.reads refl refl refl

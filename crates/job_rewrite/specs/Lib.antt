@@ -1,3 +1,4 @@
 pub mod RewriteLimits
 pub mod Reporting
+pub mod Totals
 pub mod Rewriting

@@ -7,7 +7,8 @@ use Rattle.job_rewrite.specs.declared.stop.RewriteStop.{RewriteStop}
 use Rattle.job_rewrite.specs.declared.stop.RewriteStop.TheVariants as stop
 
 -- what a result states about the reports: at Ok, and where reading broke off, each batch that was
--- read was reported, in order. Where writing failed, the last one that was read may have no report
+-- read was reported, in order. Where writing failed or a total stopped it, the last one that was
+-- read may have no report
 abbrev pub ReportsSentBatches : Limits → Option (List ℕ) → Option (List ℕ) → Option (List Report)
     → Option (List Report) → Result ⊤ RewriteStop → Type 0
 ReportsSentBatches limits old new reports_old reports_new (Ok done) =
@@ -15,4 +16,6 @@ ReportsSentBatches limits old new reports_old reports_new (Ok done) =
 ReportsSentBatches limits old new reports_old reports_new (Err (stop.Read fault message)) =
     ReportsBefore limits old new reports_old reports_new fault
 ReportsSentBatches limits old new reports_old reports_new (Err (stop.Write fault)) =
+    ReportsSome limits old new reports_old reports_new
+ReportsSentBatches limits old new reports_old reports_new (Err (stop.Above total number)) =
     ReportsSome limits old new reports_old reports_new

@@ -1,8 +1,10 @@
 -- The limits of a stream that is rewritten.
-use Rattle.std.specs.Prelude.{◌^◌, ◌-◌, max}
+use Rattle.std.specs.Prelude.{◌^◌, ◌-◌, max, min, unwrap_or}
 use Rattle.std.proofs.Math.Dec.{lit≤}
-use Rattle.std.proofs.Math.Nat.{max-le}
+use Rattle.std.proofs.Math.Nat.{max-le, min-le_right}
+use Rattle.ipc_model.specs.MaxLimits.{max_body}
 use Rattle.ipc_model.specs.declared.limits.Limits.{Limits}
+use Rattle.job_rewrite.specs.declared.options.RewriteOptions.{RewriteOptions}
 
 -- each limit, raised to the standard one if it is below it
 abbrev pub at_least_standard : Limits → Limits
@@ -21,4 +23,13 @@ at_least_standard limits = record {
   depth_fits = max-le limits.depth_fits (lit≤ tt);
   text_fits = max-le limits.text_fits (lit≤ tt);
   pairs_fit = max-le limits.pairs_fit (lit≤ tt);
+}
+
+-- the limits of what is sent: the raised ones, with the limit of a body that the options give in
+-- the place of theirs, if they give one
+abbrev pub sent_limits : RewriteOptions → Limits → Limits
+sent_limits options limits = record (at_least_standard limits) {
+  body = min (unwrap_or options.max_body (at_least_standard limits).body) max_body;
+  body_fits =
+      min-le_right (unwrap_or options.max_body (at_least_standard limits).body) max_body;
 }

@@ -1,10 +1,10 @@
 -- What is taken from a source and sent to a sink when a stream is rewritten.
-use Rattle.std.specs.Prelude.{◌≡◌, ◌≢◌, ◌+◌, ℕ, List, [], ◌∷◌, ◌++◌, map, Option, Some}
-use Rattle.std.specs.Prelude.{None, Result, Ok, Err, ⊤, Bool, IsTrue, false, true}
+use Rattle.std.specs.Prelude.{◌≡◌, ◌+◌, ℕ, List, [], ◌∷◌, ◌++◌, map, Option, Some, length}
+use Rattle.std.specs.Prelude.{None, Result, Ok, Err, ⊤, IsTrue}
 use Rattle.std.specs.Io.KnownBytes.{Consumes, IsAtEnd}
 use Rattle.std.specs.List.{AllByRecursion}
 use Rattle.ipc_model.specs.declared.fault.Fault.{Fault}
-use Rattle.ipc_model.specs.declared.fault.Fault.TheVariants.{OutOfMemory, Truncated}
+use Rattle.ipc_model.specs.declared.fault.Fault.TheVariants.{OutOfMemory}
 use Rattle.ipc_model.specs.declared.fault.WriteFault.{WriteFault}
 use Rattle.ipc_model.specs.declared.fault.WriteFault.TheVariants as w
 use Rattle.ipc_model.specs.declared.limits.Limits.{Limits}
@@ -26,17 +26,20 @@ use Rattle.ipc_stream.specs.Writing.{AcceptsBatch, AcceptsTable, BreaksOff, CutS
 use Rattle.ipc_stream_read.specs.Stream.{EndsStream, IsTableOf, OpensStream}
 use Rattle.ipc_stream.specs.Writing.{NotSentWhole}
 use Rattle.ipc_stream.specs.Writing.{RefusesBatch, RefusesSchema, Sent}
+use Rattle.job_rewrite.specs.declared.options.RewriteOptions.{RewriteOptions}
+use Rattle.job_rewrite.specs.declared.options.Total.{Total}
 use Rattle.job_rewrite.specs.declared.stop.RewriteStop.{RewriteStop}
 use Rattle.job_rewrite.specs.declared.stop.RewriteStop.TheVariants as stop
-use Rattle.job_rewrite.specs.RewriteLimits.{at_least_standard}
+use Rattle.job_rewrite.specs.RewriteLimits.{sent_limits}
+use Rattle.job_rewrite.specs.Totals.{AreAbove, AreWithin}
 
 -- a table with one more batch
 abbrev pub with_batch : Table → BatchRows → Table
 with_batch t last = record { schema = t.schema; batches = t.batches ++ last ∷ [] }
 
 -- the bytes that were taken denote a table and its end, which is the end mark if that is required,
--- and this table was sent with the end mark
-pub record CopiesTable (mark : Bool) (limits : Limits)
+-- and this table was sent with the end mark. It is within the totals
+pub record CopiesTable (options : RewriteOptions) (limits : Limits)
     (old new written_old written_new : Option (List ℕ))
     (failures_old failures_new : ℕ) : Type 0 where
   pub x : List ℕ
@@ -45,19 +48,20 @@ pub record CopiesTable (mark : Bool) (limits : Limits)
   pub bytes : Consumes old new x
   pub denotes : Denotes limits x table end
   pub closed : end ≡ Closed → IsAtEnd new
-  pub marked : IsTrue mark → end ≡ Mark
-  pub accepts : AcceptsTable (at_least_standard limits) table
-  pub sent : Sent (IsTableOf (at_least_standard limits) table) written_old written_new failures_old
-      failures_new
+  pub marked : IsTrue options.require_mark → end ≡ Mark
+  pub within : AreWithin options table.batches
+  pub accepts : AcceptsTable (sent_limits options limits) table
+  pub sent : Sent (IsTableOf (sent_limits options limits) table) written_old written_new
+      failures_old failures_new
 
 -- why a stream is not read to its end, and the messages that were sent before
-pub data BreaksReading (mark : Bool) (limits : Limits)
+pub data BreaksReading (options : RewriteOptions) (limits : Limits)
     (old new written_old written_new : Option (List ℕ))
     (failures_old failures_new : ℕ) (fault : Fault) (message : ℕ) : Type 0 where
   -- no schema was read, and the sink was not called
   unopened : (x : List ℕ) → Consumes old new x → Reads limits None x new [] (Err fault)
       → message ≡ 0 → written_new ≡ written_old → failures_new ≡ failures_old
-      → BreaksReading mark limits old new written_old written_new failures_old failures_new fault
+      → BreaksReading options limits old new written_old written_new failures_old failures_new fault
       message
   -- reading broke off after a schema and batches, whose messages were sent, or it ended there
   -- without the mark that is required; `message` counts the messages that were read, the schema's
@@ -65,70 +69,111 @@ pub data BreaksReading (mark : Bool) (limits : Limits)
   broken : (x y : List ℕ) (table : Table) (answer : Result End Fault) → Consumes old new (x ++ y)
       → OpensStream limits table.schema x
       → (reads : Reads limits (Some (initial_state table.schema)) y new (map batch table.batches)
-      answer) → as_required mark answer ≡ Err fault → message ≡ count_up 1 (messages_in reads.run)
-      → AcceptsTable (at_least_standard limits) table
-      → Sent (SendsTable (at_least_standard limits) table) written_old written_new failures_old
+      answer) → as_required options.require_mark answer ≡ Err fault
+      → message ≡ count_up 1 (messages_in reads.run) → AreWithin options table.batches
+      → AcceptsTable (sent_limits options limits) table
+      → Sent (SendsTable (sent_limits options limits) table) written_old written_new failures_old
       failures_new
-      → BreaksReading mark limits old new written_old written_new failures_old failures_new fault
+      → BreaksReading options limits old new written_old written_new failures_old failures_new fault
       message
 
 -- why what was read is not written, and the messages that were sent before. At W9 a beginning of
 -- the refused message was sent, and at any other fault nothing of it
-pub data BreaksWriting (limits : Limits) (old new written_old written_new : Option (List ℕ))
-    (failures_old failures_new : ℕ) (fault : WriteFault) : Type 0 where
+pub data BreaksWriting (options : RewriteOptions) (limits : Limits)
+    (old new written_old written_new : Option (List ℕ)) (failures_old failures_new : ℕ)
+    (fault : WriteFault) : Type 0 where
   -- the schema that was read is refused
   unstarted : (x : List ℕ) (s : Schema) → Consumes old new x → OpensStream limits s x
-      → RefusesSchema (at_least_standard limits) s fault
-      → NotSentWhole (OpensStream (at_least_standard limits) s) written_old written_new failures_old
-      failures_new fault
-      → BreaksWriting limits old new written_old written_new failures_old failures_new fault
+      → RefusesSchema (sent_limits options limits) s fault
+      → NotSentWhole (OpensStream (sent_limits options limits) s) written_old written_new
+      failures_old failures_new fault
+      → BreaksWriting options limits old new written_old written_new failures_old failures_new fault
   -- the last batch that was read is refused; all messages before it were sent
   refused : (x : List ℕ) (table : Table) (last : BatchRows) (between : Option (List ℕ))
       (failures : ℕ) → Consumes old new x → DenotesClosed limits x (with_batch table last)
-      → AcceptsTable (at_least_standard limits) table
-      → Sent (SendsTable (at_least_standard limits) table) written_old between failures_old failures
-      → RefusesBatch (at_least_standard limits) table.schema last fault
-      → NotSentWhole (SendsBatch (at_least_standard limits) table.schema
+      → AreWithin options (table.batches ++ last ∷ [])
+      → AcceptsTable (sent_limits options limits) table
+      → Sent (SendsTable (sent_limits options limits) table) written_old between failures_old
+      failures
+      → RefusesBatch (sent_limits options limits) table.schema last fault
+      → NotSentWhole (SendsBatch (sent_limits options limits) table.schema
       (kept_after table.schema.fields (kept_at_start table.schema) table.batches) last) between
       written_new failures failures_new fault
-      → BreaksWriting limits old new written_old written_new failures_old failures_new fault
+      → BreaksWriting options limits old new written_old written_new failures_old failures_new fault
   -- the stream was read to its end, and all its messages were sent; the sink failed at the end mark
   unended : (x : List ℕ) (table : Table) (end : End) (between : Option (List ℕ)) (failures : ℕ)
       → Consumes old new x → Denotes limits x table end → (end ≡ Closed → IsAtEnd new)
-      → AcceptsTable (at_least_standard limits) table
-      → Sent (SendsTable (at_least_standard limits) table) written_old between failures_old failures
+      → AreWithin options table.batches → AcceptsTable (sent_limits options limits) table
+      → Sent (SendsTable (sent_limits options limits) table) written_old between failures_old
+      failures
       → fault ≡ w.Write → CutShort EndsStream between written_new failures_new
-      → BreaksWriting limits old new written_old written_new failures_old failures_new fault
+      → BreaksWriting options limits old new written_old written_new failures_old failures_new fault
 
--- what a result states about a stream that is read under these limits and written under the raised
--- ones
-abbrev pub Rewrites : Bool → Limits → Option (List ℕ) → Option (List ℕ) → Option (List ℕ)
+-- this table was sent without its end mark, and is within the totals. With one batch more, whose
+-- number this is, it would exceed a total. A count of batches stops at 2^64 - 1
+pub record StopsAbove (options : RewriteOptions) (limits : Limits) (table : Table)
+    (last : BatchRows) (written_old written_new : Option (List ℕ)) (failures_old failures_new : ℕ)
+    (total : Total) (number : ℕ) : Type 0 where
+  pub counted : number ≡ count_up 0 (length table.batches)
+  pub within : AreWithin options table.batches
+  pub above : AreAbove options total (table.batches ++ last ∷ [])
+  pub accepts : AcceptsTable limits table
+  pub sent : Sent (SendsTable limits table) written_old written_new failures_old failures_new
+
+-- the last batch that was read would exceed a total, and nothing of it was sent; all messages
+-- before it were sent
+pub record BreaksTotals (options : RewriteOptions) (limits : Limits)
+    (old new written_old written_new : Option (List ℕ)) (failures_old failures_new : ℕ)
+    (total : Total) (number : ℕ) : Type 0 where
+  pub x : List ℕ
+  pub table : Table
+  pub last : BatchRows
+  pub bytes : Consumes old new x
+  pub denotes : DenotesClosed limits x (with_batch table last)
+  pub stops : StopsAbove options (sent_limits options limits) table last written_old
+      written_new failures_old failures_new total number
+
+-- what a result states about a stream that is read under these limits and written under those that
+-- the options give
+abbrev pub Rewrites : RewriteOptions → Limits → Option (List ℕ) → Option (List ℕ) → Option (List ℕ)
     → Option (List ℕ) → ℕ → ℕ → Result ⊤ RewriteStop → Type 0
-Rewrites mark limits old new written_old written_new failures_old failures_new (Ok done) =
-    CopiesTable mark limits old new written_old written_new failures_old failures_new
-Rewrites mark limits old new written_old written_new failures_old failures_new
+Rewrites options limits old new written_old written_new failures_old failures_new (Ok done) =
+    CopiesTable options limits old new written_old written_new failures_old failures_new
+Rewrites options limits old new written_old written_new failures_old failures_new
     (Err (stop.Read fault message)) =
-    BreaksReading mark limits old new written_old written_new failures_old failures_new fault
+    BreaksReading options limits old new written_old written_new failures_old failures_new fault
     message
-Rewrites mark limits old new written_old written_new failures_old failures_new
+Rewrites options limits old new written_old written_new failures_old failures_new
     (Err (stop.Write fault)) =
-    BreaksWriting limits old new written_old written_new failures_old failures_new fault
+    BreaksWriting options limits old new written_old written_new failures_old failures_new fault
+Rewrites options limits old new written_old written_new failures_old failures_new
+    (Err (stop.Above total number)) =
+    BreaksTotals options limits old new written_old written_new failures_old failures_new total
+    number
 
--- the result if the source contains this table: it was sent with the end mark, or writing it broke
--- off, or memory ran out in reading it
-abbrev pub AnswersRewrittenTable : Limits → Table → Option (List ℕ) → Option (List ℕ) → ℕ → ℕ
-    → Result ⊤ RewriteStop → Type 0
-AnswersRewrittenTable limits t written_old written_new failures_old failures_new (Ok done) =
-    Sent (IsTableOf limits t) written_old written_new failures_old failures_new
-AnswersRewrittenTable limits t written_old written_new failures_old failures_new
+-- the result if the source contains this table: it was sent with the end mark and is within the
+-- totals, or memory ran out in reading it, or writing it broke off, or it stopped before the first
+-- batch that would exceed a total
+abbrev pub AnswersRewrittenTable : RewriteOptions → Limits → Table → Option (List ℕ)
+    → Option (List ℕ) → ℕ → ℕ → Result ⊤ RewriteStop → Type 0
+AnswersRewrittenTable options limits t written_old written_new failures_old failures_new (Ok done) =
+    AreWithin options t.batches
+    × Sent (IsTableOf limits t) written_old written_new failures_old failures_new
+AnswersRewrittenTable options limits t written_old written_new failures_old failures_new
     (Err (stop.Read fault message)) = fault ≡ OutOfMemory
-AnswersRewrittenTable limits t written_old written_new failures_old failures_new
+AnswersRewrittenTable options limits t written_old written_new failures_old failures_new
     (Err (stop.Write fault)) =
     BreaksOff limits t written_old written_new failures_old failures_new fault
+AnswersRewrittenTable options limits t written_old written_new failures_old failures_new
+    (Err (stop.Above total number)) =
+    (front : Table) × (last : BatchRows) × (rest : List BatchRows)
+    × (record { schema = front.schema; batches = front.batches ++ last ∷ rest } ≡ t)
+    × StopsAbove options limits front last written_old written_new failures_old failures_new total
+    number
 
--- how a result changes the counts of failures of the source and the sink. Success needs 0 before
--- and after. If reading is refused, the sink did not fail in the call; if writing is refused, the
--- source never failed
+-- how a result changes the counts of failures of the source and the sink. Success and a stop at a
+-- total need 0 before and after. If reading is refused, the sink did not fail in the call; if
+-- writing is refused, the source never failed
 abbrev pub CountsRewriteFailures : ℕ → ℕ → ℕ → ℕ → Result ⊤ RewriteStop → Type 0
 CountsRewriteFailures source_old source_new sink_old sink_new (Ok done) =
     (source_old ≡ 0) × (source_new ≡ 0) × (sink_old ≡ 0) × (sink_new ≡ 0)
@@ -136,11 +181,13 @@ CountsRewriteFailures source_old source_new sink_old sink_new (Err (stop.Read fa
     CountsFault source_old source_new fault × (sink_new ≡ sink_old)
 CountsRewriteFailures source_old source_new sink_old sink_new (Err (stop.Write fault)) =
     (source_old ≡ 0) × (source_new ≡ 0) × CountsSinkFault sink_old sink_new fault
+CountsRewriteFailures source_old source_new sink_old sink_new (Err (stop.Above total number)) =
+    (source_old ≡ 0) × (source_new ≡ 0) × (sink_old ≡ 0) × (sink_new ≡ 0)
 
 -- ---- the batches after the schema
 
 -- the batches that were read after the schema and how reading ended; all of them were sent
-pub record CopiesRest (old new : Reader) (before after : Writer)
+pub record CopiesRest (options : RewriteOptions) (old new : Reader) (before after : Writer)
     (answer : Result End Fault) : Type 0 where
   pub x : List ℕ
   pub batches : List BatchRows
@@ -149,12 +196,13 @@ pub record CopiesRest (old new : Reader) (before after : Writer)
       Reads old.limits (Some (in_force_of old)) x new.remaining (map batch batches) answer
   pub counted : (k : ℕ) → old.messages ≡ count_up 0 k → new.messages ≡ count_up 0 (k
       + messages_in reads.run)
+  pub within : AreWithin options batches
   pub accepts : AllByRecursion (AcceptsBatch before.limits old.schema) batches
   pub sent : Sent (SendsBatches before.limits old.schema before.kept batches) before.written
       after.written before.failures after.failures
 
 -- the batches that were read after the schema: all but the last were sent, and the last was refused
-pub record RefusesLast (old new : Reader) (before after : Writer)
+pub record RefusesLast (options : RewriteOptions) (old new : Reader) (before after : Writer)
     (fault : WriteFault) : Type 0 where
   pub x : List ℕ
   pub batches : List BatchRows
@@ -162,6 +210,7 @@ pub record RefusesLast (old new : Reader) (before after : Writer)
   pub bytes : Consumes old.remaining new.remaining x
   pub run : Run old.limits (Some (in_force_of old)) x (map batch (batches ++ last ∷ []))
       (Some (in_force_of new))
+  pub within : AreWithin options (batches ++ last ∷ [])
   pub accepts : AllByRecursion (AcceptsBatch before.limits old.schema) batches
   pub between : Option (List ℕ)
   pub failures : ℕ
@@ -172,12 +221,33 @@ pub record RefusesLast (old new : Reader) (before after : Writer)
       (kept_after old.schema.fields before.kept batches) last) between after.written failures
       after.failures fault
 
+-- the batches that were read after the schema: all but the last were sent, and with the last they
+-- would exceed a total
+pub record StopsAtLast (options : RewriteOptions) (old new : Reader) (before after : Writer)
+    (total : Total) (number : ℕ) : Type 0 where
+  pub x : List ℕ
+  pub batches : List BatchRows
+  pub last : BatchRows
+  pub bytes : Consumes old.remaining new.remaining x
+  pub run : Run old.limits (Some (in_force_of old)) x (map batch (batches ++ last ∷ []))
+      (Some (in_force_of new))
+  pub counted : number ≡ count_up 0 (length batches)
+  pub within : AreWithin options batches
+  pub above : AreAbove options total (batches ++ last ∷ [])
+  pub accepts : AllByRecursion (AcceptsBatch before.limits old.schema) batches
+  pub sent : Sent (SendsBatches before.limits old.schema before.kept batches) before.written
+      after.written before.failures after.failures
+
 -- what a result states about the batches after the schema
-abbrev pub CopiesBatches : Bool → Reader → Reader → Writer → Writer → Result ⊤ RewriteStop → Type 0
-CopiesBatches mark old new before after (Ok done) =
-    (end : End) × CopiesRest old new before after (Ok end) × (IsTrue mark → end ≡ Mark)
-CopiesBatches mark old new before after (Err (stop.Read fault message)) =
-    (answer : Result End Fault) × CopiesRest old new before after answer
-    × (as_required mark answer ≡ Err fault) × (message ≡ new.messages)
-CopiesBatches mark old new before after (Err (stop.Write fault)) =
-    RefusesLast old new before after fault
+abbrev pub CopiesBatches : RewriteOptions → Reader → Reader → Writer → Writer
+    → Result ⊤ RewriteStop → Type 0
+CopiesBatches options old new before after (Ok done) =
+    (end : End) × CopiesRest options old new before after (Ok end)
+    × (IsTrue options.require_mark → end ≡ Mark)
+CopiesBatches options old new before after (Err (stop.Read fault message)) =
+    (answer : Result End Fault) × CopiesRest options old new before after answer
+    × (as_required options.require_mark answer ≡ Err fault) × (message ≡ new.messages)
+CopiesBatches options old new before after (Err (stop.Write fault)) =
+    RefusesLast options old new before after fault
+CopiesBatches options old new before after (Err (stop.Above total number)) =
+    StopsAtLast options old new before after total number

@@ -11,12 +11,13 @@ ghost use Rattle.ipc_stream_read.specs.Stream.{Denotes};
 ghost use Rattle.ipc_stream.specs.Dictionaries.{SendsBatch, kept_after};
 ghost use Rattle.ipc_stream.specs.Writing.{AcceptsBatch, RefusesBatch, Sends};
 ghost use Rattle.job_rewrite.specs.declared.stop.RewriteStop.TheVariants.{Write};
-ghost use Rattle.job_rewrite.specs.RewriteLimits.{at_least_standard};
+ghost use Rattle.job_rewrite.specs.RewriteLimits.{sent_limits};
 ghost use Rattle.job_rewrite.specs.Reporting.{ReportsSentBatches};
 ghost use Rattle.job_rewrite.specs.Rewriting.{AnswersRewrittenTable, CopiesBatches, Rewrites};
 ghost use Rattle.job_rewrite.specs.Rewriting.{CountsRewriteFailures};
 
-use crate::limits::at_least_standard;
+use crate::limits::sent_limits;
+use crate::options::RewriteOptions;
 use crate::stop::RewriteStop;
 use ipc_device::{Progress, Sink, Source};
 use ipc_model::{Items, Limits, Schema, Text, WriteFault};
@@ -47,11 +48,11 @@ fn copy_batch<W: Sink>(
     writer.write_columns(batch, pairs)
 }
 
-// Writes each batch that is read, and reports it then, to the end of the stream, which is F4 if it
-// is not the mark that is required.
+// Writes each batch that is read, and reports it then, up to the first one that would exceed a
+// total, or to the end of the stream, which is F4 if it is not the mark that is required.
 #[tactic(auto, using(crate::proofs::Batches::copied_none, crate::proofs::Batches::copied_more))]
 fn copy_batches<R: Source, W: Sink, P: Progress>(
-    require_mark: bool,
+    options: RewriteOptions,
     stream: &mut StreamReader<R>,
     writer: &mut StreamWriter<W>,
     progress: &mut P,
@@ -61,7 +62,7 @@ fn copy_batches<R: Source, W: Sink, P: Progress>(
     requires works { writer.old.failed ≡ false }
     requires sink { writer.old.failures ≡ 0 }
     requires schema { writer.old.schema ≡ stream.old.schema }
-    ensures copies { CopiesBatches require_mark stream.old stream.new writer.old writer.new
+    ensures copies { CopiesBatches options stream.old stream.new writer.old writer.new
         result }
     ensures works { OnOk result (writer.new.failed ≡ false) }
     ensures devices { CountsRewriteFailures stream.old.failures stream.new.failures
@@ -76,14 +77,22 @@ fn copy_batches<R: Source, W: Sink, P: Progress>(
     loop {
         match stream.next() {
             Ok(Some((batch, pairs))) => {
+                let more = batch.rows() as u64;
+                if let Some(total) = options.total_above(batches, rows, more) {
+                    return Err(RewriteStop::Above(total, batches));
+                }
                 copy_batch(&batch, pairs, writer)?;
                 batches = batches.saturating_add(1);
-                rows = rows.saturating_add(batch.rows() as u64);
+                rows = rows.saturating_add(more);
                 progress.batch_done(stream.taken(), batches, rows);
                 stream.reuse(batch);
             }
             // `next` returned None, so `end` is Some: the default is never used.
-            Ok(None) => match stream.end().unwrap_or(End::Closed).check_mark(require_mark) {
+            Ok(None) => match stream
+                .end()
+                .unwrap_or(End::Closed)
+                .check_mark(options.require_mark)
+            {
                 Ok(_) => return Ok(()),
                 Err(missing) => return Err(RewriteStop::Read(missing, stream.messages())),
             },
@@ -96,7 +105,7 @@ fn copy_batches<R: Source, W: Sink, P: Progress>(
 fn copy_stream<R: Source, W: Sink, P: Progress>(
     alloc: Global,
     seed: Seed,
-    require_mark: bool,
+    options: RewriteOptions,
     stream: &mut StreamReader<R>,
     sink: W,
     progress: &mut P,
@@ -104,7 +113,7 @@ fn copy_stream<R: Source, W: Sink, P: Progress>(
     requires reading { stream.old.phase ≡ Reading }
     requires source { stream.old.failures ≡ 0 }
     ensures rewrites { (limits : Limits) (start : Option (List ℕ)) → Opens limits start stream.old
-        → Rewrites require_mark limits start stream.new.remaining (W.written sink)
+        → Rewrites options limits start stream.new.remaining (W.written sink)
         (W.written result.1) (W.failures sink) (W.failures result.1) result.0 }
     ensures handed_on { OnOk result.0 (W.held_back result.1 ≡ Some []) }
     ensures devices { CountsRewriteFailures stream.old.failures stream.new.failures
@@ -114,13 +123,13 @@ fn copy_stream<R: Source, W: Sink, P: Progress>(
         → ReportsSentBatches limits start stream.new.remaining (P.reports progress.old)
         (P.reports progress.new) result.0 }
 {
-    let limits = at_least_standard(&stream.limits());
+    let limits = sent_limits(&stream.limits(), options);
     let started = StreamWriter::start_with_seed(alloc, seed, limits, sink, stream.schema());
     let mut writer = match started {
         Ok(writer) => writer,
         Err((fault, sink)) => return (Err(RewriteStop::Write(fault)), sink),
     };
-    match copy_batches(require_mark, stream, &mut writer, progress) {
+    match copy_batches(options, stream, &mut writer, progress) {
         Ok(()) => match writer.finish() {
             Ok(sink) => (Ok(()), sink),
             Err((fault, sink)) => (Err(RewriteStop::Write(fault)), sink),
@@ -136,14 +145,14 @@ fn copy_stream<R: Source, W: Sink, P: Progress>(
 /// The schema's message is sent as soon as it is read. Each batch is sent with its pairs and rows,
 /// after the dictionaries that it needs, before the next one is read. One batch is kept at a time,
 /// and of each dictionary the values that were sent. What is read is within `limits`, and what is
-/// written is within `at_least_standard(limits)`. After each batch that was written, `progress` is
-/// called once; `()` ignores it.
+/// written is within `sent_limits(&limits, options)`. After each batch that was written,
+/// `progress` is called once; `()` ignores it.
 ///
 /// The values of dictionaries are hashed with `seed`. Nobody who does not know a random seed can
 /// choose values whose hashes collide.
 ///
-/// With `require_mark`, a stream that ends without the end-of-stream mark is refused with F4 and
-/// the number of the message after its last one. Its batches were sent then, and no mark.
+/// With `options.require_mark`, a stream that ends without the end-of-stream mark is refused with
+/// F4 and the number of the message after its last one. Its batches were sent then, and no mark.
 ///
 /// Errors, after which the bytes that were written remain written:
 ///
@@ -152,10 +161,13 @@ fn copy_stream<R: Source, W: Sink, P: Progress>(
 /// - `RewriteStop::Write`: what was read is refused, as in `StreamWriter`, with W1 to W9 or W11. A
 ///   null in a field that is not nullable is read, and refused with W5. W11 also comes if memory
 ///   for the values of a batch ran out.
+/// - `RewriteStop::Above`: with the next batch, what is written would exceed `options.max_batches`
+///   or `options.max_rows`. Nothing of that batch was sent, and no mark; the number is that of the
+///   batches before it.
 pub fn rewrite<R: Source, W: Sink, P: Progress>(
     alloc: Global,
     seed: Seed,
-    require_mark: bool,
+    options: RewriteOptions,
     limits: Limits,
     source: R,
     sink: W,
@@ -163,8 +175,9 @@ pub fn rewrite<R: Source, W: Sink, P: Progress>(
 ) -> (Result<(), RewriteStop>, R, W)
     // At Ok what was taken denotes a table, with its mark if that is required, and what was sent is
     // that table with the mark. At a fault, why reading or writing broke off there, and the
-    // messages that were sent before.
-    ensures rewrites { Rewrites require_mark limits (R.remaining source) (R.remaining result.1)
+    // messages that were sent before. At a total, the batch that would exceed it, and those before,
+    // which were sent and are within the totals.
+    ensures rewrites { Rewrites options limits (R.remaining source) (R.remaining result.1)
         (W.written sink) (W.written result.2) (W.failures sink) (W.failures result.2) result.0 }
     // At Ok the sink holds nothing back.
     ensures handed_on { OnOk result.0 (W.held_back result.2 ≡ Some []) }
@@ -173,18 +186,18 @@ pub fn rewrite<R: Source, W: Sink, P: Progress>(
     ensures devices { CountsRewriteFailures (R.failures source) (R.failures result.1)
         (W.failures sink)
         (W.failures result.2) result.0 }
-    // A table with its mark is written whatever follows it, or refused as it is by a writer, unless
-    // memory runs out or the source fails.
+    // A table with its mark is written whatever follows it, or refused as it is by a writer, or
+    // stopped at a total, unless memory runs out or the source fails.
     ensures marked { (x rest : List ℕ) (t : Table)
         → R.remaining source ≡ Some (x ++ rest) → Denotes limits x t Mark
         → R.failures result.1 ≡ 0
-        → AnswersRewrittenTable (at_least_standard limits) t (W.written sink) (W.written result.2)
-        (W.failures sink) (W.failures result.2) result.0 }
+        → AnswersRewrittenTable options (sent_limits options limits) t (W.written sink)
+        (W.written result.2) (W.failures sink) (W.failures result.2) result.0 }
     // So is one without a mark where nothing follows, if no mark is required.
-    ensures closed { (x : List ℕ) (t : Table) → require_mark ≡ false
+    ensures closed { (x : List ℕ) (t : Table) → options.require_mark ≡ false
         → R.remaining source ≡ Some x → Denotes limits x t Closed → R.failures result.1 ≡ 0
-        → AnswersRewrittenTable (at_least_standard limits) t (W.written sink) (W.written result.2)
-        (W.failures sink) (W.failures result.2) result.0 }
+        → AnswersRewrittenTable options (sent_limits options limits) t (W.written sink)
+        (W.written result.2) (W.failures sink) (W.failures result.2) result.0 }
     // Each batch that was read was reported once, in order, with the bytes taken up to it, and the
     // batches and rows so far. At `Write` the last one may have no report. That a report comes
     // after the messages of its batch is not stated.
@@ -194,14 +207,7 @@ pub fn rewrite<R: Source, W: Sink, P: Progress>(
     match StreamReader::open(alloc, limits, source) {
         Ok(stream) => {
             let mut stream = stream;
-            let (result, sink) = copy_stream(
-                alloc,
-                seed,
-                require_mark,
-                &mut stream,
-                sink,
-                progress,
-            );
+            let (result, sink) = copy_stream(alloc, seed, options, &mut stream, sink, progress);
             (result, stream.into_inner(), sink)
         }
         Err((fault, source)) => (Err(RewriteStop::Read(fault, 0)), source, sink),

@@ -4,8 +4,10 @@
 
 mod copying;
 mod limits;
+mod options;
 mod stop;
 
 pub use copying::rewrite;
-pub use limits::at_least_standard;
+pub use limits::{at_least_standard, sent_limits};
+pub use options::{RewriteOptions, Total};
 pub use stop::RewriteStop;

@@ -1,5 +1,6 @@
 //! Why a stream is not rewritten.
 
+use crate::options::Total;
 use ipc_model::{Fault, WriteFault};
 
 /// Why a stream is not rewritten.
@@ -9,6 +10,8 @@ pub enum RewriteStop {
     Read(Fault, u64),
     /// What was read could not be written.
     Write(WriteFault),
+    /// The batch with this number, counted from 0, would exceed this total of what is written.
+    Above(Total, u64),
 }
 
 impl From<WriteFault> for RewriteStop {

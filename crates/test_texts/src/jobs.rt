@@ -4,7 +4,7 @@ ghost use Rattle.job_arguments.specs.Arguments.{HasGoodSize};
 
 use ipc_model::Limits;
 use ipc_stream::{Limited, Memory, Seed};
-use job_arguments::{CsvDialect, Invocation, Job};
+use job_arguments::{CsvDialect, Invocation, Job, OutputLimits};
 use job_command::run;
 use std::alloc::{AllocError, Global};
 use std::test::Fail;
@@ -113,6 +113,11 @@ fn job_of(alloc: Global, asked: JobKind) -> Result<Job, AllocError>
         },
         JobKind::Rewrite => Job::Rewrite {
             limits,
+            output: OutputLimits {
+                body: None,
+                batches: None,
+                rows: None,
+            },
             require_mark: true,
         },
         JobKind::FromCsv => Job::FromCsv {

@@ -3,7 +3,7 @@ use Rattle.job_arguments.specs.Arguments.{HasWrongValue}
 use Rattle.job_arguments.proofs.LineWords.{value_wrong}
 use Rattle.job_arguments.proofs.arguments.read_to_csv.Goals as goal
 
-pub returns-in_err-read_limit-clause-refused : goal.returns-in_err-read_limit-clause-refused
-returns-in_err-read_limit-clause-refused c =
-    value_wrong _ _ _ c.from_residual-in_err-read_limit.result (λ h. HasWrongValue.count (inr refl) h)
-    c.from_residual-in_err-read_limit.ensures.1 c.in_err-read_limit.ensures.refused
+pub returns-in_err-read_count-clause-refused : goal.returns-in_err-read_count-clause-refused
+returns-in_err-read_count-clause-refused c =
+    value_wrong _ _ _ c.from_residual-in_err-read_count.result (λ h. HasWrongValue.count (inr refl) h)
+    c.from_residual-in_err-read_count.ensures.1 c.in_err-read_count.ensures.refused

@@ -12,7 +12,7 @@ returns-clause-answers g c = elim c.match-job.branch [
     (w.dialect.ensures.delimiter, w.dialect.ensures.null),
     rw w.print_options-options-in-ToCsv.ensures at w.print_job-in-ToCsv.ensures.answers,
   )
-  | in-Rewrite w ↦ rw (w.in-Rewrite.is, w.result-is) w.rewrite_job.ensures.answers
+  | in-Rewrite w ↦ rw (w.in-Rewrite.is, w.result-is) (rw w.rewrite_options-options.ensures at w.rewrite_job.ensures.answers)
 ]
 
 pub returns-in-FromCsv-clause-answers : goal.returns-in-FromCsv-clause-answers

@@ -4,26 +4,26 @@ use Rattle.job_rewrite.proofs.copying.copy_stream.Goals as goal
 
 pub returns-in-Err-clause-rewrites : goal.returns-in-Err-clause-rewrites
 returns-in-Err-clause-rewrites g c = λ limits start o.
-    schema_refused start _ _ _ _ _ _ o
-    (rw (c.at_least_standard-limits.ensures.raised, c.limits.ensures, c.schema.ensures) at c.in-Err.ensures.refused)
+    schema_refused c.args.options start _ _ _ _ _ _ o
+    (rw (c.sent_limits-limits.ensures.sent, c.limits.ensures, c.schema.ensures) at c.in-Err.ensures.refused)
 
 pub returns-in-Ok-finish-clause-rewrites : goal.returns-in-Ok-finish-clause-rewrites
 returns-in-Ok-finish-clause-rewrites g c = λ limits start o.
-    let begun = rw (c.at_least_standard-limits.ensures.raised, c.limits.ensures, c.schema.ensures) at c.in-Ok.ensures.started in
+    let begun = rw (c.sent_limits-limits.ensures.sent, c.limits.ensures, c.schema.ensures) at c.in-Ok.ensures.started in
     let copies = c.in-Ok-copy_batches.ensures.copies in
-    table_copied start _ _ _ _ _ o begun c.args.require_mark _ copies.0 _ _ copies.1 copies.2 c.in-Ok-finish.ensures.finished.sent
+    table_copied c.args.options start _ _ _ _ _ o begun _ copies.0 _ _ copies.1 copies.2 c.in-Ok-finish.ensures.finished.sent
 
 pub returns-in-Err-finish-clause-rewrites : goal.returns-in-Err-finish-clause-rewrites
 returns-in-Err-finish-clause-rewrites g c = λ limits start o.
-    let begun = rw (c.at_least_standard-limits.ensures.raised, c.limits.ensures, c.schema.ensures) at c.in-Ok.ensures.started in
+    let begun = rw (c.sent_limits-limits.ensures.sent, c.limits.ensures, c.schema.ensures) at c.in-Ok.ensures.started in
     let copies = c.in-Ok-copy_batches.ensures.copies in
-    end_refused start _ _ _ _ _ o begun c.args.require_mark _ copies.0 _ _ _ c.in-Ok-copy_batches.ensures.works copies.1
+    end_refused c.args.options start _ _ _ _ _ o begun _ copies.0 _ _ _ c.in-Ok-copy_batches.ensures.works copies.1
     c.in-Err-finish.ensures.refused
 
 pub returns-in-Err-copy_batches-clause-rewrites : goal.returns-in-Err-copy_batches-clause-rewrites
 returns-in-Err-copy_batches-clause-rewrites g c = λ limits start o.
-    let begun = rw (c.at_least_standard-limits.ensures.raised, c.limits.ensures, c.schema.ensures) at c.in-Ok.ensures.started in
-    batches_broken start _ _ _ _ _ o begun c.args.require_mark _ _ _ c.in-Err-copy_batches.stop c.into_inner.ensures.written
+    let begun = rw (c.sent_limits-limits.ensures.sent, c.limits.ensures, c.schema.ensures) at c.in-Ok.ensures.started in
+    batches_broken c.args.options start _ _ _ _ _ o begun _ _ _ c.in-Err-copy_batches.stop c.into_inner.ensures.written
     c.into_inner.ensures.failures c.in-Err-copy_batches.ensures.copies
 
 pub returns-in-Err-clause-reports : goal.returns-in-Err-clause-reports

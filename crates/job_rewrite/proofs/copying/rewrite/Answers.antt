@@ -7,28 +7,28 @@ use Rattle.job_rewrite.proofs.copying.rewrite.Goals as goal
 
 pub returns-in-Ok-clause-marked : goal.returns-in-Ok-clause-marked
 returns-in-Ok-clause-marked g c = λ x rest t is d none.
-    answered_marked c.args.require_mark _ _ _ _ _ _ _ _ c.copy_stream-result.result.0 c.copy_stream-result.ensures.devices
+    answered_marked c.args.options _ _ _ _ _ _ _ _ c.copy_stream-result.result.0 c.copy_stream-result.ensures.devices
     (c.copy_stream-result.ensures.rewrites _ _ c.in-Ok.ensures.opened) (sym c.into_inner.ensures.failures ∙ none) x rest t is d
 
 pub returns-in-Ok-clause-closed : goal.returns-in-Ok-clause-closed
 returns-in-Ok-clause-closed g c = λ x t free is d none.
-    answered_closed c.args.require_mark _ _ _ _ _ _ _ _ c.copy_stream-result.result.0 c.copy_stream-result.ensures.devices
+    answered_closed c.args.options _ _ _ _ _ _ _ _ c.copy_stream-result.result.0 c.copy_stream-result.ensures.devices
     (c.copy_stream-result.ensures.rewrites _ _ c.in-Ok.ensures.opened) (sym c.into_inner.ensures.failures ∙ none) x t free is d
 
 pub returns-in-Err-clause-rewrites : goal.returns-in-Err-clause-rewrites
-returns-in-Err-clause-rewrites g c = none_read c.args.require_mark _ _ _ _ _ c.in-Err.ensures.refused
+returns-in-Err-clause-rewrites g c = none_read c.args.options _ _ _ _ _ c.in-Err.ensures.refused
 
 pub returns-in-Err-clause-marked : goal.returns-in-Err-clause-marked
 returns-in-Err-clause-marked g c = λ x rest t is d none.
-    answered_marked c.args.require_mark _ _ (g.W.Sink.written c.args.sink) (g.W.Sink.written c.args.sink) _ _
+    answered_marked c.args.options _ _ (g.W.Sink.written c.args.sink) (g.W.Sink.written c.args.sink) _ _
     (g.W.Sink.failures c.args.sink) (g.W.Sink.failures c.args.sink) (Err (stop.Read c.in-Err.fault 0)) (c.in-Err.ensures.failures, refl)
-    (none_read c.args.require_mark _ _ _ _ _ c.in-Err.ensures.refused) none x rest t is d
+    (none_read c.args.options _ _ _ _ _ c.in-Err.ensures.refused) none x rest t is d
 
 pub returns-in-Err-clause-closed : goal.returns-in-Err-clause-closed
 returns-in-Err-clause-closed g c = λ x t free is d none.
-    answered_closed c.args.require_mark _ _ (g.W.Sink.written c.args.sink) (g.W.Sink.written c.args.sink) _ _
+    answered_closed c.args.options _ _ (g.W.Sink.written c.args.sink) (g.W.Sink.written c.args.sink) _ _
     (g.W.Sink.failures c.args.sink) (g.W.Sink.failures c.args.sink) (Err (stop.Read c.in-Err.fault 0)) (c.in-Err.ensures.failures, refl)
-    (none_read c.args.require_mark _ _ _ _ _ c.in-Err.ensures.refused) none x t free is d
+    (none_read c.args.options _ _ _ _ _ c.in-Err.ensures.refused) none x t free is d
 
 pub returns-in-Ok-clause-reports : goal.returns-in-Ok-clause-reports
 returns-in-Ok-clause-reports g c =

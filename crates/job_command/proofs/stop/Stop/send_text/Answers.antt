@@ -15,6 +15,9 @@ returns-in-Schema-clause-sent g c = sent_as _ _ _ _ c.send.result (ap stop_text 
 pub returns-in-Write-clause-sent : goal.returns-in-Write-clause-sent
 returns-in-Write-clause-sent g c = sent_as _ _ _ _ c.send_write_fault.result (ap stop_text c.in-Write.is) c.send_write_fault.ensures.sent
 
+pub returns-in-Above-clause-sent : goal.returns-in-Above-clause-sent
+returns-in-Above-clause-sent g c = sent_as _ _ _ _ c.send_above.result (ap stop_text c.in-Above.is) c.send_above.ensures.sent
+
 pub returns-in-Rows-clause-sent : goal.returns-in-Rows-clause-sent
 returns-in-Rows-clause-sent g c =
     sent_as _ _ _ _ c.send_write_fault-in-Rows.result (ap stop_text c.in-Rows.is) c.send_write_fault-in-Rows.ensures.sent
