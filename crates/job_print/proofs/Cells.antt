@@ -17,7 +17,7 @@ use Rattle.std.specs.Prelude.{slice_index_or}
 use Rattle.std.proofs.lemmas.List.{take_rest}
 use Rattle.job_print.specs.Rows.{lines}
 
--- the columns behind the first, and their fields: where its cell was appended, the cells of these lead to the same text or fault
+-- the columns after the first, and their fields: where its cell was appended, the cells of these lead to the same text or fault
 pub record IsMore (d : Dialect) (fs : List Field) (cs : List (List Value)) (r i : ℕ) (o2 : List ℕ) (wanted : Result (List ℕ) TextFault) :
     Type 0 where
   pub columns : length (take (length cs - 1) (drop 1 cs)) ≡ length (take (length fs - 1) (drop 1 fs))

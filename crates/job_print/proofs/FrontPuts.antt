@@ -1,6 +1,6 @@
 -- The front of a text, before the rows of batches.
 use Rattle.ipc_model.specs.declared.table.BatchRows.{BatchRows}
-use Rattle.std.proofs.Common.{◌≡◌, ◌∙◌, refl, sym, ap, subst, ℕ, List, [], ◌++◌, Option, Some}
+use Rattle.std.proofs.Common.{◌≡◌, ◌∙◌, refl, sym, ap, subst, ℕ, List, [], ◌++◌, Option, Some, length, inl}
 use Rattle.std.proofs.Common.{Result, Ok, Err, append-nil, length-append, arith}
 use Rattle.std.proofs.KnownBytes.{Consumes-nil}
 use Rattle.ipc_stream_read.specs.Reader.{Reader, in_force_of}
@@ -14,11 +14,9 @@ use Rattle.job_print.specs.Output.{Output, output, PrintsAs, Puts, PutFails}
 use Rattle.std.specs.Prelude.{⊤}
 use Rattle.job_print.specs.Rows.{batch_lines, last_lines}
 use Rattle.job_print.specs.Streams.{PrintsPart}
-use Rattle.job_print.proofs.streams.FirstRows.{wanted_none, wanted_within}
-use Rattle.job_print.proofs.streams.FirstRows.{within_none}
+use Rattle.job_print.proofs.streams.FirstRows.{wanted_none, wanted_within, within_none}
 use Rattle.job_print.proofs.Puts.{puts_then, puts_not_then, puts_never, missing_all, missing_at}
 use Rattle.job_print.proofs.Lines.{put_at, not_at}
-use Rattle.std.proofs.Common.{length, inl}
 
 -- nothing was read, and of the front a beginning was printed
 pub part_front : (options : PrintOptions) (front : List ℕ) (r : Reader) (before : Output) (w : Option (List ℕ)) (n : ℕ) (e : PrintFault)

@@ -1,4 +1,4 @@
--- The front of a text behind a write.
+-- The front of a text after a write.
 use Rattle.std.proofs.Common.{◌≡◌, ℕ, ◌+◌, ◌-◌, ◌*◌, ◌/◌, ◌%◌, ◌^◌, ◌<◌, ◌≤◌, List, ◌++◌, length, take, drop, ap, ◌∙◌, refl, arith}
 use Rattle.std.proofs.Common.{append_assoc}
 use Rattle.std.proofs.Math.Seq.{take-append-add}
@@ -37,7 +37,7 @@ first_front s new rest bytes at z x n inside small written shown all count =
     ∙ (ap (λ (k : ℕ). drop k (last_digits 8 n)) zeros
     ∙ decimal_padded 7 n small (omega (arith, small)))))))
 
--- a front that is known, and the eight digits behind it
+-- a front that is known, and the eight digits after it
 pub joined : (whole front before : List ℕ) (n : ℕ) → 100000000 ≤ n → n < 2 ^ 64
     → front ≡ before ++ decimal (n / 100000000)
     → whole ≡ front ++ last_digits 8 (n % 100000000)

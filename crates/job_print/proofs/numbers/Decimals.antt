@@ -62,7 +62,7 @@ padded_more k n ten h s ih =
     ∙ (drop-append-le (suc k - length (decimal (n / 10))) (last_digits (suc k) (n / 10)) ((48 + n % 10) ∷ []) fits
     ∙ (ap (λ (x : List ℕ). x ++ (48 + n % 10) ∷ []) ih ∙ sym step))
 
--- the digits of a number that has so many at most, behind zeros
+-- the digits of a number that has so many at most, after zeros
 pub decimal_padded : (k n : ℕ) → n < 10 ^ suc k → n < 2 ^ 64 → drop (suc k - length (decimal n)) (last_digits (suc k) n) ≡ decimal n
 decimal_padded zero n h s =
     let digit = decimal_digit n (omega (arith, h)) in
@@ -117,7 +117,7 @@ seven n h = omega (arith, ap length (decimal_digit n h))
 pub fewer : (z k n : ℕ) → z + suc k ≡ 8 → 10 ^ k ≤ n → n < 10 ^ suc k → n < 2 ^ 64 → z + length (decimal n) ≡ 8
 fewer z k n e low high s = omega (arith, e, exact k n low high s)
 
--- the eight last digits stand in what is left behind all but them
+-- the eight last digits stand in what is left after all but them
 pub last_eight : (n : ℕ) → last_digits 8 (n % 100000000) ≡ last_digits 8 n
 last_eight n =
     let a : n % 100000000 % 10 ≡ n % 10 = omega arith in

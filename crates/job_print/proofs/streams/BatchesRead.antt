@@ -41,7 +41,7 @@ use Rattle.ipc_model.specs.declared.fault.Fault.TheVariants.{Read, Truncated}
 use Rattle.ipc_stream_read.specs.Counts.{count_up, messages_in}
 use Rattle.job_print.specs.declared.stop.PrintCounts.{PrintCounts}
 
--- these batches were read behind the schema and printed up to the limit, and nothing of them is kept
+-- these batches were read after the schema and printed up to the limit, and nothing of them is kept
 pub record Batches (options : PrintOptions) (tally : PrintCounts) (old now : Reader) (before after : Output) : Type 0 where
   pub x : List ℕ
   pub batches : List BatchRows
@@ -148,7 +148,7 @@ module _ (options : PrintOptions) (tally : PrintCounts) (old now new : Reader) (
   have_before : HaveAllLines options.form old.schema.fields b.batches
   have_before = subst (HaveAllLines options.form old.schema.fields) all_before b.have
 
-  -- the batch that came, with its rows up to the limit, and the text of it behind that of the batches before
+  -- the batch that came, with its rows up to the limit, and the text of it after that of the batches before
   abbrev pub IsCount : ReadRows → ℕ → Type 0
   IsCount found count = count ≡ wanted_rows options.limit (row_count b.batches) (length found.0.rows)
 
@@ -362,7 +362,7 @@ module _ (options : PrintOptions) (tally : PrintCounts) (old now new : Reader) (
       subst (λ (e : End). (rows : PrintsRows options [] old new before after (Ok e)) × IsTally tally rows.batches) (sym same)
       (printed t.x (Ok h.0) t.bytes t.counted h.1, b.tallies)
 
-  -- where the end is read behind the batches that were printed, all rows of the stream were
+  -- where the end is read after the batches that were printed, all rows of the stream were
   pub batches_end : (found : Option End) (e f : End) → NextCall now new (Ok None) → new.failures ≡ now.failures → found ≡ end_of new.phase
       → e ≡ unwrap_or found Closed → as_required options.require_mark (Ok e) ≡ Ok f
       → PrintsBatches options [] old new before after (Ok (Whole e tally))
@@ -380,7 +380,7 @@ module _ (options : PrintOptions) (tally : PrintCounts) (old now new : Reader) (
     record { failed = λ read. absurd (no_read options.require_mark e f ends read); stayed = λ other. works ∙ b.counts },
   )
 
-  -- where a fault is read behind the batches that were printed, their rows were, and the answer is the fault
+  -- where a fault is read after the batches that were printed, their rows were, and the answer is the fault
   pub batches_break : (f : Fault) → NextCall now new (Err f) → CountsFault now.failures new.failures f
       → PrintsBatches options [] old new before after (Ok (Broken f))
   batches_break f t tells = (

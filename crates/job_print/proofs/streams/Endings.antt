@@ -1,6 +1,6 @@
 -- The front and the tail around the rows of batches.
 use Rattle.ipc_model.specs.declared.table.BatchRows.{BatchRows}
-use Rattle.std.proofs.Common.{◌≡◌, ◌∙◌, refl, sym, ap, ℕ, List, [], ◌∷◌, ◌++◌, take, drop, Option}
+use Rattle.std.proofs.Common.{◌≡◌, ◌∙◌, refl, sym, ap, ℕ, List, [], ◌∷◌, ◌++◌, take, drop, Option, ◌≤◌, length, inl, inr}
 use Rattle.std.proofs.Common.{Result, Ok, Err, append_assoc, append-nil, length-append, arith, ◌+◌}
 use Rattle.ipc_model.specs.declared.fault.Fault.{Fault}
 use Rattle.ipc_model.specs.declared.value.Value.{Value}
@@ -16,18 +16,14 @@ use Rattle.job_print.specs.Forms.{batch_heading, line_of, row_count, tail_of, ta
 use Rattle.job_print.specs.Output.{Output, Puts, PutFails}
 use Rattle.job_print.specs.Rows.{lines, batch_lines, last_lines}
 use Rattle.std.proofs.lemmas.List.{nil_from_length}
-use Rattle.std.proofs.Common.{◌≤◌}
-use Rattle.job_print.specs.Streams.{AreLast, PrintsRows, PrintsPart, PrintsBatches}
+use Rattle.job_print.specs.Streams.{AreLast, PrintsRows, PrintsPart, PrintsBatches, IsTally, IsReadToEnd, PrintsAll, outcome_tail}
 use Rattle.job_print.proofs.streams.FirstRows.{below_less, below_within, refused_inside, take_fewer, wanted_more, wanted_within}
 use Rattle.job_print.proofs.streams.FirstRows.{within_all, within_more}
 use Rattle.job_print.proofs.Puts.{puts_then, puts_not_then, missing_all, missing_at, missing_more, missing_then}
 use Rattle.job_print.proofs.Lines.{put_at, not_at}
 use Rattle.job_print.proofs.texts.Texts.{batch_lines_more, head_rest, last_lines_front, last_lines_more}
-use Rattle.std.proofs.Common.{length, inl, inr}
 use Rattle.ipc_stream_read.specs.Counts.{count_up}
 use Rattle.job_print.specs.declared.stop.PrintCounts.{PrintCounts}
-use Rattle.job_print.specs.Forms.{tail_of, tail_text}
-use Rattle.job_print.specs.Streams.{IsTally, IsReadToEnd, PrintsAll, outcome_tail}
 
 module _ (options : PrintOptions) (front : List ℕ) (old new : Reader) where
   abbrev line_in : List Value → List ℕ
@@ -48,7 +44,7 @@ module _ (options : PrintOptions) (front : List ℕ) (old new : Reader) where
     sent = q.sent;
   }
 
-  -- what was put behind the front, with the front
+  -- what was put after the front, with the front
   pub behind_front : (before mid after : Output) (r : Result Outcome PrintFault) → Puts before mid front
       → PrintsBatches options [] old new mid after r → PrintsBatches options front old new before after r
   unfolding rows_behind

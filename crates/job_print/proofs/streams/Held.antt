@@ -1,5 +1,5 @@
 -- Where a source holds a table, its text is printed, or what stands in the way is in the table or outside.
-use Rattle.std.proofs.Common.{◌≡◌, ◌∙◌, refl, sym, ap, subst, ℕ, zero, inl, inr, List, [], ◌∷◌, ◌++◌, length, Option, Some, None}
+use Rattle.std.proofs.Common.{◌≡◌, ◌∙◌, refl, sym, ap, subst, ℕ, zero, inl, inr, List, [], ◌∷◌, ◌++◌, length, Option, Some, None, ◌+◌}
 use Rattle.std.proofs.Common.{Result, Ok, Err, ⊎_elim, append_assoc, append-nil, arith}
 use Rattle.std.specs.Prelude.{⊤, ◌⊎◌, Bool, Contains, IsTrue, false, true}
 use Rattle.std.specs.Io.KnownBytes.{Appends, Consumes, IsAtEnd}
@@ -26,18 +26,15 @@ use Rattle.ipc_stream_read.proofs.Beginnings.{reads_of, schema_begins, table_beg
 use Rattle.job_print.specs.declared.form.PrintOptions.{PrintOptions}
 use Rattle.job_print.specs.declared.stop.PrintStop.{PrintStop}
 use Rattle.job_print.specs.declared.stop.PrintStop.TheVariants as stop
-use Rattle.std.proofs.Common.{◌+◌}
 use Rattle.job_print.specs.FirstRows.{within, WantsMoreRows}
 use Rattle.job_print.specs.Forms.{form_fault, row_count, RefusesFirstRow}
 use Rattle.job_print.specs.Output.{Output}
 use Rattle.job_print.specs.Streams.{AnswersPrintedTable, EndsPrinting, HasUnprintableRow, Prints, PrintsFirst, PrintsStream, PrintsTable}
-use Rattle.job_print.specs.Streams.{PrintsText, StopsPrinting}
-use Rattle.job_print.specs.Streams.{broken, stream_text, refused}
-use Rattle.job_print.specs.Streams.{unfit, unopened}
+use Rattle.job_print.specs.Streams.{PrintsText, StopsPrinting, broken, stream_text, refused, unfit, unopened}
 use Rattle.job_print.proofs.streams.FirstRows.{reached_more, refused_within, within_prefix}
 use Rattle.job_print.proofs.streams.Streams.{one_more, reads_opened}
 
--- how often the source failed is told where reading is refused
+-- how often the source failed is stated where reading is refused
 abbrev pub TellsRead : ℕ → ℕ → Result ⊤ PrintStop → Type 0
 TellsRead old new (Ok done) = ⊤
 TellsRead old new (Err (stop.Read fault message)) = CountsFault old new fault

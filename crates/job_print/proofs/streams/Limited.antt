@@ -26,8 +26,7 @@ use Rattle.job_print.specs.declared.stop.PrintStop.TheVariants as stop
 use Rattle.job_print.specs.FirstRows.{within, AreWanted, HasReached, WantsMoreRows}
 use Rattle.job_print.specs.Forms.{form_fault, row_count}
 use Rattle.job_print.specs.Streams.{AnswersFirst, EndsPrinting, HasUnprintableRow, Prints, PrintsFirst, PrintsTable, ReachesLimit}
-use Rattle.job_print.specs.Streams.{StopsPrinting}
-use Rattle.job_print.specs.Streams.{broken, stream_text, refused, unfit, unopened}
+use Rattle.job_print.specs.Streams.{StopsPrinting, broken, stream_text, refused, unfit, unopened}
 use Rattle.job_print.proofs.streams.FirstRows.{below_less, not_both, reached_more, wanted_more}
 use Rattle.job_print.proofs.streams.Held.{TellsRead, lacking_row}
 use Rattle.job_print.proofs.streams.Streams.{one_more, reads_opened}

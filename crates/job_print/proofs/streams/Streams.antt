@@ -2,7 +2,7 @@
 use Rattle.ipc_model.specs.declared.table.BatchRows.{BatchRows}
 use Rattle.std.proofs.Common.{refl, ◌≡◌, ◌≢◌, ◌∙◌, sym, ap, subst, ℕ, inl, inr, List, [], ◌∷◌, ◌++◌, map, take, drop, Option, Some, None}
 use Rattle.std.proofs.Common.{Result, Ok, Err, append_assoc, append-nil, arith, ◌+◌}
-use Rattle.std.specs.Prelude.{⊤}
+use Rattle.std.specs.Prelude.{⊤, length}
 use Rattle.std.specs.Io.KnownBytes.{Appends, Consumes, IsAtEnd, Keeps}
 use Rattle.std.proofs.KnownBytes.{Consumes-trans, Keeps-refl}
 use Rattle.ipc_model.specs.declared.fault.Fault.{Fault}
@@ -25,7 +25,6 @@ use Rattle.job_print.specs.declared.stop.PrintStop.TheVariants as stop
 use Rattle.job_print.specs.FirstRows.{batch_prefix, within, WantsMoreRows, wanted_rows}
 use Rattle.job_print.specs.Forms.{row_count, form_fault, front_text, batch_heading, line_of, tail_text}
 use Rattle.ipc_stream_read.specs.Counts.{count_up, messages_in}
-use Rattle.std.specs.Prelude.{length}
 use Rattle.job_print.specs.Output.{Output, output, AppendsText, Puts, PutFails}
 use Rattle.job_print.specs.Rows.{lines, batch_lines}
 use Rattle.job_print.specs.Streams.{PrintsTable, PrintsFirst, EndsPrinting, unopened, broken, StopsPrinting, unfit, refused, PrintsStream}

@@ -1,6 +1,5 @@
 -- Dates, times and points in time as what stands in a row.
-use Rattle.std.proofs.Common.{◌≡◌, ◌∙◌, refl, ap, ℕ, ℤ, List, [], ◌∷◌, ◌++◌}
-use Rattle.std.proofs.Common.{append_assoc, Option, Some, None}
+use Rattle.std.proofs.Common.{◌≡◌, ◌∙◌, refl, ap, ℕ, ℤ, List, [], ◌∷◌, ◌++◌, append_assoc, Option, Some, None}
 use Rattle.std.specs.Prelude.{IfSome, option_map, pos, negsuc}
 use Rattle.std.specs.Fmt.{signed_decimal}
 use Rattle.std.proofs.lemmas.Option.{same_Some}
@@ -12,7 +11,7 @@ use Rattle.ipc_text_csv.specs.RowCsv.{Appended}
 use Rattle.job_print.proofs.texts.OwnBytes.{own_moment}
 use Rattle.job_print.proofs.texts.NumberFields.{moment_as_it_stands}
 
--- a text behind a quotation mark, with another behind it, is a text of JSON
+-- a text after a quotation mark, with another after it, is a text of JSON
 pub shown_moment : (before after : List ℕ) (moment : Option (List ℕ)) (z : ℤ) → IfSome moment IsPlain
     → Some after ≡ option_map (λ m. (before ++ 34 ∷ []) ++ m) moment
     → after ++ 34 ∷ [] ≡ before ++ compact_text (text_or_number moment z)

@@ -1,7 +1,6 @@
 -- What slots hold, and their texts.
-use Rattle.std.proofs.Common.{◌≡◌, ◌∙◌, refl, sym, ap, ℕ, zero, suc, ◌+◌, ◌-◌, ◌<◌, ◌≤◌, List, [], ◌∷◌, length, map}
-use Rattle.std.proofs.Common.{Some, drop, le-leb}
-use Rattle.std.proofs.Common.{Option, None, arith, subst, replicate}
+use Rattle.std.proofs.Common.{◌≡◌, ◌∙◌, refl, sym, ap, ℕ, zero, suc, ◌+◌, ◌-◌, ◌<◌, ◌≤◌, List, [], ◌∷◌, length, map, Some, drop, le-leb}
+use Rattle.std.proofs.Common.{Option, None, arith, subst, replicate, Bor, take}
 use Rattle.std.specs.Prelude.{nat_lt, slice_get, true}
 use Rattle.std.proofs.lemmas.List.{drop_all}
 use Rattle.std.proofs.lemmas.Option.{get_or_from_slice_get, none-some}
@@ -24,7 +23,6 @@ use Rattle.ipc_column.proofs.Parts.{children_out}
 use Rattle.ipc_column.proofs.lending.Slots.{items_length}
 use Rattle.serde_json.specs.Data.{null}
 use Rattle.ipc_column.proofs.Cells.{row_length}
-use Rattle.std.proofs.Common.{Bor, take}
 use Rattle.ipc_model.specs.declared.schema.DataType.{DataType}
 use Rattle.ipc_text_csv.specs.declared.dialect.Dialect.{Dialect}
 use Rattle.ipc_text_csv.specs.RowCsv.{csv_text, value_text}
@@ -81,7 +79,7 @@ slot_csv d kind n i s h =
     ap (csv_text d kind) (get_or_from_slice_get (slot_values n) i (value_in_slot (row (child_columns n)) i s) v.Null h)
     ∙ ap (value_text d kind) (out_slot (row (child_columns n)) i s)
 
--- the JSON of a slot whose text was told
+-- the JSON of a slot whose text was found
 pub told_json : (shape : RowShape) (f : Field) (n : Nested) (i : ℕ) (bytes : Bor (List ℕ)) (len : ℕ)
     → slice_get (slot_values n) i ≡ Some (v.Text (take len bytes.now))
     → cell_json shape f (slot_value n i)
@@ -92,7 +90,7 @@ told_json shape f n i bytes len h =
     ∙ ap (value_json shape (out-Field f).kind (map (row_field shape) (out-Field f).children))
     (ap out-Value (sym (v.rolls-Text (take len bytes.now))) ∙ out-roll-Value (Value-F.Text (take len bytes.now))))
 
--- the text in CSV of a slot whose text was told
+-- the text in CSV of a slot whose text was found
 pub told_csv : (d : Dialect) (kind : DataType) (n : Nested) (i : ℕ) (bytes : Bor (List ℕ)) (len : ℕ)
     → slice_get (slot_values n) i ≡ Some (v.Text (take len bytes.now))
     → csv_text d kind (slot_value n i) ≡ value_text d kind (Value-F.Text (take len bytes.now))
@@ -191,11 +189,11 @@ repeated_at x zero i l = absurd (omega arith)
 repeated_at x (suc n) zero l = refl
 repeated_at x (suc n) (suc i) l = repeated_at x n i (omega arith)
 
--- behind so many slots there are none of them
+-- after so many slots there are none of them
 pub slots_done : (n : Nested) (from count i : ℕ) → count ≤ i → drop i (values_between n from count) ≡ []
 slots_done n from count i h =
     drop_all i (values_between n from count) (let size = items_length (slot_value n) from count in omega (arith, size, h))
 
--- behind the children of a struct it has no values
+-- after the children of a struct it has no values
 pub children_done : (n : Nested) (slot i : ℕ) → length n.children ≤ i → drop i (row (child_columns n) slot) ≡ []
 children_done n slot i h = drop_all i (row (child_columns n) slot) (let size = row_length n.body n.children slot in omega (arith, size, h))

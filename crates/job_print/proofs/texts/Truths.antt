@@ -30,7 +30,7 @@ pub truth_field : (d : Dialect) (text : List ℕ) (truth : Bool) → with_field 
 truth_field d text true = rw (all_plain d.delimiter (bool_text true) d.allowed.apart refl) refl
 truth_field d text false = rw (all_plain d.delimiter (bool_text false) d.allowed.apart refl) refl
 
--- a word that was written with what is left of five bytes behind it
+-- a word that was written with what is left of five bytes after it
 pub truth_written : (truth : Bool) (old new five : List ℕ) (at less end : ℕ) → at ≤ length old → length five ≡ 5
     → end ≡ at + length five → take end new ≡ take at old ++ five → take (length (bool_text truth)) five ≡ bool_text truth
     → less ≡ from_bool truth → take (at + 5 - less) new ≡ take at old ++ bool_text truth

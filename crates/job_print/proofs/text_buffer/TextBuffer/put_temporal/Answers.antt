@@ -1,5 +1,4 @@
-use Rattle.std.proofs.Common.{◌≡◌, ◌∙◌, ◌++◌, ap, rules, length, take, drop, Some, FitsSigned, w64}
-use Rattle.std.proofs.Common.{take-take}
+use Rattle.std.proofs.Common.{◌≡◌, ◌∙◌, ◌++◌, ap, rules, length, take, drop, Some, FitsSigned, w64, take-take}
 use Rattle.std.proofs.lemmas.List.{take-append-le}
 use Rattle.std.proofs.lemmas.Int.{to_z-of_z}
 use Rattle.job_print.proofs.text_buffer.TextBuffer.put_temporal.Goals as goal
