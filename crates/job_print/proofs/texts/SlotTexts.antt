@@ -2,6 +2,7 @@
 use Rattle.std.proofs.Common.{◌≡◌, ◌∙◌, refl, sym, ap, ℕ, zero, suc, ◌+◌, ◌-◌, ◌<◌, ◌≤◌, List, [], ◌∷◌, length, map, Some, drop, le-leb}
 use Rattle.std.proofs.Common.{Option, None, arith, subst, replicate, Bor, take}
 use Rattle.std.specs.Prelude.{nat_lt, slice_get, true}
+use Rattle.job_print.proofs.Trees.{some_same}
 use Rattle.std.proofs.lemmas.List.{drop_all}
 use Rattle.std.proofs.lemmas.Option.{get_or_from_slice_get, none-some}
 use Rattle.ipc_model.specs.declared.schema.Field.{Field, out-Field, fold_out-Field}
@@ -79,25 +80,6 @@ slot_csv d kind n i s h =
     ap (csv_text d kind) (get_or_from_slice_get (slot_values n) i (value_in_slot (row (child_columns n)) i s) v.Null h)
     ∙ ap (value_text d kind) (out_slot (row (child_columns n)) i s)
 
--- the JSON of a slot whose text was found
-pub told_json : (shape : RowShape) (f : Field) (n : Nested) (i : ℕ) (bytes : Bor (List ℕ)) (len : ℕ)
-    → slice_get (slot_values n) i ≡ Some (v.Text (take len bytes.now))
-    → cell_json shape f (slot_value n i)
-    ≡ value_json shape (out-Field f).kind (map (row_field shape) (out-Field f).children) (Value-F.Text (take len bytes.now))
-told_json shape f n i bytes len h =
-    ap (cell_json shape f) (get_or_from_slice_get (slot_values n) i (v.Text (take len bytes.now)) v.Null h)
-    ∙ (ap (λ (p : Printed). p.json (v.Text (take len bytes.now))) (fold_out-Field Printed (field_json shape) f)
-    ∙ ap (value_json shape (out-Field f).kind (map (row_field shape) (out-Field f).children))
-    (ap out-Value (sym (v.rolls-Text (take len bytes.now))) ∙ out-roll-Value (Value-F.Text (take len bytes.now))))
-
--- the text in CSV of a slot whose text was found
-pub told_csv : (d : Dialect) (kind : DataType) (n : Nested) (i : ℕ) (bytes : Bor (List ℕ)) (len : ℕ)
-    → slice_get (slot_values n) i ≡ Some (v.Text (take len bytes.now))
-    → csv_text d kind (slot_value n i) ≡ value_text d kind (Value-F.Text (take len bytes.now))
-told_csv d kind n i bytes len h =
-    ap (csv_text d kind) (get_or_from_slice_get (slot_values n) i (v.Text (take len bytes.now)) v.Null h)
-    ∙ ap (value_text d kind) (ap out-Value (sym (v.rolls-Text (take len bytes.now))) ∙ out-roll-Value (Value-F.Text (take len bytes.now)))
-
 -- a child has the slots of its column
 slots_length : (body : List ℕ) (p : ColumnRanges) → length (slot_values (nested body p)) ≡ (column_of body p).slots
 slots_length body p =
@@ -120,13 +102,6 @@ items_same f g i (suc n) h =
     let first = h i (omega arith) (omega arith) in
     let rest = items_same f g (i + 1) n (λ j a b. h j (omega arith) (omega arith)) in
     λ k. first k ∷ rest k
-
-some_same : (a b : Nested) → Some a ≡ Some b → a ≡ b
-some_same a b h = ap (λ (o : Option Nested). out o) h
-  where
-    out : Option Nested → Nested
-    out (Some x) = x
-    out None = a
 
 -- the first child of a list has its values
 list_first : (body : List ℕ) (ps : List ColumnRanges) (child : Nested) (from to : ℕ) → slice_get (map (nested body) ps) 0 ≡ Some child
