@@ -24,8 +24,7 @@ pub part_front : (options : PrintOptions) (front : List ℕ) (r : Reader) (befor
 part_front options front r before w n e empty q =
     let none = sym (within_none options.limit) in
     let line = line_of options.form r.schema.fields in
-    let missing = missing_at before w n _ _ e (length front)
-    (sym (append-nil front) ∙ (sym (append-nil (front ++ []))
+    let missing = missing_at before w n _ _ e (length front) (sym (append-nil front) ∙ (sym (append-nil (front ++ []))
     ∙ ap (λ (bs : List BatchRows). (front ++ batch_lines (batch_heading options.form) line bs) ++ []) none))
     (missing_all before w n front e empty q) in
     record {

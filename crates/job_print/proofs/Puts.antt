@@ -96,8 +96,7 @@ grows_sent : (a b : Option (List ℕ)) (bytes : List ℕ) (sent : ℕ) → Appen
 grows_sent None b bytes sent p = tt
 grows_sent (Some xs) None bytes sent p = absurd p
 grows_sent (Some xs) (Some ys) bytes sent p =
-    ap (λ (l : List ℕ). l ++ drop sent bytes) p
-    ∙ (append_assoc xs (take sent bytes) (drop sent bytes)
+    ap (λ (l : List ℕ). l ++ drop sent bytes) p ∙ (append_assoc xs (take sent bytes) (drop sent bytes)
     ∙ (ap (λ (l : List ℕ). xs ++ l) (take-append-drop sent bytes) ∙ sym (append-nil (xs ++ bytes))))
 
 -- the sink failed after a beginning of the bytes

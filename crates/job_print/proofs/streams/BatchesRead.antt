@@ -17,6 +17,7 @@ use Rattle.ipc_stream_read.specs.Stream.{batch, Run, done}
 use Rattle.job_print.specs.declared.line_buffer.PrintFault.{PrintFault}
 use Rattle.job_print.specs.declared.line_buffer.PrintFault.TheVariants.{Write}
 use Rattle.ipc_model.specs.declared.schema.Field.{Field}
+use Rattle.ipc_model.specs.declared.schema.Schema.{Schema}
 use Rattle.ipc_text_temporal.specs.declared.fault.TextFault.{TextFault}
 use Rattle.job_print.specs.declared.form.PrintOptions.{PrintOptions}
 use Rattle.job_print.specs.declared.stop.Outcome.TheVariants.{Whole, Limited, Broken, Refused as Lacking}
@@ -126,8 +127,7 @@ batches_limited options tally old now before after b reached = (
 
 -- one batch more is counted
 tally_more : (tally next : PrintCounts) (batches : List BatchRows) (rows : BatchRows) → IsTally tally batches
-    → next.batches ≡ count_up tally.batches 1 → next.rows ≡ count_up tally.rows (length rows.rows)
-    → IsTally next (batches ++ rows ∷ [])
+    → next.batches ≡ count_up tally.batches 1 → next.rows ≡ count_up tally.rows (length rows.rows) → IsTally next (batches ++ rows ∷ [])
 tally_more tally next batches rows (some, few) one all =
     let long = length-append batches (rows ∷ []) in
     let sum = row_count_last batches rows in
@@ -157,8 +157,7 @@ module _ (options : PrintOptions) (tally : PrintCounts) (old now new : Reader) (
   all_now found count is = within_more options.limit b.batches (batch_rows found) count below is
 
   text_now : (found : ReadRows) (count : ℕ) → IsCount found count
-      → batch_lines (heading options.form) line b.batches ++ (heading options.form found.1
-      ++ lines line (take count found.0.rows))
+      → batch_lines (heading options.form) line b.batches ++ (heading options.form found.1 ++ lines line (take count found.0.rows))
       ≡ batch_lines (heading options.form) line (within options.limit (b.batches ++ batch_rows found ∷ []))
   text_now found count is = batch_lines_more line (heading options.form) b.batches (batch_prefix count (batch_rows found))
       ∙ ap (batch_lines (heading options.form) line) (sym (all_now found count is))
@@ -193,11 +192,12 @@ module _ (options : PrintOptions) (tally : PrintCounts) (old now new : Reader) (
 
   -- what was put of a batch, by the fields that are in force
   same_puts : (fields : List Field) (found : ReadRows) (count : ℕ) (w : Option (List ℕ)) (n : ℕ) (k : List ℕ)
-      (r : Result (Option TextFault) PrintFault)
-      → fields ≡ old.schema.fields → PutsRows options.form fields (heading options.form found.1) (take count found.0.rows) after w n k r
+      (r : Result (Option TextFault) PrintFault) → fields ≡ new.schema.fields → NextCall now new (Ok (Some found))
+      → PutsRows options.form fields (heading options.form found.1) (take count found.0.rows) after w n k r
       → PutsRows options.form old.schema.fields (heading options.form found.1) (take count found.0.rows) after w n k r
-  same_puts fields found count w n k r is p =
-      subst (λ (fs : List Field). PutsRows options.form fs (heading options.form found.1) (take count found.0.rows) after w n k r) is p
+  same_puts fields found count w n k r is t p =
+      subst (λ (fs : List Field). PutsRows options.form fs (heading options.form found.1) (take count found.0.rows) after w n k r)
+      (is ∙ ap (λ (s : Schema). s.fields) (t.same_schema ∙ b.same)) p
 
   counted_more : (found : ReadRows) (t : NextCall now new (Ok (Some found))) (k : ℕ) → old.taken ≡ count_up 0 k
       → new.taken ≡ count_up 0 (k + length (b.x ++ t.x))
@@ -214,12 +214,11 @@ module _ (options : PrintOptions) (tally : PrintCounts) (old now new : Reader) (
   pub batches_more : (fields : List Field) (found : ReadRows) (count : ℕ) (next : PrintCounts) (w : Option (List ℕ)) (n : ℕ) (k : List ℕ)
       (last : Output) → IsCount found count → next.batches ≡ count_up tally.batches 1
       → next.rows ≡ count_up tally.rows (length found.0.rows)
-      → fields ≡ old.schema.fields → NextCall now new (Ok (Some found)) → new.failures ≡ now.failures
+      → fields ≡ new.schema.fields → NextCall now new (Ok (Some found)) → new.failures ≡ now.failures
       → PutsRows options.form fields (heading options.form found.1) (take count found.0.rows) after w n k (Ok None)
-      → Puts (output w n k) last [] → last.kept ≡ []
-      → Batches options next old new before last
+      → Puts (output w n k) last [] → last.kept ≡ [] → Batches options next old new before last
   batches_more fields found count next w n k last wants one all is t works p flushed empty =
-      let q = same_puts fields found count w n k (Ok None) is p in
+      let q = same_puts fields found count w n k (Ok None) is t p in
       let rows = heading options.form found.1 ++ lines line (take count found.0.rows) in
       record {
         x = b.x ++ t.x;
@@ -246,11 +245,11 @@ module _ (options : PrintOptions) (tally : PrintCounts) (old now new : Reader) (
 
   -- a row of the batch that came isn't printed, and those before it were
   pub batches_refused : (fields : List Field) (found : ReadRows) (count : ℕ) (w : Option (List ℕ)) (n : ℕ) (k : List ℕ) (fault : TextFault)
-      → IsCount found count → fields ≡ old.schema.fields → NextCall now new (Ok (Some found)) → new.failures ≡ now.failures
+      → IsCount found count → fields ≡ new.schema.fields → NextCall now new (Ok (Some found)) → new.failures ≡ now.failures
       → PutsRows options.form fields (heading options.form found.1) (take count found.0.rows) after w n k (Ok (Some fault))
       → PrintsBatches options [] old new before (output w n k) (Ok (Lacking fault))
   batches_refused fields found count w n k fault wants is t works p =
-      let q = same_puts fields found count w n k (Ok (Some fault)) is p in
+      let q = same_puts fields found count w n k (Ok (Some fault)) is t p in
       let size = length-take count found.0.rows in
       let less : q.0 < count = omega (arith, q.1.inside, size) in
       let fewer = take_fewer q.0 count found.0.rows (omega (arith, q.1.inside)) in
@@ -280,11 +279,11 @@ module _ (options : PrintOptions) (tally : PrintCounts) (old now new : Reader) (
 
   -- the rows of the batch that came weren't all printed
   pub batches_cut : (fields : List Field) (found : ReadRows) (count : ℕ) (w : Option (List ℕ)) (n : ℕ) (k : List ℕ) (e : PrintFault)
-      → IsCount found count → fields ≡ old.schema.fields → NextCall now new (Ok (Some found)) → new.failures ≡ now.failures
+      → IsCount found count → fields ≡ new.schema.fields → NextCall now new (Ok (Some found)) → new.failures ≡ now.failures
       → PutsRows options.form fields (heading options.form found.1) (take count found.0.rows) after w n k (Err e)
       → PrintsPart options [] old new before w n e
   batches_cut fields found count w n k e wants is t works p =
-      let q = same_puts fields found count w n k (Err e) is p in
+      let q = same_puts fields found count w n k (Err e) is t p in
       let rows = heading options.form found.1 ++ lines line (take count found.0.rows) in
       let missing = missing_at before w n _ _ e (length rows) (text_now found count wants ∙ sym (append-nil _))
       (missing_then before after w n (batch_lines (heading options.form) line b.batches) rows e (length rows) puts_before
@@ -315,10 +314,9 @@ module _ (options : PrintOptions) (tally : PrintCounts) (old now new : Reader) (
 
   -- they were, and what is kept was not sent
   pub batches_unsent : (fields : List Field) (found : ReadRows) (count : ℕ) (w v : Option (List ℕ)) (n m : ℕ) (k : List ℕ)
-      → IsCount found count → fields ≡ old.schema.fields → NextCall now new (Ok (Some found)) → new.failures ≡ now.failures
+      → IsCount found count → fields ≡ new.schema.fields → NextCall now new (Ok (Some found)) → new.failures ≡ now.failures
       → PutsRows options.form fields (heading options.form found.1) (take count found.0.rows) after w n k (Ok None)
-      → PutFails (output w n k) v m [] Write
-      → PrintsPart options [] old new before v m Write
+      → PutFails (output w n k) v m [] Write → PrintsPart options [] old new before v m Write
   batches_unsent fields found count w v n m k wants is t works p q =
       let rows = heading options.form found.1 ++ lines (line_of options.form fields) (take count found.0.rows) in
       batches_cut fields found count v m [] Write wants is t works
@@ -329,8 +327,7 @@ module _ (options : PrintOptions) (tally : PrintCounts) (old now new : Reader) (
       (messages_in b.run + messages_in h.run)
   behind y r h =
       subst (λ es. ReadsCounted old.limits (Some (in_force_of old)) (b.x ++ y) new.remaining es r (messages_in b.run + messages_in h.run))
-      (append-nil (map batch b.batches))
-      (reads_then _ _ b.x y new.remaining (map batch b.batches) [] r _ _ (b.run, refl)
+      (append-nil (map batch b.batches)) (reads_then _ _ b.x y new.remaining (map batch b.batches) [] r _ _ (b.run, refl)
       (subst (λ limits. ReadsCounted limits (Some (in_force_of now)) y new.remaining [] r (messages_in h.run)) b.same_limits
       (ends_counted now new y r h)))
 

@@ -99,11 +99,9 @@ module _ (options : PrintOptions) (front : List ℕ) (old new : Reader) where
   behind_front before mid after (Ok (Lacking f)) p q =
       let h = q.0 in (
         moved_stop [] mid after before after f h
-            (put_at before after _ _
-            (sym (append_assoc front (batch_lines (batch_heading options.form) line_in h.batches)
+            (put_at before after _ _ (sym (append_assoc front (batch_lines (batch_heading options.form) line_in h.batches)
             (batch_heading options.form h.last.pairs ++ lines line_in (take h.count h.last.rows))))
-            (puts_then before mid after front _ p h.puts))
-            h.few,
+            (puts_then before mid after front _ p h.puts)) h.few,
         q.1,
       )
   behind_front before mid after (Err e) p q = by_last q.last
@@ -237,8 +235,7 @@ module _ (options : PrintOptions) (front : List ℕ) (old new : Reader) where
     all_rows : (batches : List BatchRows) (rows : BatchRows) (count : ℕ)
         → front ++ batch_lines (batch_heading options.form) line_in (batches ++ rows ∷ [])
         ≡ ((front ++ batch_lines (batch_heading options.form) line_in batches)
-        ++ (batch_heading options.form rows.pairs ++ lines line_in (take count rows.rows)))
-        ++ lines line_in (drop count rows.rows)
+        ++ (batch_heading options.form rows.pairs ++ lines line_in (take count rows.rows))) ++ lines line_in (drop count rows.rows)
     all_rows batches rows count =
         let texts = batch_lines (batch_heading options.form) line_in batches in
         let head = batch_heading options.form rows.pairs in
@@ -304,11 +301,9 @@ module _ (options : PrintOptions) (front : List ℕ) (old new : Reader) where
         let unsent = lines line_in (drop h.count cut_last.rows) in
         let cut = puts_not_then mid last w n [] [] Write tail q in
         let text = front ++ batch_lines (batch_heading options.form) line_in h.batches in
-        let first = missing_at before w n _ _ Write (length mid.kept)
-        (append-nil _ ∙ ap (λ (t : List ℕ). text ++ t) same)
+        let first = missing_at before w n _ _ Write (length mid.kept) (append-nil _ ∙ ap (λ (t : List ℕ). text ++ t) same)
         (missing_then before mid w n _ [] Write (length mid.kept) h.puts (cut, omega (arith, cut.few, length-append mid.kept []))) in
-        let missing = missing_at before w n _ _ Write (length mid.kept + length unsent)
-        (sym (all_rows h.batches cut_last h.count)
+        let missing = missing_at before w n _ _ Write (length mid.kept + length unsent) (sym (all_rows h.batches cut_last h.count)
         ∙ (ap (λ (bs : List BatchRows). front ++ batch_lines (batch_heading options.form) line_in bs) (sym shown) ∙ sym (append-nil _)))
         (missing_more before w n _ unsent Write (length mid.kept) first) in
         record {

@@ -43,8 +43,7 @@ TellsRead old new (Err (stop.Text fault)) = ⊤
 
 -- why reading broke off, as what was taken: a fault, or an end without the mark that is required
 broken_taken : {limits : Limits} → (options : PrintOptions) (old new w0 w1 : Option (List ℕ)) (fault : Fault) (n : ℕ)
-    → EndsPrinting options limits old new w0 w1 fault n
-    → TakesTable limits old new (Err fault)
+    → EndsPrinting options limits old new w0 w1 fault n → TakesTable limits old new (Err fault)
     ⊎ ((u : Table) × TakesTable limits old new (Ok (u, Closed)) × IsTrue options.require_mark)
 broken_taken options old new w0 w1 fault n (unopened x bytes reads number kept) =
     inl (record { x = x; bytes = bytes; gives = ([], reads) })
@@ -62,8 +61,7 @@ broken_taken {limits} options old new w0 w1 fault n (broken x y u answer bytes o
 
 -- a table that was printed, as what was taken
 printed_taken : {limits : Limits} → (options : PrintOptions) (old new w0 w1 : Option (List ℕ))
-    (p : PrintsTable options limits old new w0 w1)
-    → TakesTable limits old new (Ok (p.table, p.end))
+    (p : PrintsTable options limits old new w0 w1) → TakesTable limits old new (Ok (p.table, p.end))
 printed_taken options old new w0 w1 p = record { x = p.x; bytes = p.bytes; gives = reads_of p.x new p.table p.end p.denotes p.closed }
 
 -- a row of a batch below the limit that has no text is one of the table's
@@ -137,8 +135,7 @@ module _ {limits : Limits} (options : PrintOptions) (old new w0 w1 : Option (Lis
       first_text options (x ++ rest) t (holds_marked x rest t d) new w0 w1 Mark (length x)
       (subst (λ (o : Option (List ℕ)). PrintsFirst options limits o new w0 w1) is p)
   printed_marked (Ok done) tells (inl p) x rest t is d =
-      let same = answers_marked old new 0 0 (Ok (p.table, p.end))
-      (printed_taken options old new w0 w1 p) refl (refl, refl) x rest t is d in
+      let same = answers_marked old new 0 0 (Ok (p.table, p.end)) (printed_taken options old new w0 w1 p) refl (refl, refl) x rest t is d in
       let here = subst (λ (o : Option (List ℕ)). Consumes o new p.x) is p.bytes in
       let left = left_of (x ++ rest) new p.x here in
       let read : Denotes limits p.x t Mark =
@@ -146,12 +143,10 @@ module _ {limits : Limits} (options : PrintOptions) (old new w0 w1 : Option (Lis
       text_of options w0 w1 p.table t p.end Mark (length p.x) (length x) same.0 same.1
       (ap length (sym (same_marked x rest p.x left.0 t d read left.1))) (inl (p.below, p.text))
   printed_marked (Err (stop.Read fault n)) tells p x rest t is d =
-      ⊎_elim (λ takes. answers_marked old new g0 g1 (Err fault) takes none tells x rest t is d)
-      (λ takes.
+      ⊎_elim (λ takes. answers_marked old new g0 g1 (Err fault) takes none tells x rest t is d) (λ takes.
       let same : Closed ≡ Mark =
       (answers_marked old new 0 0 (Ok (takes.0, Closed)) takes.1 refl (refl, refl) x rest t is d).1 in
-      absurd (cc))
-      (broken_taken options old new w0 w1 fault n p)
+      absurd (cc)) (broken_taken options old new w0 w1 fault n p)
   printed_marked (Err (stop.Text fault)) tells p x rest t is d =
       lacking options (x ++ rest) t (holds_marked x rest t d) new w0 w1 fault
       (subst (λ (o : Option (List ℕ)). StopsPrinting options limits o new w0 w1 fault) is p)
@@ -164,17 +159,14 @@ module _ {limits : Limits} (options : PrintOptions) (old new w0 w1 : Option (Lis
       first_text options x t (holds_closed x t d) new w0 w1 Closed (length x)
       (subst (λ (o : Option (List ℕ)). PrintsFirst options limits o new w0 w1) is p)
   printed_closed (Ok done) tells (inl p) x t free is d =
-      let same = answers_closed old new 0 0 (Ok (p.table, p.end))
-      (printed_taken options old new w0 w1 p) refl (refl, refl) x t is d in
+      let same = answers_closed old new 0 0 (Ok (p.table, p.end)) (printed_taken options old new w0 w1 p) refl (refl, refl) x t is d in
       let here = subst (λ (o : Option (List ℕ)). Consumes o new p.x) is p.bytes in
       text_of options w0 w1 p.table t p.end Closed (length p.x) (length x) same.0 same.1
       (ap length (same_closed x p.x new here (p.closed same.1))) (inl (p.below, p.text))
   printed_closed (Err (stop.Read fault n)) tells p x t free is d =
-      ⊎_elim (λ takes. answers_closed old new g0 g1 (Err fault) takes none tells x t is d)
-      (λ takes.
+      ⊎_elim (λ takes. answers_closed old new g0 g1 (Err fault) takes none tells x t is d) (λ takes.
       let bad : false ≡ true = sym free ∙ takes.2 in
-      absurd (cc))
-      (broken_taken options old new w0 w1 fault n p)
+      absurd (cc)) (broken_taken options old new w0 w1 fault n p)
   printed_closed (Err (stop.Text fault)) tells p x t free is d =
       lacking options x t (holds_closed x t d) new w0 w1 fault
       (subst (λ (o : Option (List ℕ)). StopsPrinting options limits o new w0 w1 fault) is p)
@@ -182,8 +174,7 @@ module _ {limits : Limits} (options : PrintOptions) (old new w0 w1 : Option (Lis
 
 -- what the answer to a stream whose schema was read says of how often its source failed
 pub stream_tells : (options : PrintOptions) (s t : Reader) (before after : Output) (r : Result ⊤ PrintStop)
-    → PrintsStream options s t before after r
-    → TellsRead s.failures t.failures r
+    → PrintsStream options s t before after r → TellsRead s.failures t.failures r
 stream_tells options s t before after (Ok done) p = tt
 stream_tells options s t before after (Err (stop.Read fault n)) p = p.3
 stream_tells options s t before after (Err (stop.Write fault)) p = tt

@@ -176,8 +176,7 @@ module _ {limits : Limits} (options : PrintOptions) (old : Option (List ℕ)) (s
         fits = fits;
         rows = r.have;
         text = subst (λ (n : ℕ). Appends w0 w1 (stream_text options.form s.schema r.batches ++ tail_text options.form end n r.batches))
-            taken
-            (grows_appends w0 w1 _ (grows_then w0 all.middle.written w1 [] all.middle.kept [] _ _ r.puts.bytes all.tail.bytes));
+            taken (grows_appends w0 w1 _ (grows_then w0 all.middle.written w1 [] all.middle.kept [] _ _ r.puts.bytes all.tail.bytes));
       }
   prints_rows (Err (stop.Read fault n)) (answer, r, ends, tells, number) =
       let after = output w1 n1 [] in
@@ -234,8 +233,7 @@ broken_part options old new w0 w1 fault n (broken x y t answer bytes opens behin
 all_rows : (form : Form) (t : Table) (rows : BatchRows) (count : ℕ)
     → (stream_text form t.schema t.batches
     ++ (batch_heading form rows.pairs ++ lines (line_of form t.schema.fields) (take count rows.rows)))
-    ++ lines (line_of form t.schema.fields) (drop count rows.rows)
-    ≡ stream_text form t.schema (t.batches ++ rows ∷ [])
+    ++ lines (line_of form t.schema.fields) (drop count rows.rows) ≡ stream_text form t.schema (t.batches ++ rows ∷ [])
 all_rows form t rows count =
     let line = line_of form t.schema.fields in
     let front = front_text form t.schema in
@@ -269,8 +267,7 @@ stopped_part {limits} options old new w0 w1 fault (refused x t rows count σ byt
     (subst (λ (z : List ℕ). AppendsText w0 [] w1 rest z)
     (all_rows form t first count ∙ (ap (stream_text form t.schema) (sym shown) ∙ sym (append-nil _)))
     (grows_more w0 w1 [] [] (start ++ (batch_heading form rows.pairs ++ lines line (take count first.rows))) rest
-    (appends_grows w0 w1 _ here)))
-    (omega (
+    (appends_grows w0 w1 _ here))) (omega (
       arith,
       ap length (head_rest line (batch_heading form rows.pairs) first.rows count),
       length-append (batch_heading form rows.pairs ++ lines line (take count first.rows)) rest,

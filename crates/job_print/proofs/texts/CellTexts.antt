@@ -42,8 +42,7 @@ value_written : (out name value rest new whole : List ℕ) (later : Bool) → ou
 value_written out name value rest new whole later before put = rw put (simp append_assoc before)
 
 each_more : (shape : RowShape) (fs : List Field) (vs : List Value) (i : ℕ) (f : Field) (v : Value) (later : Bool) → i < length fs
-    → f ≡ get_or fs i f → i < length vs → v ≡ get_or vs i v
-    → text_behind shape later (map (row_field shape) (drop i fs)) (drop i vs)
+    → f ≡ get_or fs i f → i < length vs → v ≡ get_or vs i v → text_behind shape later (map (row_field shape) (drop i fs)) (drop i vs)
     ≡ comma_if later ++ (name_text shape (row_field shape f).name
     ++ (compact_text (cell_json shape f v) ++ text_behind shape true (map (row_field shape) (drop (i + 1) fs)) (drop (i + 1) vs)))
 each_more shape fs vs i f v later lt e less g =
@@ -68,8 +67,7 @@ items_more json vs i v later less g = rw (drop-cons vs i v) (rw (← g, add-one)
 -- where the text of a list's value was written after those before it, those after it lead to the same list
 pub item_written : (json : Value → Data) (vs : List Value) (i : ℕ) (v : Value) (later : Bool) (out new whole : List ℕ)
     → slice_get vs i ≡ Some v → out ++ items_text later (items_json json (drop i vs)) ≡ whole
-    → new ≡ out ++ comma_if later ++ compact_text (json v)
-    → new ++ items_text true (items_json json (drop (i + 1) vs)) ≡ whole
+    → new ≡ out ++ comma_if later ++ compact_text (json v) → new ++ items_text true (items_json json (drop (i + 1) vs)) ≡ whole
 item_written json vs i v later out new whole at before put =
     let more = items_text true (items_json json (drop (i + 1) vs)) in
     let step = items_more json vs i v later (got_inside vs i v at) (sym (get_or_from_slice_get vs i v v at)) in

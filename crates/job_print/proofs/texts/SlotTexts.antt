@@ -65,8 +65,7 @@ json_shown shape f child_columns i s =
 
 -- the JSON of a slot, by what it was found to hold
 pub slot_json : (shape : RowShape) (f : Field) (n : Nested) (i : ℕ) (s : Slot)
-    → slice_get (slot_values n) i ≡ Some (value_in_slot (row (child_columns n)) i s)
-    → cell_json shape f (slot_value n i)
+    → slice_get (slot_values n) i ≡ Some (value_in_slot (row (child_columns n)) i s) → cell_json shape f (slot_value n i)
     ≡ value_json shape (out-Field f).kind (map (row_field shape) (out-Field f).children) (open_slot (row (child_columns n)) i s)
 slot_json shape f n i s h =
     ap (cell_json shape f) (get_or_from_slice_get (slot_values n) i (value_in_slot (row (child_columns n)) i s) v.Null h)

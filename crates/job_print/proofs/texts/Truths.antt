@@ -16,8 +16,7 @@ pub front_written : (old new long : List ℕ) (at n : ℕ) → at ≤ length old
 front_written old new long at n inside less is =
     let front = take at old in
     let size : length front ≡ at = length-take-le at old inside in
-    sym (take-take (at + n) (at + length long) new (omega (arith, less)))
-    ∙ (ap (take (at + n)) is
+    sym (take-take (at + n) (at + length long) new (omega (arith, less))) ∙ (ap (take (at + n)) is
     ∙ (ap (λ (k : ℕ). take (k + n) (front ++ long)) (sym size) ∙ take-append-add front long n))
 
 -- a word of JSON

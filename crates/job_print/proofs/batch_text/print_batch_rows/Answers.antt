@@ -42,8 +42,7 @@ returns-in_err-send_full-in-None g c =
     ∙ sym (get_or-take c.args.count c.args.batch.now.rows c.loop-row.row [] (omega (arith, size))) in
     let h = rw (c.in-None.is, c.deref.ensures.value, same) at c.in_ok-put_line.ensures in
     rw (p.1, p.2) (rows_cut (line_of c.args.form c.args.fields.now) (take c.args.count c.args.batch.now.rows) _ _ _ _ c.loop-row.row _
-    (omega (arith, size)) c.loop-row.invariant.put
-    (not_at _ _ _ _ _ _ (append-nil _)
+    (omega (arith, size)) c.loop-row.invariant.put (not_at _ _ _ _ _ _ (append-nil _)
     (puts_not_then _ _ _ _ _ [] _ (puts_kept _ _ _ _ _ h.1) c.in_err-send_full-in-None.ensures)))
 
 pub loop-row-init : goal.loop-row-init
@@ -62,8 +61,7 @@ loop-row-preserved g c =
           (sym (take_more rows c.loop-row.row [] (omega (arith, size))))
           (all_more (HasLine c.args.form c.args.fields.now) (take c.loop-row.row rows) row c.loop-row.invariant.have h.0);
       put = rows_next (line_of c.args.form c.args.fields.now) rows _ _ _ c.loop-row.row (omega (arith, size)) c.loop-row.invariant.put
-          (put_at _ _ _ _ (append-nil _)
-          (puts_then _ _ _ _ [] (puts_kept _ _ _ _ _ h.1) c.in_ok-send_full-in-None.ensures));
+          (put_at _ _ _ _ (append-nil _) (puts_then _ _ _ _ [] (puts_kept _ _ _ _ _ h.1) c.in_ok-send_full-in-None.ensures));
     }
 
 pub returns-in-Some : goal.returns-in-Some

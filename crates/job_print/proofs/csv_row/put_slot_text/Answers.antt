@@ -1,4 +1,4 @@
-use Rattle.std.proofs.Common.{rules, ap, inr, refl, Some, FitsSigned, w64}
+use Rattle.std.proofs.Common.{rules, ap, inr, refl, Some, w64}
 use Rattle.std.proofs.lemmas.Int.{to_z-of_z}
 use Rattle.ipc_column.specs.declared.slot_view.Slot.TheVariants as slot
 use Rattle.job_print.proofs.texts.SlotTexts.{slot_csv}
@@ -15,9 +15,8 @@ returns-in-Bool c =
 
 pub returns-in-Int : goal.returns-in-Int
 returns-in-Int c =
-    let fits : FitsSigned w64 c.in-Int.number = search rules in
     rw (slot_csv _ _ c.args.tree.now _ (slot.Int c.in-Int.number) (rw c.in-Int.is at c.requires.value))
-    (rw (to_z-of_z w64 c.in-Int.number fits) at c.put_int.ensures c.args.dialect.now)
+    (rw (to_z-of_z w64 c.in-Int.number (search rules)) at c.put_int.ensures c.args.dialect.now)
 
 pub returns-in-UInt : goal.returns-in-UInt
 returns-in-UInt c =

@@ -1,4 +1,4 @@
-use Rattle.std.proofs.Common.{rules, arith, ◌+◌, FitsSigned, w64}
+use Rattle.std.proofs.Common.{rules, arith, ◌+◌, w64}
 use Rattle.std.proofs.lemmas.Int.{to_z-of_z}
 use Rattle.ipc_column.specs.declared.slot_view.Slot.TheVariants as slot
 use Rattle.ipc_column.proofs.lending.Slots.{items_at}
@@ -21,9 +21,8 @@ put_slot-returns-in-Bool t c =
 
 pub put_slot-returns-in-Int : goal.put_slot-returns-in-Int
 put_slot-returns-in-Int t c =
-    let fits : FitsSigned w64 c.in-Int.number = search rules in
     rw (slot_json _ _ c.args.column.now _ (slot.Int c.in-Int.number) (rw c.in-Int.is at c.at.ensures.value))
-    (rw (to_z-of_z w64 c.in-Int.number fits) at c.put_int.ensures)
+    (rw (to_z-of_z w64 c.in-Int.number (search rules)) at c.put_int.ensures)
 
 pub put_slot-returns-in-UInt : goal.put_slot-returns-in-UInt
 put_slot-returns-in-UInt t c =
@@ -53,8 +52,7 @@ put_slot-returns-in-Struct t c =
 pub put_slots-loop-number-preserved : goal.put_slots-loop-number-preserved
 put_slots-loop-number-preserved t c = record {
   text = item_written (cell_json c.args.shape c.args.field.now) _ c.loop-number.number
-      (slot_value c.args.column.now (c.args.from + c.loop-number.number))
-      c.loop-number.later _ _ _
+      (slot_value c.args.column.now (c.args.from + c.loop-number.number)) c.loop-number.later _ _ _
       (items_at (slot_value c.args.column.now) c.args.from c.args.count c.loop-number.number (omega arith)) c.loop-number.invariant.text
       (rw c.in_ok-start_item.ensures.text at c.in_ok-put_slot.ensures);
 }

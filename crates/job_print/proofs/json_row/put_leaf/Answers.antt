@@ -1,4 +1,4 @@
-use Rattle.std.proofs.Common.{rules, FitsSigned, w64}
+use Rattle.std.proofs.Common.{rules, w64}
 use Rattle.std.proofs.lemmas.Int.{to_z-of_z}
 use Rattle.ipc_column.specs.declared.slot_view.Slot.TheVariants as slot
 use Rattle.job_print.proofs.texts.SlotTexts.{slot_json}
@@ -6,9 +6,8 @@ use Rattle.job_print.proofs.json_row.put_leaf.Goals as goal
 
 pub returns-in-Int : goal.returns-in-Int
 returns-in-Int c =
-    let fits : FitsSigned w64 c.in-Int.number = search rules in
     rw (slot_json _ _ c.args.column.now _ (slot.Int c.in-Int.number) (rw c.in-Int.is at c.requires.value))
-    (rw (to_z-of_z w64 c.in-Int.number fits) at c.put_int.ensures)
+    (rw (to_z-of_z w64 c.in-Int.number (search rules)) at c.put_int.ensures)
 
 pub returns-in-Bool : goal.returns-in-Bool
 returns-in-Bool c =
