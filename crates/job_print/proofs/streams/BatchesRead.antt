@@ -29,10 +29,11 @@ use Rattle.ipc_stream_read.specs.Decoding.{ReportsLastEvent}
 use Rattle.job_print.proofs.streams.Shortest.{last_shortest, none_shorter}
 use Rattle.job_print.specs.Streams.{AreShortest, IsTally, PrintsRows, PrintsPart, PrintsBatches, PutsRows}
 use Rattle.ipc_stream_read.specs.Ends.{as_required}
-use Rattle.job_print.proofs.streams.FirstRows.{within_none, within_all, within_more, wanted_more, wanted_none, wanted_within, below_refused}
+use Rattle.job_print.proofs.streams.FirstRows.{within_none, within_all, within_more, wanted_more, wanted_none, below_refused}
 use Rattle.job_print.proofs.streams.FirstRows.{refuses_all, row_count_last, take_fewer}
 use Rattle.job_print.proofs.Puts.{puts_then, puts_not_then, puts_none, missing_all, missing_at, missing_then}
 use Rattle.job_print.proofs.Shown.{all_more}
+use Rattle.job_print.proofs.FrontPuts.{part_read}
 use Rattle.job_print.proofs.Lines.{put_at, not_at}
 use Rattle.job_print.proofs.streams.Messages.{Came, Counted, ReadsCounted, came, counted_then, broke, ended, ends_counted, gave, reads_then}
 use Rattle.job_print.proofs.texts.Texts.{batch_lines_more, last_lines_more}
@@ -288,29 +289,15 @@ module _ (options : PrintOptions) (tally : PrintCounts) (old now new : Reader) (
       let missing = missing_at before w n _ _ e (length rows) (text_now found count wants ∙ sym (append-nil _))
       (missing_then before after w n (batch_lines (heading options.form) line b.batches) rows e (length rows) puts_before
       (missing_all after w n rows e b.sent q)) in
-      record {
-        x = b.x ++ t.x;
-        batches = b.batches ++ batch_rows found ∷ [];
-        bytes = Consumes-trans old.remaining now.remaining new.remaining b.x t.x b.bytes t.bytes;
-        rest = [];
-        whole = b.x ++ t.x;
-        joined = sym (append-nil (b.x ++ t.x));
-        state = Some (in_force_of new);
-        run = (more_run found t).0;
-        tail = [];
-        inside = wanted_within options.limit _ (wanted_more options.limit b.batches (batch_rows found) below);
-        ends = inl refl;
-        puts = missing.0;
-        few = omega (
-          arith,
-          missing.1,
-          ap (λ (bs : List BatchRows). length (last_lines [] (heading options.form) line bs)) (all_now found count wants),
-          ap length (last_lines_more line (heading options.form) [] b.batches (batch_prefix count (batch_rows found))),
-          length-append (last_lines [] (heading options.form) line (within options.limit (b.batches ++ batch_rows found ∷ []))) [],
-        );
-        last = inl refl;
-        works = λ other z. works ∙ (b.counts ∙ z);
-      }
+      part_read options [] old new before w n e (b.x ++ t.x) (b.batches ++ batch_rows found ∷ []) (Some (in_force_of new))
+      (Consumes-trans old.remaining now.remaining new.remaining b.x t.x b.bytes t.bytes) (more_run found t).0
+      (wanted_more options.limit b.batches (batch_rows found) below) missing.0
+      (omega (
+        arith,
+        missing.1,
+        ap (λ (bs : List BatchRows). length (last_lines [] (heading options.form) line bs)) (all_now found count wants),
+        ap length (last_lines_more line (heading options.form) [] b.batches (batch_prefix count (batch_rows found))),
+      )) (λ other z. works ∙ (b.counts ∙ z))
 
   -- they were, and what is kept was not sent
   pub batches_unsent : (fields : List Field) (found : ReadRows) (count : ℕ) (w v : Option (List ℕ)) (n m : ℕ) (k : List ℕ)

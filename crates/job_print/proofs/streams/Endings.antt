@@ -20,9 +20,10 @@ use Rattle.job_print.specs.Rows.{lines, batch_lines, last_lines}
 use Rattle.std.proofs.lemmas.List.{nil_from_length}
 use Rattle.job_print.specs.Streams.{AreLast, IsReadToEnd, IsTally, PrintsAll, PrintsBatches, PrintsLimited, PrintsPart, PrintsRows}
 use Rattle.job_print.specs.Streams.{StopsAtRow, outcome_tail}
-use Rattle.job_print.proofs.streams.FirstRows.{below_less, below_within, refused_inside, take_fewer, wanted_more, wanted_within}
+use Rattle.job_print.proofs.streams.FirstRows.{below_less, below_within, refused_inside, take_fewer, wanted_more}
 use Rattle.job_print.proofs.streams.FirstRows.{within_all, within_more}
 use Rattle.job_print.proofs.Puts.{puts_then, puts_not_then, missing_all, missing_at, missing_more, missing_then}
+use Rattle.job_print.proofs.FrontPuts.{part_read}
 use Rattle.job_print.proofs.Lines.{put_at, not_at}
 use Rattle.job_print.proofs.texts.Texts.{batch_lines_more, head_rest, last_lines_front, last_lines_more}
 use Rattle.ipc_stream_read.specs.Counts.{count_up}
@@ -269,23 +270,8 @@ module _ (options : PrintOptions) (front : List ℕ) (old new : Reader) where
         let missing = missing_at before w n _ _ Write 0 refl
         (missing_then before mid w n (front ++ batch_lines (batch_heading options.form) line_in shown) [] Write 0 h.puts
         (missing_all mid w n [] Write h.sent cut)) in
-        record {
-          x = h.x;
-          batches = h.batches;
-          bytes = h.bytes;
-          rest = [];
-          whole = h.x;
-          joined = sym (append-nil h.x);
-          state = h.state;
-          run = h.run;
-          tail = [];
-          inside = wanted_within options.limit h.batches h.wanted;
-          ends = inl refl;
-          puts = missing.0;
-          few = omega (arith, missing.1);
-          last = inl refl;
-          works = λ other. absurd (other refl);
-        }
+        part_read options front old new before w n Write h.x h.batches h.state h.bytes h.run h.wanted missing.0 (omega (arith, missing.1))
+        (λ other. absurd (other refl))
     unflushed (Broken f) last w n p tail q = rows_unflushed p.0 w n p.1 (puts_not_then mid last w n [] [] Write tail q)
     unflushed (Lacking f) last w n p tail q =
         let h = p.0 in
@@ -306,30 +292,15 @@ module _ (options : PrintOptions) (front : List ℕ) (old new : Reader) where
         let missing = missing_at before w n _ _ Write (length mid.kept + length unsent) (sym (all_rows h.batches cut_last h.count)
         ∙ (ap (λ (bs : List BatchRows). front ++ batch_lines (batch_heading options.form) line_in bs) (sym shown) ∙ sym (append-nil _)))
         (missing_more before w n _ unsent Write (length mid.kept) first) in
-        record {
-          x = h.x;
-          batches = h.batches ++ h.last ∷ [];
-          bytes = h.bytes;
-          rest = [];
-          whole = h.x;
-          joined = sym (append-nil h.x);
-          state = h.state;
-          run = h.run;
-          tail = [];
-          inside = wanted_within options.limit _ (wanted_more options.limit h.batches h.last below);
-          ends = inl refl;
-          puts = missing.0;
-          few = omega (
-            arith,
-            missing.1,
-            h.few,
-            ap length same,
-            length-append (batch_heading options.form h.last.pairs ++ lines line_in (take h.count cut_last.rows)) unsent,
-            ap length (head_rest line_in (batch_heading options.form h.last.pairs) cut_last.rows h.count),
-            ap length (last_lines_more line_in (batch_heading options.form) front h.batches cut_last),
-            ap (λ (bs : List BatchRows). length (last_lines front (batch_heading options.form) line_in bs)) shown,
-            length-append (last_lines front (batch_heading options.form) line_in (within options.limit (h.batches ++ h.last ∷ []))) [],
-          );
-          last = inl refl;
-          works = λ other. absurd (other refl);
-        }
+        part_read options front old new before w n Write h.x (h.batches ++ h.last ∷ []) h.state h.bytes h.run
+        (wanted_more options.limit h.batches h.last below) missing.0
+        (omega (
+          arith,
+          missing.1,
+          h.few,
+          ap length same,
+          length-append (batch_heading options.form h.last.pairs ++ lines line_in (take h.count cut_last.rows)) unsent,
+          ap length (head_rest line_in (batch_heading options.form h.last.pairs) cut_last.rows h.count),
+          ap length (last_lines_more line_in (batch_heading options.form) front h.batches cut_last),
+          ap (λ (bs : List BatchRows). length (last_lines front (batch_heading options.form) line_in bs)) shown,
+        )) (λ other. absurd (other refl))

@@ -99,6 +99,3 @@ pub returns-in_err-flush-2-clause-reports : goal.returns-in_err-flush-2-clause-r
 returns-in_err-flush-2-clause-reports g c = λ limits start o.
     let p = err_from_is_err_and c.from_residual-in_err-flush-2.result c.from_residual-in_err-flush-2.ensures.1 in
     rw p.1 (outcome_some start _ _ _ c.in_ok-outcome.outcome (c.in_ok-outcome.ensures.reports limits start o))
-
-pub returns-clause-reports : goal.returns-clause-reports
-returns-clause-reports g c = λ limits start o. c.in_ok-outcome.ensures.reports limits start o
