@@ -17,7 +17,7 @@ use Rattle.std.specs.Prelude.{slice_index_or}
 use Rattle.std.proofs.lemmas.List.{take_rest}
 use Rattle.job_print.specs.Rows.{lines}
 
--- the columns behind the first, and their fields: where its cell was appended, the cells of these lead to the same text or fault
+-- the columns after the first, and their fields: where its cell was appended, the cells of these lead to the same text or fault
 pub record IsMore (d : Dialect) (fs : List Field) (cs : List (List Value)) (r i : ℕ) (o2 : List ℕ) (wanted : Result (List ℕ) TextFault) :
     Type 0 where
   pub columns : length (take (length cs - 1) (drop 1 cs)) ≡ length (take (length fs - 1) (drop 1 fs))
@@ -27,8 +27,7 @@ pub record IsMore (d : Dialect) (fs : List Field) (cs : List (List Value)) (r i 
       (each_text d (take (length fs - 1) (drop 1 fs)) (row_at (take (length cs - 1) (drop 1 cs)) r))) ≡ wanted
 
 pub first_appended : (d : Dialect) (fs : List Field) (cs : List (List Value)) (r : ℕ) (f : Field) (values : List Value) (value : Value) (i
-    : ℕ)
-    (out o1 o2 : List ℕ) (wanted : Result (List ℕ) TextFault) → 0 < length fs → 0 < length cs → length cs ≡ length fs
+    : ℕ) (out o1 o2 : List ℕ) (wanted : Result (List ℕ) TextFault) → 0 < length fs → 0 < length cs → length cs ≡ length fs
     → HaveRow cs r → f ≡ get_or fs 0 f → values ≡ get_or cs 0 values → value ≡ slice_index_or values r v.Null
     → with_fields d.delimiter i out (all_texts i (each_text d fs (row_at cs r))) ≡ wanted
     → o1 ≡ out ++ next_sep (writer d.delimiter) i → Appended d.delimiter o1 (csv_text d (out-Field f).kind value) o2
@@ -41,8 +40,7 @@ first_appended d (g ∷ gs) (w ∷ ws) r f values value i out o1 o2 wanted some 
     let report : Appended d.delimiter o1 (csv_text d (out-Field g).kind (slice_index_or w r v.Null)) o2 = rw (is, held, at) at put in
     let more =
     field_more d.delimiter i out o1 o2 (csv_text d (out-Field g).kind (slice_index_or w r v.Null)) (each_text d gs (row_at ws r)) comma
-    report
-    ∙ before in
+    report ∙ before in
     record {
       columns = rw (take_rest (w ∷ ws) 1, take_rest (g ∷ gs) 1) (omega (arith, same));
       row = rw (take_rest (w ∷ ws) 1) have.1;

@@ -1,24 +1,56 @@
 -- The front of a text, before the rows of batches.
 use Rattle.ipc_model.specs.declared.table.BatchRows.{BatchRows}
-use Rattle.std.proofs.Common.{◌≡◌, ◌∙◌, refl, sym, ap, subst, ℕ, List, [], ◌++◌, Option, Some}
+use Rattle.std.proofs.Common.{◌≡◌, ◌∙◌, refl, sym, ap, subst, ℕ, List, [], ◌++◌, Option, Some, length, inl}
 use Rattle.std.proofs.Common.{Result, Ok, Err, append-nil, length-append, arith}
 use Rattle.std.proofs.KnownBytes.{Consumes-nil}
 use Rattle.ipc_stream_read.specs.Reader.{Reader, in_force_of}
-use Rattle.ipc_stream_read.specs.Stream.{done}
+use Rattle.ipc_stream_read.specs.Stream.{State, Run, batch, done}
+use Rattle.std.specs.Io.KnownBytes.{Consumes}
 use Rattle.job_print.specs.declared.line_buffer.PrintFault.{PrintFault}
 use Rattle.job_print.specs.declared.line_buffer.PrintFault.TheVariants.{Write, OutOfMemory}
 use Rattle.job_print.specs.declared.form.PrintOptions.{PrintOptions}
-use Rattle.job_print.specs.FirstRows.{within}
+use Rattle.job_print.specs.FirstRows.{AreWanted, within}
 use Rattle.job_print.specs.Forms.{batch_heading, line_of}
 use Rattle.job_print.specs.Output.{Output, output, PrintsAs, Puts, PutFails}
-use Rattle.std.specs.Prelude.{⊤}
+use Rattle.std.specs.Prelude.{⊤, ◌≢◌, ◌≤◌, map}
 use Rattle.job_print.specs.Rows.{batch_lines, last_lines}
 use Rattle.job_print.specs.Streams.{PrintsPart}
-use Rattle.job_print.proofs.streams.FirstRows.{wanted_none, wanted_within}
-use Rattle.job_print.proofs.streams.FirstRows.{within_none}
+use Rattle.job_print.proofs.streams.FirstRows.{wanted_none, wanted_within, within_none}
 use Rattle.job_print.proofs.Puts.{puts_then, puts_not_then, puts_never, missing_all, missing_at}
 use Rattle.job_print.proofs.Lines.{put_at, not_at}
-use Rattle.std.proofs.Common.{length, inl}
+
+-- these batches were all that was read after the schema, and their text was put in part
+pub part_read : (options : PrintOptions) (front : List ℕ) (old new : Reader) (before : Output) (w : Option (List ℕ)) (n : ℕ)
+    (e : PrintFault)
+    (x : List ℕ) (batches : List BatchRows) (state : State) → Consumes old.remaining new.remaining x
+    → Run old.limits (Some (in_force_of old)) x (map batch batches) state → AreWanted options.limit batches
+    → (puts : PutFails before w n
+    ((front ++ batch_lines (batch_heading options.form) (line_of options.form old.schema.fields) (within options.limit batches)) ++ []) e)
+    → length puts.behind
+    ≤ length (last_lines front (batch_heading options.form) (line_of options.form old.schema.fields) (within options.limit batches))
+    → (e ≢ Write → old.failures ≡ 0 → new.failures ≡ 0) → PrintsPart options front old new before w n e
+part_read options front old new before w n e x batches state bytes run wanted puts few works = record {
+  x = x;
+  batches = batches;
+  bytes = bytes;
+  rest = [];
+  whole = x;
+  joined = sym (append-nil x);
+  state = state;
+  run = run;
+  tail = [];
+  inside = wanted_within options.limit batches wanted;
+  ends = inl refl;
+  puts = puts;
+  few = omega (
+    arith,
+    few,
+    length-append
+        (last_lines front (batch_heading options.form) (line_of options.form old.schema.fields) (within options.limit batches)) [],
+  );
+  last = inl refl;
+  works = works;
+}
 
 -- nothing was read, and of the front a beginning was printed
 pub part_front : (options : PrintOptions) (front : List ℕ) (r : Reader) (before : Output) (w : Option (List ℕ)) (n : ℕ) (e : PrintFault)
@@ -30,28 +62,9 @@ part_front options front r before w n e empty q =
     (sym (append-nil front) ∙ (sym (append-nil (front ++ []))
     ∙ ap (λ (bs : List BatchRows). (front ++ batch_lines (batch_heading options.form) line bs) ++ []) none))
     (missing_all before w n front e empty q) in
-    record {
-      x = [];
-      batches = [];
-      bytes = Consumes-nil r.remaining;
-      rest = [];
-      whole = [];
-      joined = refl;
-      state = Some (in_force_of r);
-      run = done;
-      tail = [];
-      inside = wanted_within options.limit [] (wanted_none options.limit);
-      ends = inl refl;
-      puts = missing.0;
-      few = omega (
-        arith,
-        missing.1,
-        ap (λ (bs : List BatchRows). length (last_lines front (batch_heading options.form) line bs)) none,
-        length-append (last_lines front (batch_heading options.form) line (within options.limit [])) [],
-      );
-      last = inl refl;
-      works = λ other z. z;
-    }
+    part_read options front r r before w n e [] [] (Some (in_force_of r)) (Consumes-nil r.remaining) done (wanted_none options.limit)
+    missing.0 (omega (arith, missing.1, ap (λ (bs : List BatchRows). length (last_lines front (batch_heading options.form) line bs)) none))
+    (λ other z. z)
 
 -- nothing was read and printed, since memory ran out
 pub part_none : (options : PrintOptions) (front : List ℕ) (r : Reader) (o : Output) → o.kept ≡ []

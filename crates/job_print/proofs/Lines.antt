@@ -29,6 +29,5 @@ module _ (line_of : List Value → List ℕ) (rows : List (List Value)) where
       → PutFails a w n (lines line_of rows) e
   rows_cut a b w n i e inside p q =
       puts_not_front a w n (lines line_of (take (i + 1) rows)) (lines line_of (drop (i + 1) rows)) (lines line_of rows) e
-      (lines_rest line_of rows (i + 1))
-      (not_at a w n _ _ e (lines_more line_of rows i inside)
+      (lines_rest line_of rows (i + 1)) (not_at a w n _ _ e (lines_more line_of rows i inside)
       (puts_not_then a b w n (lines line_of (take i rows)) (line_of (slice_index_or rows i [])) e p q))

@@ -85,8 +85,7 @@ where_true false P f = tt
 -- where three comparisons of n bytes find nothing, the bytes are plain
 pub plain_in_lanes : (mark : ℕ) (d : List ℕ) (i n : ℕ) → i + n ≤ length d → n ≤ 64
     → OnTrue (mask_l (map (top 7) (zip2 bit_or (zip2 bit_or (zip2 hit (chunk i n d) (replicate n 34))
-    (zip2 hit (chunk i n d) (replicate n mark))) (zip2 below (chunk i n d) (replicate n 32)))) % 2 ^ 64 == 0)
-    (ArePlain mark d i (i + n))
+    (zip2 hit (chunk i n d) (replicate n mark))) (zip2 below (chunk i n d) (replicate n 32)))) % 2 ^ 64 == 0) (ArePlain mark d i (i + n))
 plain_in_lanes mark d i n room few =
     let v = chunk i n d in
     let long = length-chunk i n d room in
@@ -100,8 +99,7 @@ pub front_of : (old new word : List ℕ) (at len n end : ℕ) → at ≤ length 
 front_of old new word at len n end inside long few placed =
     let size : length (take n word) ≡ n = length-take-le n word long in
     let front : length (take at old) ≡ at = length-take-le at old inside in
-    sym (take-take (at + len) end new (omega (arith, size, placed.moved, few)))
-    ∙ (ap (take (at + len)) placed.bytes
+    sym (take-take (at + len) end new (omega (arith, size, placed.moved, few))) ∙ (ap (take (at + len)) placed.bytes
     ∙ (ap (λ (k : ℕ). take (k + len) (take at old ++ take n word)) (sym front)
     ∙ (take-append-add (take at old) (take n word) len ∙ ap (λ (xs : List ℕ). take at old ++ xs) (take-take len n word few))))
 

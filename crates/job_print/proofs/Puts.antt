@@ -18,7 +18,7 @@ grows_then (Some xs) None c k0 k1 k2 t u p q = absurd p
 grows_then (Some xs) (Some ys) None k0 k1 k2 t u p q = absurd q
 grows_then (Some xs) (Some ys) (Some zs) k0 k1 k2 t u p q = q ∙ (ap (λ (l : List ℕ). l ++ u) p ∙ append_assoc (xs ++ k0) t u)
 
--- with more behind what is kept, that was put too
+-- with more after what is kept, that was put too
 pub grows_more : (a b : Option (List ℕ)) (k0 k1 t u : List ℕ) → AppendsText a k0 b k1 t → AppendsText a k0 b (k1 ++ u) (t ++ u)
 grows_more None b k0 k1 t u p = tt
 grows_more (Some xs) None k0 k1 t u p = absurd p
@@ -51,7 +51,7 @@ puts_not_then a b w n t u e p q = record {
   stayed = λ other. q.stayed other ∙ p.stayed;
 }
 
--- what was not put wasn't put with more behind it
+-- what was not put wasn't put with more after it
 pub puts_not_more : (a : Output) (w : Option (List ℕ)) (n : ℕ) (t u : List ℕ) (e : PrintFault) → PutFails a w n t e
     → PutFails a w n (t ++ u) e
 puts_not_more a w n t u e q = record {
@@ -96,8 +96,7 @@ grows_sent : (a b : Option (List ℕ)) (bytes : List ℕ) (sent : ℕ) → Appen
 grows_sent None b bytes sent p = tt
 grows_sent (Some xs) None bytes sent p = absurd p
 grows_sent (Some xs) (Some ys) bytes sent p =
-    ap (λ (l : List ℕ). l ++ drop sent bytes) p
-    ∙ (append_assoc xs (take sent bytes) (drop sent bytes)
+    ap (λ (l : List ℕ). l ++ drop sent bytes) p ∙ (append_assoc xs (take sent bytes) (drop sent bytes)
     ∙ (ap (λ (l : List ℕ). xs ++ l) (take-append-drop sent bytes) ∙ sym (append-nil (xs ++ bytes))))
 
 -- the sink failed after a beginning of the bytes
@@ -128,7 +127,7 @@ pub missing_then : (a b : Output) (w : Option (List ℕ)) (n : ℕ) (t u : List 
 unfolding puts_not_then
 missing_then a b w n t u e k p q = (puts_not_then a b w n t u e p q.0, q.1)
 
--- what is missing of a text and of more behind it
+-- what is missing of a text and of more after it
 pub missing_more : (a : Output) (w : Option (List ℕ)) (n : ℕ) (t u : List ℕ) (e : PrintFault) (k : ℕ) → Missing a w n t e k
     → Missing a w n (t ++ u) e (k + length u)
 unfolding puts_not_more

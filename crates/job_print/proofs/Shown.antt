@@ -4,7 +4,7 @@ use Rattle.std.specs.Prelude.{slice_get}
 use Rattle.std.specs.List.{AllByRecursion}
 
 module _ {X : Type 0} (P : X → Type 0) where
-  -- what holds of all elements and of one more holds of all with that one behind them
+  -- what holds of all elements and of one more holds of all with that one after them
   pub all_more : (xs : List X) (x : X) → AllByRecursion P xs → P x → AllByRecursion P (xs ++ x ∷ [])
   all_more [] x all one = (one, tt)
   all_more (y ∷ ys) x all one = (all.0, all_more ys x all.1 one)

@@ -11,7 +11,7 @@ use Rattle.ipc_column.specs.Slots.{nested, nested_in}
 use Rattle.job_print.specs.Trees.{count, count_below}
 use Rattle.job_print.specs.TreeFalls.{count_is}
 
-some_same : (a b : Nested) → Some a ≡ Some b → a ≡ b
+pub some_same : (a b : Nested) → Some a ≡ Some b → a ≡ b
 some_same a b h = ap (λ (o : Option Nested). out o) h
   where
     out : Option Nested → Nested

@@ -145,8 +145,8 @@ AreLast limits σ rest left missing = (rest ≡ []) ⊎ ((missing ≡ [])
     ⊎ ((end : End) × Ends limits σ rest left (Ok end)))
 
 -- for each result: a beginning of the text of batches that were read was printed, up to the limit.
--- What is missing is at most the text of the last of them and of the end. No batch was read behind
--- one whose text is missing in part, and none behind the limit
+-- What is missing is at most the text of the last of them and of the end. No batch was read after
+-- one whose text is missing in part, and none after the limit
 pub data PrintsSome (options : PrintOptions) (limits : Limits)
     (old new written_old written_new : Option (List ℕ)) : Type 0 where
   -- no schema was read

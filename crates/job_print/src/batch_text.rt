@@ -27,8 +27,15 @@ fn column_readers(alloc: Global, batch: &Batch) -> Result<Vec<ColumnReader<'_>>,
     Ok(columns)
 }
 
-// Adds the first `count` rows of a batch, line by line, as `print_batch`.
-fn print_lines<W: Sink>(
+// Whether nothing is printed of a row.
+fn prints_no_rows(form: Form<'_>) -> bool
+    ensures { IsTrue result → form.entry ≡ Form.Counts }
+{
+    matches!(form, Form::Counts)
+}
+
+// Adds the first `count` rows of a batch, as `print_batch`.
+fn print_batch_rows<W: Sink>(
     alloc: Global,
     form: Form<'_>,
     fields: &[Field],
@@ -44,6 +51,9 @@ fn print_lines<W: Sink>(
         (output (W.written sink.old) (W.failures sink.old) lines.old) (W.written sink.new)
         (W.failures sink.new) lines.new result }
 {
+    if prints_no_rows(form) {
+        return Ok(None);
+    }
     let columns = column_readers(alloc, batch)?;
     for row in 0..count {
         match lines.put_line(form, fields, &columns, row)? {
@@ -52,13 +62,6 @@ fn print_lines<W: Sink>(
         }
     }
     Ok(None)
-}
-
-// Whether nothing is printed of a row.
-fn prints_no_rows(form: Form<'_>) -> bool
-    ensures { IsTrue result → form.entry ≡ Form.Counts }
-{
-    matches!(form, Form::Counts)
 }
 
 // The line of a batch's pairs: a JSON object with the one member `metadata`.
@@ -91,29 +94,6 @@ fn print_head<W: Sink>(
         },
         Form::Counts | Form::Rows { pairs: false, .. } | Form::Records(_) => Ok(()),
     }
-}
-
-// Adds the first `count` rows of a batch, as `print_batch`.
-fn print_batch_rows<W: Sink>(
-    alloc: Global,
-    form: Form<'_>,
-    fields: &[Field],
-    batch: &Batch,
-    count: usize,
-    lines: &mut LineBuffer,
-    sink: &mut W,
-) -> Result<Option<TextFault>, PrintFault>
-    requires columns { batch.now.columns ≡ length fields.now }
-    requires count { count ≤ length batch.now.rows }
-    requires fits { form_fault form fields.now ≡ None }
-    ensures { PutsRows form.entry fields.now [] (take count batch.now.rows)
-        (output (W.written sink.old) (W.failures sink.old) lines.old) (W.written sink.new)
-        (W.failures sink.new) lines.new result }
-{
-    if prints_no_rows(form) {
-        return Ok(None);
-    }
-    print_lines(alloc, form, fields, batch, count, lines, sink)
 }
 
 /// Adds a batch in this form: its head, which has its pairs if the form prints them, and its first

@@ -210,6 +210,7 @@ impl<'a> ColumnTree<'a> {
 
     /// Child `i`. The caller gives an `i` below `children`.
     #[inline(always)]
+    #[tactic(auto, using(crate::proofs::Trees::child_at))]
     pub fn child(&self, i: usize) -> &ColumnTree<'a>
         requires { i < length self.now.children }
         ensures { slice_get (nested_in self.now) i ≡ Some result.now }

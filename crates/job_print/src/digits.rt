@@ -73,6 +73,7 @@ const ZEROS_BEFORE_LAST: u64 = 0x2f30_3030_3030_3030;
 // The eight digits of a number below 10^8, the first in the lowest byte, and the number of leading
 // zeros: no bit is set in their bytes once the digit 0 is taken from each.
 #[inline(always)]
+#[tactic(auto, using(crate::proofs::numbers::Zeros::zeros_are))]
 fn digits_and_zeros(number: u32) -> (u64, usize)
     requires { number < 100000000 }
     ensures digits { to_le_bytes w64 result.0 ≡ last_digits 8 number }

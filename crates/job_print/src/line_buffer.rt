@@ -46,6 +46,7 @@ impl From<AllocError> for PrintFault {
 // Sends all of a text. Never inlined, so that the loop over the cells keeps its registers.
 #[cold]
 #[inline(never)]
+#[tactic(auto, using(crate::proofs::Puts::sent_cut))]
 pub(crate) fn send<W: Sink>(sink: &mut W, text: &[u8]) -> Result<(), PrintFault>
     ensures puts { PrintsAs (output (W.written sink.old) (W.failures sink.old) text.now)
         (W.written sink.new) (W.failures sink.new) [] [] result }

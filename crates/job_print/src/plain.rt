@@ -79,6 +79,7 @@ fn put_any_length(text: &mut [u8], at: usize, mark: u8, chars: &[u8]) -> bool
 /// Writes a text from `at` on, and returns whether it is plain beside `mark`, the backslash in JSON
 /// and the delimiter in CSV.
 #[inline(always)]
+#[tactic(auto, using(crate::proofs::PlainBytes::plain_json, crate::proofs::PlainBytes::plain_csv))]
 pub fn put_if_plain(text: &mut [u8], at: usize, mark: u8, chars: &[u8]) -> bool
     requires { at + length chars.now ≤ length text.old }
     ensures json { OnTrue result (mark ≡ 92 → escape chars.now ≡ chars.now) }

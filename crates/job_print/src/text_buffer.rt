@@ -101,9 +101,7 @@ impl TextBuffer {
         ensures text { self.new.text ≡ self.old.text }
         ensures room { OnOk result (count ≤ self.new.room) }
     {
-        let Some(least) = self.bytes.len().checked_add(count) else {
-            return Err(AllocError);
-        };
+        let least = self.bytes.len().saturating_add(count);
         self.bytes
             .resize(least.max(self.bytes.len().saturating_mul(2)), 0)
     }
@@ -191,13 +189,7 @@ impl TextBuffer {
         ensures text { OnOk result (self.new.text ≡ self.old.text ++ encode_lower bytes.now) }
         ensures room { OnOk result (1 ≤ self.new.room) }
     {
-        let Some(count) = bytes.len().checked_mul(2) else {
-            return Err(AllocError);
-        };
-        let Some(room) = count.checked_add(1) else {
-            return Err(AllocError);
-        };
-        self.reserve(room)?;
+        self.reserve(2 * bytes.len() + 1)?;
         self.len = put_digits_at(&mut self.bytes, self.len, bytes);
         Ok(())
     }

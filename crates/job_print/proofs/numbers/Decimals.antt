@@ -35,8 +35,7 @@ decimal_split (suc k) n h s =
     let front : 10 ^ k ≤ n / 10 = omega (arith, h, p) in
     let small : n / 10 < 2 ^ 64 = omega (arith, s) in
     let rest = decimal_split k (n / 10) front small ∙ ap (λ (m : ℕ). decimal m ++ last_digits k (n / 10)) (step_pow k n) in
-    decimal_step n ten s
-    ∙ (ap (λ (x : List ℕ). x ++ (48 + n % 10) ∷ []) rest
+    decimal_step n ten s ∙ (ap (λ (x : List ℕ). x ++ (48 + n % 10) ∷ []) rest
     ∙ append_assoc (decimal (n / 10 ^ suc k)) (last_digits k (n / 10)) ((48 + n % 10) ∷ []))
 
 padded_one : (k n : ℕ) → n < 10 → drop (suc (suc k) - length (decimal n)) (last_digits (suc k) (n / 10) ++ (48 + n % 10) ∷ []) ≡ decimal n
@@ -46,8 +45,7 @@ padded_one k n h =
     omega (arith, ap length digit, length-last (suc k) (n / 10)) in
     let last : n % 10 ≡ n = omega (arith, h) in
     ap (λ (c : ℕ). drop c (last_digits (suc k) (n / 10) ++ (48 + n % 10) ∷ [])) count
-    ∙ (drop-append_seam (last_digits (suc k) (n / 10)) ((48 + n % 10) ∷ [])
-    ∙ (ap (λ (d : ℕ). (48 + d) ∷ []) last ∙ sym digit))
+    ∙ (drop-append_seam (last_digits (suc k) (n / 10)) ((48 + n % 10) ∷ []) ∙ (ap (λ (d : ℕ). (48 + d) ∷ []) last ∙ sym digit))
 
 padded_more : (k n : ℕ) → 10 ≤ n → n < 10 ^ suc (suc k) → n < 2 ^ 64
     → drop (suc k - length (decimal (n / 10))) (last_digits (suc k) (n / 10)) ≡ decimal (n / 10)
@@ -62,7 +60,7 @@ padded_more k n ten h s ih =
     ∙ (drop-append-le (suc k - length (decimal (n / 10))) (last_digits (suc k) (n / 10)) ((48 + n % 10) ∷ []) fits
     ∙ (ap (λ (x : List ℕ). x ++ (48 + n % 10) ∷ []) ih ∙ sym step))
 
--- the digits of a number that has so many at most, behind zeros
+-- the digits of a number that has so many at most, after zeros
 pub decimal_padded : (k n : ℕ) → n < 10 ^ suc k → n < 2 ^ 64 → drop (suc k - length (decimal n)) (last_digits (suc k) n) ≡ decimal n
 decimal_padded zero n h s =
     let digit = decimal_digit n (omega (arith, h)) in
@@ -117,7 +115,7 @@ seven n h = omega (arith, ap length (decimal_digit n h))
 pub fewer : (z k n : ℕ) → z + suc k ≡ 8 → 10 ^ k ≤ n → n < 10 ^ suc k → n < 2 ^ 64 → z + length (decimal n) ≡ 8
 fewer z k n e low high s = omega (arith, e, exact k n low high s)
 
--- the eight last digits stand in what is left behind all but them
+-- the eight last digits stand in what is left after all but them
 pub last_eight : (n : ℕ) → last_digits 8 (n % 100000000) ≡ last_digits 8 n
 last_eight n =
     let a : n % 100000000 % 10 ≡ n % 10 = omega arith in

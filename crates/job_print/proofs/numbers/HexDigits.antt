@@ -15,7 +15,7 @@ pub digits_are : (b : ℕ) → b < 256 → digit_char (b / 16) ∷ digit_char (b
 unfolding encode_with
 digits_are b small = rw (digit_is (b / 16) (omega (arith, small)), digit_is (b % 16) (omega arith)) refl
 
--- the digits of some bytes and of those behind them are those of all
+-- the digits of some bytes and of those after them are those of all
 digits_apart : (bs : List ℕ) (n : ℕ) → encode_lower (take n bs) ++ encode_lower (drop n bs) ≡ encode_lower bs
 unfolding encode_with
 digits_apart [] zero = refl

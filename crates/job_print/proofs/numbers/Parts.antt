@@ -21,8 +21,7 @@ hundreds_of_halves x h l high low is = omega (arith, masked_halves (x * 5243 / 5
 masked_two : (y : ℕ) → bit_and y 983055 ≡ y / 65536 % 16 * 65536 + y % 16
 masked_two y =
     let parts : bit_and y 983055 ≡ bit_and (y / 2 ^ 16) 15 * 2 ^ 16 + bit_and (y % 2 ^ 16) 15 =
-    ap (λ (n : ℕ). bit_and n 983055) (sym (shr_split y 16))
-    ∙ and_block 16 (y / 2 ^ 16) 15 (y % 2 ^ 16) 15 (omega arith) (omega arith) in
+    ap (λ (n : ℕ). bit_and n 983055) (sym (shr_split y 16)) ∙ and_block 16 (y / 2 ^ 16) 15 (y % 2 ^ 16) 15 (omega arith) (omega arith) in
     let high : bit_and (y / 2 ^ 16) 15 ≡ y / 2 ^ 16 % 2 ^ 4 = and_mask (y / 2 ^ 16) 4 in
     let low : bit_and (y % 2 ^ 16) 15 ≡ y % 2 ^ 16 % 2 ^ 4 = and_mask (y % 2 ^ 16) 4 in
     omega (arith, parts, high, low)

@@ -17,6 +17,7 @@ use Rattle.ipc_stream_read.specs.Stream.{batch, Run, done}
 use Rattle.job_print.specs.declared.line_buffer.PrintFault.{PrintFault}
 use Rattle.job_print.specs.declared.line_buffer.PrintFault.TheVariants.{Write}
 use Rattle.ipc_model.specs.declared.schema.Field.{Field}
+use Rattle.ipc_model.specs.declared.schema.Schema.{Schema}
 use Rattle.ipc_text_temporal.specs.declared.fault.TextFault.{TextFault}
 use Rattle.job_print.specs.declared.form.PrintOptions.{PrintOptions}
 use Rattle.job_print.specs.declared.stop.Outcome.TheVariants.{Whole, Limited, Broken, Refused as Lacking}
@@ -28,10 +29,11 @@ use Rattle.ipc_stream_read.specs.Decoding.{ReportsLastEvent}
 use Rattle.job_print.proofs.streams.Shortest.{last_shortest, none_shorter}
 use Rattle.job_print.specs.Streams.{AreShortest, IsTally, PrintsRows, PrintsPart, PrintsBatches, PutsRows}
 use Rattle.ipc_stream_read.specs.Ends.{as_required}
-use Rattle.job_print.proofs.streams.FirstRows.{within_none, within_all, within_more, wanted_more, wanted_none, wanted_within, below_refused}
+use Rattle.job_print.proofs.streams.FirstRows.{within_none, within_all, within_more, wanted_more, wanted_none, below_refused}
 use Rattle.job_print.proofs.streams.FirstRows.{refuses_all, row_count_last, take_fewer}
 use Rattle.job_print.proofs.Puts.{puts_then, puts_not_then, puts_none, missing_all, missing_at, missing_then}
 use Rattle.job_print.proofs.Shown.{all_more}
+use Rattle.job_print.proofs.FrontPuts.{part_read}
 use Rattle.job_print.proofs.Lines.{put_at, not_at}
 use Rattle.job_print.proofs.streams.Messages.{Came, Counted, ReadsCounted, came, counted_then, broke, ended, ends_counted, gave, reads_then}
 use Rattle.job_print.proofs.texts.Texts.{batch_lines_more, last_lines_more}
@@ -41,7 +43,7 @@ use Rattle.ipc_model.specs.declared.fault.Fault.TheVariants.{Read, Truncated}
 use Rattle.ipc_stream_read.specs.Counts.{count_up, messages_in}
 use Rattle.job_print.specs.declared.stop.PrintCounts.{PrintCounts}
 
--- these batches were read behind the schema and printed up to the limit, and nothing of them is kept
+-- these batches were read after the schema and printed up to the limit, and nothing of them is kept
 pub record Batches (options : PrintOptions) (tally : PrintCounts) (old now : Reader) (before after : Output) : Type 0 where
   pub x : List ℕ
   pub batches : List BatchRows
@@ -126,8 +128,7 @@ batches_limited options tally old now before after b reached = (
 
 -- one batch more is counted
 tally_more : (tally next : PrintCounts) (batches : List BatchRows) (rows : BatchRows) → IsTally tally batches
-    → next.batches ≡ count_up tally.batches 1 → next.rows ≡ count_up tally.rows (length rows.rows)
-    → IsTally next (batches ++ rows ∷ [])
+    → next.batches ≡ count_up tally.batches 1 → next.rows ≡ count_up tally.rows (length rows.rows) → IsTally next (batches ++ rows ∷ [])
 tally_more tally next batches rows (some, few) one all =
     let long = length-append batches (rows ∷ []) in
     let sum = row_count_last batches rows in
@@ -148,7 +149,7 @@ module _ (options : PrintOptions) (tally : PrintCounts) (old now new : Reader) (
   have_before : HaveAllLines options.form old.schema.fields b.batches
   have_before = subst (HaveAllLines options.form old.schema.fields) all_before b.have
 
-  -- the batch that came, with its rows up to the limit, and the text of it behind that of the batches before
+  -- the batch that came, with its rows up to the limit, and the text of it after that of the batches before
   abbrev pub IsCount : ReadRows → ℕ → Type 0
   IsCount found count = count ≡ wanted_rows options.limit (row_count b.batches) (length found.0.rows)
 
@@ -157,8 +158,7 @@ module _ (options : PrintOptions) (tally : PrintCounts) (old now new : Reader) (
   all_now found count is = within_more options.limit b.batches (batch_rows found) count below is
 
   text_now : (found : ReadRows) (count : ℕ) → IsCount found count
-      → batch_lines (heading options.form) line b.batches ++ (heading options.form found.1
-      ++ lines line (take count found.0.rows))
+      → batch_lines (heading options.form) line b.batches ++ (heading options.form found.1 ++ lines line (take count found.0.rows))
       ≡ batch_lines (heading options.form) line (within options.limit (b.batches ++ batch_rows found ∷ []))
   text_now found count is = batch_lines_more line (heading options.form) b.batches (batch_prefix count (batch_rows found))
       ∙ ap (batch_lines (heading options.form) line) (sym (all_now found count is))
@@ -193,11 +193,12 @@ module _ (options : PrintOptions) (tally : PrintCounts) (old now new : Reader) (
 
   -- what was put of a batch, by the fields that are in force
   same_puts : (fields : List Field) (found : ReadRows) (count : ℕ) (w : Option (List ℕ)) (n : ℕ) (k : List ℕ)
-      (r : Result (Option TextFault) PrintFault)
-      → fields ≡ old.schema.fields → PutsRows options.form fields (heading options.form found.1) (take count found.0.rows) after w n k r
+      (r : Result (Option TextFault) PrintFault) → fields ≡ new.schema.fields → NextCall now new (Ok (Some found))
+      → PutsRows options.form fields (heading options.form found.1) (take count found.0.rows) after w n k r
       → PutsRows options.form old.schema.fields (heading options.form found.1) (take count found.0.rows) after w n k r
-  same_puts fields found count w n k r is p =
-      subst (λ (fs : List Field). PutsRows options.form fs (heading options.form found.1) (take count found.0.rows) after w n k r) is p
+  same_puts fields found count w n k r is t p =
+      subst (λ (fs : List Field). PutsRows options.form fs (heading options.form found.1) (take count found.0.rows) after w n k r)
+      (is ∙ ap (λ (s : Schema). s.fields) (t.same_schema ∙ b.same)) p
 
   counted_more : (found : ReadRows) (t : NextCall now new (Ok (Some found))) (k : ℕ) → old.taken ≡ count_up 0 k
       → new.taken ≡ count_up 0 (k + length (b.x ++ t.x))
@@ -214,12 +215,11 @@ module _ (options : PrintOptions) (tally : PrintCounts) (old now new : Reader) (
   pub batches_more : (fields : List Field) (found : ReadRows) (count : ℕ) (next : PrintCounts) (w : Option (List ℕ)) (n : ℕ) (k : List ℕ)
       (last : Output) → IsCount found count → next.batches ≡ count_up tally.batches 1
       → next.rows ≡ count_up tally.rows (length found.0.rows)
-      → fields ≡ old.schema.fields → NextCall now new (Ok (Some found)) → new.failures ≡ now.failures
+      → fields ≡ new.schema.fields → NextCall now new (Ok (Some found)) → new.failures ≡ now.failures
       → PutsRows options.form fields (heading options.form found.1) (take count found.0.rows) after w n k (Ok None)
-      → Puts (output w n k) last [] → last.kept ≡ []
-      → Batches options next old new before last
+      → Puts (output w n k) last [] → last.kept ≡ [] → Batches options next old new before last
   batches_more fields found count next w n k last wants one all is t works p flushed empty =
-      let q = same_puts fields found count w n k (Ok None) is p in
+      let q = same_puts fields found count w n k (Ok None) is t p in
       let rows = heading options.form found.1 ++ lines line (take count found.0.rows) in
       record {
         x = b.x ++ t.x;
@@ -246,11 +246,11 @@ module _ (options : PrintOptions) (tally : PrintCounts) (old now new : Reader) (
 
   -- a row of the batch that came isn't printed, and those before it were
   pub batches_refused : (fields : List Field) (found : ReadRows) (count : ℕ) (w : Option (List ℕ)) (n : ℕ) (k : List ℕ) (fault : TextFault)
-      → IsCount found count → fields ≡ old.schema.fields → NextCall now new (Ok (Some found)) → new.failures ≡ now.failures
+      → IsCount found count → fields ≡ new.schema.fields → NextCall now new (Ok (Some found)) → new.failures ≡ now.failures
       → PutsRows options.form fields (heading options.form found.1) (take count found.0.rows) after w n k (Ok (Some fault))
       → PrintsBatches options [] old new before (output w n k) (Ok (Lacking fault))
   batches_refused fields found count w n k fault wants is t works p =
-      let q = same_puts fields found count w n k (Ok (Some fault)) is p in
+      let q = same_puts fields found count w n k (Ok (Some fault)) is t p in
       let size = length-take count found.0.rows in
       let less : q.0 < count = omega (arith, q.1.inside, size) in
       let fewer = take_fewer q.0 count found.0.rows (omega (arith, q.1.inside)) in
@@ -280,45 +280,30 @@ module _ (options : PrintOptions) (tally : PrintCounts) (old now new : Reader) (
 
   -- the rows of the batch that came weren't all printed
   pub batches_cut : (fields : List Field) (found : ReadRows) (count : ℕ) (w : Option (List ℕ)) (n : ℕ) (k : List ℕ) (e : PrintFault)
-      → IsCount found count → fields ≡ old.schema.fields → NextCall now new (Ok (Some found)) → new.failures ≡ now.failures
+      → IsCount found count → fields ≡ new.schema.fields → NextCall now new (Ok (Some found)) → new.failures ≡ now.failures
       → PutsRows options.form fields (heading options.form found.1) (take count found.0.rows) after w n k (Err e)
       → PrintsPart options [] old new before w n e
   batches_cut fields found count w n k e wants is t works p =
-      let q = same_puts fields found count w n k (Err e) is p in
+      let q = same_puts fields found count w n k (Err e) is t p in
       let rows = heading options.form found.1 ++ lines line (take count found.0.rows) in
       let missing = missing_at before w n _ _ e (length rows) (text_now found count wants ∙ sym (append-nil _))
       (missing_then before after w n (batch_lines (heading options.form) line b.batches) rows e (length rows) puts_before
       (missing_all after w n rows e b.sent q)) in
-      record {
-        x = b.x ++ t.x;
-        batches = b.batches ++ batch_rows found ∷ [];
-        bytes = Consumes-trans old.remaining now.remaining new.remaining b.x t.x b.bytes t.bytes;
-        rest = [];
-        whole = b.x ++ t.x;
-        joined = sym (append-nil (b.x ++ t.x));
-        state = Some (in_force_of new);
-        run = (more_run found t).0;
-        tail = [];
-        inside = wanted_within options.limit _ (wanted_more options.limit b.batches (batch_rows found) below);
-        ends = inl refl;
-        puts = missing.0;
-        few = omega (
-          arith,
-          missing.1,
-          ap (λ (bs : List BatchRows). length (last_lines [] (heading options.form) line bs)) (all_now found count wants),
-          ap length (last_lines_more line (heading options.form) [] b.batches (batch_prefix count (batch_rows found))),
-          length-append (last_lines [] (heading options.form) line (within options.limit (b.batches ++ batch_rows found ∷ []))) [],
-        );
-        last = inl refl;
-        works = λ other z. works ∙ (b.counts ∙ z);
-      }
+      part_read options [] old new before w n e (b.x ++ t.x) (b.batches ++ batch_rows found ∷ []) (Some (in_force_of new))
+      (Consumes-trans old.remaining now.remaining new.remaining b.x t.x b.bytes t.bytes) (more_run found t).0
+      (wanted_more options.limit b.batches (batch_rows found) below) missing.0
+      (omega (
+        arith,
+        missing.1,
+        ap (λ (bs : List BatchRows). length (last_lines [] (heading options.form) line bs)) (all_now found count wants),
+        ap length (last_lines_more line (heading options.form) [] b.batches (batch_prefix count (batch_rows found))),
+      )) (λ other z. works ∙ (b.counts ∙ z))
 
   -- they were, and what is kept was not sent
   pub batches_unsent : (fields : List Field) (found : ReadRows) (count : ℕ) (w v : Option (List ℕ)) (n m : ℕ) (k : List ℕ)
-      → IsCount found count → fields ≡ old.schema.fields → NextCall now new (Ok (Some found)) → new.failures ≡ now.failures
+      → IsCount found count → fields ≡ new.schema.fields → NextCall now new (Ok (Some found)) → new.failures ≡ now.failures
       → PutsRows options.form fields (heading options.form found.1) (take count found.0.rows) after w n k (Ok None)
-      → PutFails (output w n k) v m [] Write
-      → PrintsPart options [] old new before v m Write
+      → PutFails (output w n k) v m [] Write → PrintsPart options [] old new before v m Write
   batches_unsent fields found count w v n m k wants is t works p q =
       let rows = heading options.form found.1 ++ lines (line_of options.form fields) (take count found.0.rows) in
       batches_cut fields found count v m [] Write wants is t works
@@ -329,8 +314,7 @@ module _ (options : PrintOptions) (tally : PrintCounts) (old now new : Reader) (
       (messages_in b.run + messages_in h.run)
   behind y r h =
       subst (λ es. ReadsCounted old.limits (Some (in_force_of old)) (b.x ++ y) new.remaining es r (messages_in b.run + messages_in h.run))
-      (append-nil (map batch b.batches))
-      (reads_then _ _ b.x y new.remaining (map batch b.batches) [] r _ _ (b.run, refl)
+      (append-nil (map batch b.batches)) (reads_then _ _ b.x y new.remaining (map batch b.batches) [] r _ _ (b.run, refl)
       (subst (λ limits. ReadsCounted limits (Some (in_force_of now)) y new.remaining [] r (messages_in h.run)) b.same_limits
       (ends_counted now new y r h)))
 
@@ -362,7 +346,7 @@ module _ (options : PrintOptions) (tally : PrintCounts) (old now new : Reader) (
       subst (λ (e : End). (rows : PrintsRows options [] old new before after (Ok e)) × IsTally tally rows.batches) (sym same)
       (printed t.x (Ok h.0) t.bytes t.counted h.1, b.tallies)
 
-  -- where the end is read behind the batches that were printed, all rows of the stream were
+  -- where the end is read after the batches that were printed, all rows of the stream were
   pub batches_end : (found : Option End) (e f : End) → NextCall now new (Ok None) → new.failures ≡ now.failures → found ≡ end_of new.phase
       → e ≡ unwrap_or found Closed → as_required options.require_mark (Ok e) ≡ Ok f
       → PrintsBatches options [] old new before after (Ok (Whole e tally))
@@ -380,7 +364,7 @@ module _ (options : PrintOptions) (tally : PrintCounts) (old now new : Reader) (
     record { failed = λ read. absurd (no_read options.require_mark e f ends read); stayed = λ other. works ∙ b.counts },
   )
 
-  -- where a fault is read behind the batches that were printed, their rows were, and the answer is the fault
+  -- where a fault is read after the batches that were printed, their rows were, and the answer is the fault
   pub batches_break : (f : Fault) → NextCall now new (Err f) → CountsFault now.failures new.failures f
       → PrintsBatches options [] old new before after (Ok (Broken f))
   batches_break f t tells = (

@@ -1,6 +1,6 @@
 -- The front and the tail around the rows of batches.
 use Rattle.ipc_model.specs.declared.table.BatchRows.{BatchRows}
-use Rattle.std.proofs.Common.{◌≡◌, ◌∙◌, refl, sym, ap, ℕ, List, [], ◌∷◌, ◌++◌, take, drop, Option}
+use Rattle.std.proofs.Common.{◌≡◌, ◌∙◌, refl, sym, ap, ℕ, List, [], ◌∷◌, ◌++◌, take, drop, Option, ◌≤◌, length, inl, inr}
 use Rattle.std.proofs.Common.{Result, Ok, Err, append_assoc, append-nil, length-append, arith, ◌+◌}
 use Rattle.ipc_model.specs.declared.fault.Fault.{Fault}
 use Rattle.ipc_model.specs.declared.value.Value.{Value}
@@ -12,30 +12,32 @@ use Rattle.job_print.specs.declared.form.PrintOptions.{PrintOptions}
 use Rattle.job_print.specs.declared.stop.Outcome.{Outcome}
 use Rattle.job_print.specs.declared.stop.Outcome.TheVariants.{Whole, Limited, Broken, Refused as Lacking}
 use Rattle.job_print.specs.FirstRows.{batch_prefix, within, WantsMoreRows, wanted_rows}
-use Rattle.job_print.specs.Forms.{batch_heading, line_of, row_count, tail_of, tail_text}
+use Rattle.job_print.specs.Forms.{IsTail, batch_heading, line_of, row_count, tail_of, tail_text}
+use Rattle.std.specs.Prelude.{◌≢◌}
+use Rattle.ipc_text_temporal.specs.declared.fault.TextFault.{TextFault}
 use Rattle.job_print.specs.Output.{Output, Puts, PutFails}
 use Rattle.job_print.specs.Rows.{lines, batch_lines, last_lines}
 use Rattle.std.proofs.lemmas.List.{nil_from_length}
-use Rattle.std.proofs.Common.{◌≤◌}
-use Rattle.job_print.specs.Streams.{AreLast, PrintsRows, PrintsPart, PrintsBatches}
-use Rattle.job_print.proofs.streams.FirstRows.{below_less, below_within, refused_inside, take_fewer, wanted_more, wanted_within}
+use Rattle.job_print.specs.Streams.{AreLast, IsReadToEnd, IsTally, PrintsAll, PrintsBatches, PrintsLimited, PrintsPart, PrintsRows}
+use Rattle.job_print.specs.Streams.{StopsAtRow, outcome_tail}
+use Rattle.job_print.proofs.streams.FirstRows.{below_less, below_within, refused_inside, take_fewer, wanted_more}
 use Rattle.job_print.proofs.streams.FirstRows.{within_all, within_more}
 use Rattle.job_print.proofs.Puts.{puts_then, puts_not_then, missing_all, missing_at, missing_more, missing_then}
+use Rattle.job_print.proofs.FrontPuts.{part_read}
 use Rattle.job_print.proofs.Lines.{put_at, not_at}
 use Rattle.job_print.proofs.texts.Texts.{batch_lines_more, head_rest, last_lines_front, last_lines_more}
-use Rattle.std.proofs.Common.{length, inl, inr}
 use Rattle.ipc_stream_read.specs.Counts.{count_up}
 use Rattle.job_print.specs.declared.stop.PrintCounts.{PrintCounts}
-use Rattle.job_print.specs.Forms.{tail_of, tail_text}
-use Rattle.job_print.specs.Streams.{IsTally, IsReadToEnd, PrintsAll, outcome_tail}
 
 module _ (options : PrintOptions) (front : List ℕ) (old new : Reader) where
   abbrev line_in : List Value → List ℕ
   line_in = line_of options.form old.schema.fields
 
-  rows_behind : (r : Result End Fault) (before mid after : Output) → Puts before mid front → PrintsRows options [] old new mid after r
+  -- rows that were put after another front, with this one
+  moved_rows : (other : List ℕ) (r : Result End Fault) (b m before after : Output) (q : PrintsRows options other old new b m r)
+      → Puts before after (front ++ batch_lines (batch_heading options.form) line_in q.batches) → after.kept ≡ []
       → PrintsRows options front old new before after r
-  rows_behind r before mid after p q = record {
+  moved_rows other r b m before after q puts sent = record {
     x = q.x;
     batches = q.batches;
     bytes = q.bytes;
@@ -44,52 +46,63 @@ module _ (options : PrintOptions) (front : List ℕ) (old new : Reader) where
     numbered = q.numbered;
     below = q.below;
     have = q.have;
-    puts = puts_then before mid after front (batch_lines (batch_heading options.form) line_in q.batches) p q.puts;
-    sent = q.sent;
+    puts = puts;
+    sent = sent;
   }
 
-  -- what was put behind the front, with the front
+  moved_limited : (other : List ℕ) (b m before after : Output) (h : PrintsLimited options other old new b m)
+      → Puts before after (front ++ batch_lines (batch_heading options.form) line_in (within options.limit h.batches)) → after.kept ≡ []
+      → PrintsLimited options front old new before after
+  moved_limited other b m before after h puts sent = record {
+    x = h.x;
+    batches = h.batches;
+    bytes = h.bytes;
+    state = h.state;
+    run = h.run;
+    shortest = h.shortest;
+    reached = h.reached;
+    wanted = h.wanted;
+    have = h.have;
+    puts = puts;
+    sent = sent;
+  }
+
+  moved_stop : (other : List ℕ) (b m before after : Output) (fault : TextFault) (h : StopsAtRow options other old new b m fault)
+      → Puts before after ((front ++ batch_lines (batch_heading options.form) line_in h.batches)
+      ++ (batch_heading options.form h.last.pairs ++ lines line_in (take h.count h.last.rows)))
+      → length after.kept ≤ length (batch_heading options.form h.last.pairs ++ lines line_in (take h.count h.last.rows))
+      → StopsAtRow options front old new before after fault
+  moved_stop other b m before after fault h puts few = record {
+    x = h.x;
+    batches = h.batches;
+    last = h.last;
+    count = h.count;
+    bytes = h.bytes;
+    state = h.state;
+    run = h.run;
+    below = h.below;
+    have = h.have;
+    refuses = h.refuses;
+    puts = puts;
+    few = few;
+  }
+
+  -- what was put after the front, with the front
   pub behind_front : (before mid after : Output) (r : Result Outcome PrintFault) → Puts before mid front
       → PrintsBatches options [] old new mid after r → PrintsBatches options front old new before after r
-  unfolding rows_behind
-  behind_front before mid after (Ok (Whole e tally)) p q = ((rows_behind (Ok e) before mid after p q.0.0, q.0.1), q.1, q.2)
+  unfolding moved_rows
+  behind_front before mid after (Ok (Whole e tally)) p q =
+      ((moved_rows [] (Ok e) mid after before after q.0.0 (puts_then before mid after front _ p q.0.0.puts) q.0.0.sent, q.0.1), q.1, q.2)
   behind_front before mid after (Ok Limited) p q =
-      let h = q.0 in (
-        record {
-          x = h.x;
-          batches = h.batches;
-          bytes = h.bytes;
-          state = h.state;
-          run = h.run;
-          shortest = h.shortest;
-          reached = h.reached;
-          wanted = h.wanted;
-          have = h.have;
-          puts = puts_then before mid after front _ p h.puts;
-          sent = h.sent;
-        },
-        q.1,
-      )
-  behind_front before mid after (Ok (Broken f)) p q = (q.0, rows_behind q.0 before mid after p q.1, q.2, q.3)
+      (moved_limited [] mid after before after q.0 (puts_then before mid after front _ p q.0.puts) q.0.sent, q.1)
+  behind_front before mid after (Ok (Broken f)) p q =
+      (q.0, moved_rows [] q.0 mid after before after q.1 (puts_then before mid after front _ p q.1.puts) q.1.sent, q.2, q.3)
   behind_front before mid after (Ok (Lacking f)) p q =
       let h = q.0 in (
-        record {
-          x = h.x;
-          batches = h.batches;
-          last = h.last;
-          count = h.count;
-          bytes = h.bytes;
-          state = h.state;
-          run = h.run;
-          below = h.below;
-          have = h.have;
-          refuses = h.refuses;
-          puts = put_at before after _ _
-              (sym (append_assoc front (batch_lines (batch_heading options.form) line_in h.batches)
-              (batch_heading options.form h.last.pairs ++ lines line_in (take h.count h.last.rows))))
-              (puts_then before mid after front _ p h.puts);
-          few = h.few;
-        },
+        moved_stop [] mid after before after f h
+            (put_at before after _ _ (sym (append_assoc front (batch_lines (batch_heading options.form) line_in h.batches)
+            (batch_heading options.form h.last.pairs ++ lines line_in (take h.count h.last.rows))))
+            (puts_then before mid after front _ p h.puts)) h.few,
         q.1,
       )
   behind_front before mid after (Err e) p q = by_last q.last
@@ -138,19 +151,9 @@ module _ (options : PrintOptions) (front : List ℕ) (old new : Reader) where
   module _ (before mid : Output) where
     rows_flushed : (r : Result End Fault) (after : Output) → after.kept ≡ [] → PrintsRows options front old new before mid r
         → Puts mid after [] → PrintsRows options front old new before after r
-    rows_flushed r after empty p q = record {
-      x = p.x;
-      batches = p.batches;
-      bytes = p.bytes;
-      reads = p.reads;
-      counted = p.counted;
-      numbered = p.numbered;
-      below = p.below;
-      have = p.have;
-      puts = put_at before after _ _ (append-nil (front ++ batch_lines (batch_heading options.form) line_in p.batches))
-          (puts_then before mid after _ [] p.puts q);
-      sent = empty;
-    }
+    rows_flushed r after empty p q =
+        moved_rows front r before mid before after p
+        (put_at before after _ _ (append-nil _) (puts_then before mid after _ [] p.puts q)) empty
 
     -- the tail of counts is that of the batches
     tail_is : (e : End) (tally : PrintCounts) (batches : List BatchRows) → IsTally tally batches
@@ -172,43 +175,19 @@ module _ (options : PrintOptions) (front : List ℕ) (old new : Reader) where
       p.1,
       p.2,
     )
-    flushed Limited last after empty p tail q =
-        let h = p.0 in (
-          record {
-            x = h.x;
-            batches = h.batches;
-            bytes = h.bytes;
-            state = h.state;
-            run = h.run;
-            shortest = h.shortest;
-            reached = h.reached;
-            wanted = h.wanted;
-            have = h.have;
-            puts = put_at before after _ _ (append-nil _) (puts_then before mid after _ [] h.puts (puts_then mid last after [] [] tail q));
-            sent = empty;
-          },
-          p.1,
-        )
+    flushed Limited last after empty p tail q = (
+      moved_limited front before mid before after p.0
+          (put_at before after _ _ (append-nil _) (puts_then before mid after _ [] p.0.puts (puts_then mid last after [] [] tail q))) empty,
+      p.1,
+    )
     flushed (Broken f) last after empty p tail q =
         (p.0, rows_flushed p.0 after empty p.1 (puts_then mid last after [] [] tail q), p.2, p.3)
-    flushed (Lacking f) last after empty p tail q =
-        let h = p.0 in (
-          record {
-            x = h.x;
-            batches = h.batches;
-            last = h.last;
-            count = h.count;
-            bytes = h.bytes;
-            state = h.state;
-            run = h.run;
-            below = h.below;
-            have = h.have;
-            refuses = h.refuses;
-            puts = put_at before after _ _ (append-nil _) (puts_then before mid after _ [] h.puts (puts_then mid last after [] [] tail q));
-            few = omega (arith, ap length empty);
-          },
-          p.1,
-        )
+    flushed (Lacking f) last after empty p tail q = (
+      moved_stop front before mid before after f p.0
+          (put_at before after _ _ (append-nil _) (puts_then before mid after _ [] p.0.puts (puts_then mid last after [] [] tail q)))
+          (omega (arith, ap length empty)),
+      p.1,
+    )
 
     -- the text of batches whose rows are below the limit
     all_shown : (batches : List BatchRows) → WantsMoreRows options.limit (row_count batches) → (tail : List ℕ)
@@ -218,11 +197,14 @@ module _ (options : PrintOptions) (front : List ℕ) (old new : Reader) where
         ap (λ (bs : List BatchRows). (front ++ batch_lines (batch_heading options.form) line_in bs) ++ tail)
         (sym (within_all options.limit batches below))
 
-    rows_unflushed : (r : Result End Fault) (w : Option (List ℕ)) (n : ℕ) → PrintsRows options front old new before mid r
-        → PutFails mid w n [] Write → PrintsPart options front old new before w n Write
-    rows_unflushed r w n p q =
-        let missing = missing_at before w n _ _ Write 0 (all_shown p.batches p.below [])
-        (missing_then before mid w n _ [] Write 0 p.puts (missing_all mid w n [] Write p.sent q)) in
+    -- a text after rows that were put was not put
+    rows_left : (r : Result End Fault) (tail : List ℕ) (w : Option (List ℕ)) (n : ℕ) (e : PrintFault)
+        (p : PrintsRows options front old new before mid r) → IsTail options.form p.batches tail → PutFails mid w n tail e
+        → ((b : List ℕ) → length b ≤ length tail → AreLast old.limits p.reads.state p.reads.rest new.remaining b)
+        → (e ≢ Write → old.failures ≡ 0 → new.failures ≡ 0) → PrintsPart options front old new before w n e
+    rows_left r tail w n e p ends q last works =
+        let missing = missing_at before w n _ _ e (length tail) (all_shown p.batches p.below tail)
+        (missing_then before mid w n _ tail e (length tail) p.puts (missing_all mid w n tail e p.sent q)) in
         record {
           x = p.x;
           batches = p.batches;
@@ -232,21 +214,29 @@ module _ (options : PrintOptions) (front : List ℕ) (old new : Reader) where
           joined = p.reads.joined;
           state = p.reads.state;
           run = p.reads.run;
-          tail = [];
-          inside = below_within options.limit p.batches p.reads.rest [] p.below;
-          ends = inl refl;
+          tail = tail;
+          inside = below_within options.limit p.batches p.reads.rest tail p.below;
+          ends = ends;
           puts = missing.0;
-          few = omega (arith, missing.1);
-          last = inr (inl (nil_from_length missing.0.behind (omega (arith, missing.1))));
-          works = λ other. absurd (other refl);
+          few = omega (
+            arith,
+            missing.1,
+            length-append (last_lines front (batch_heading options.form) line_in (within options.limit p.batches)) tail,
+          );
+          last = last missing.0.behind missing.1;
+          works = works;
         }
+
+    rows_unflushed : (r : Result End Fault) (w : Option (List ℕ)) (n : ℕ) → PrintsRows options front old new before mid r
+        → PutFails mid w n [] Write → PrintsPart options front old new before w n Write
+    rows_unflushed r w n p q =
+        rows_left r [] w n Write p (inl refl) q (λ b few. inr (inl (nil_from_length b (omega (arith, few))))) (λ other. absurd (other refl))
 
     -- the text of batches and of the first rows of one more is a beginning of the text with all its rows
     all_rows : (batches : List BatchRows) (rows : BatchRows) (count : ℕ)
         → front ++ batch_lines (batch_heading options.form) line_in (batches ++ rows ∷ [])
         ≡ ((front ++ batch_lines (batch_heading options.form) line_in batches)
-        ++ (batch_heading options.form rows.pairs ++ lines line_in (take count rows.rows)))
-        ++ lines line_in (drop count rows.rows)
+        ++ (batch_heading options.form rows.pairs ++ lines line_in (take count rows.rows))) ++ lines line_in (drop count rows.rows)
     all_rows batches rows count =
         let texts = batch_lines (batch_heading options.form) line_in batches in
         let head = batch_heading options.form rows.pairs in
@@ -261,30 +251,8 @@ module _ (options : PrintOptions) (front : List ℕ) (old new : Reader) where
         → PrintsPart options front old new before w n e
     tail_cut (Whole end tally) w n e is p q =
         let r = p.0.0 in
-        let tail = outcome_tail options.form (Whole end tally) new.taken in
-        let missing = missing_at before w n _ _ e (length tail) (all_shown r.batches r.below tail)
-        (missing_then before mid w n _ tail e (length tail) r.puts (missing_all mid w n tail e r.sent q)) in
-        record {
-          x = r.x;
-          batches = r.batches;
-          bytes = r.bytes;
-          rest = r.reads.rest;
-          whole = r.reads.whole;
-          joined = r.reads.joined;
-          state = r.reads.state;
-          run = r.reads.run;
-          tail = tail;
-          inside = below_within options.limit r.batches r.reads.rest tail r.below;
-          ends = inr (end, (new.taken, tail_is end tally r.batches p.0.1));
-          puts = missing.0;
-          few = omega (
-            arith,
-            missing.1,
-            length-append (last_lines front (batch_heading options.form) line_in (within options.limit r.batches)) tail,
-          );
-          last = inr (inr (end, r.reads.ends));
-          works = λ other. p.2;
-        }
+        rows_left (Ok end) (outcome_tail options.form (Whole end tally) new.taken) w n e r
+        (inr (end, (new.taken, tail_is end tally r.batches p.0.1))) q (λ b few. inr (inr (end, r.reads.ends))) (λ other. p.2)
     tail_cut Limited w n e is p q = absurd is
     tail_cut (Broken f) w n e is p q = absurd is
     tail_cut (Lacking f) w n e is p q = absurd is
@@ -302,23 +270,8 @@ module _ (options : PrintOptions) (front : List ℕ) (old new : Reader) where
         let missing = missing_at before w n _ _ Write 0 refl
         (missing_then before mid w n (front ++ batch_lines (batch_heading options.form) line_in shown) [] Write 0 h.puts
         (missing_all mid w n [] Write h.sent cut)) in
-        record {
-          x = h.x;
-          batches = h.batches;
-          bytes = h.bytes;
-          rest = [];
-          whole = h.x;
-          joined = sym (append-nil h.x);
-          state = h.state;
-          run = h.run;
-          tail = [];
-          inside = wanted_within options.limit h.batches h.wanted;
-          ends = inl refl;
-          puts = missing.0;
-          few = omega (arith, missing.1);
-          last = inl refl;
-          works = λ other. absurd (other refl);
-        }
+        part_read options front old new before w n Write h.x h.batches h.state h.bytes h.run h.wanted missing.0 (omega (arith, missing.1))
+        (λ other. absurd (other refl))
     unflushed (Broken f) last w n p tail q = rows_unflushed p.0 w n p.1 (puts_not_then mid last w n [] [] Write tail q)
     unflushed (Lacking f) last w n p tail q =
         let h = p.0 in
@@ -334,37 +287,20 @@ module _ (options : PrintOptions) (front : List ℕ) (old new : Reader) where
         let unsent = lines line_in (drop h.count cut_last.rows) in
         let cut = puts_not_then mid last w n [] [] Write tail q in
         let text = front ++ batch_lines (batch_heading options.form) line_in h.batches in
-        let first = missing_at before w n _ _ Write (length mid.kept)
-        (append-nil _ ∙ ap (λ (t : List ℕ). text ++ t) same)
+        let first = missing_at before w n _ _ Write (length mid.kept) (append-nil _ ∙ ap (λ (t : List ℕ). text ++ t) same)
         (missing_then before mid w n _ [] Write (length mid.kept) h.puts (cut, omega (arith, cut.few, length-append mid.kept []))) in
-        let missing = missing_at before w n _ _ Write (length mid.kept + length unsent)
-        (sym (all_rows h.batches cut_last h.count)
+        let missing = missing_at before w n _ _ Write (length mid.kept + length unsent) (sym (all_rows h.batches cut_last h.count)
         ∙ (ap (λ (bs : List BatchRows). front ++ batch_lines (batch_heading options.form) line_in bs) (sym shown) ∙ sym (append-nil _)))
         (missing_more before w n _ unsent Write (length mid.kept) first) in
-        record {
-          x = h.x;
-          batches = h.batches ++ h.last ∷ [];
-          bytes = h.bytes;
-          rest = [];
-          whole = h.x;
-          joined = sym (append-nil h.x);
-          state = h.state;
-          run = h.run;
-          tail = [];
-          inside = wanted_within options.limit _ (wanted_more options.limit h.batches h.last below);
-          ends = inl refl;
-          puts = missing.0;
-          few = omega (
-            arith,
-            missing.1,
-            h.few,
-            ap length same,
-            length-append (batch_heading options.form h.last.pairs ++ lines line_in (take h.count cut_last.rows)) unsent,
-            ap length (head_rest line_in (batch_heading options.form h.last.pairs) cut_last.rows h.count),
-            ap length (last_lines_more line_in (batch_heading options.form) front h.batches cut_last),
-            ap (λ (bs : List BatchRows). length (last_lines front (batch_heading options.form) line_in bs)) shown,
-            length-append (last_lines front (batch_heading options.form) line_in (within options.limit (h.batches ++ h.last ∷ []))) [],
-          );
-          last = inl refl;
-          works = λ other. absurd (other refl);
-        }
+        part_read options front old new before w n Write h.x (h.batches ++ h.last ∷ []) h.state h.bytes h.run
+        (wanted_more options.limit h.batches h.last below) missing.0
+        (omega (
+          arith,
+          missing.1,
+          h.few,
+          ap length same,
+          length-append (batch_heading options.form h.last.pairs ++ lines line_in (take h.count cut_last.rows)) unsent,
+          ap length (head_rest line_in (batch_heading options.form h.last.pairs) cut_last.rows h.count),
+          ap length (last_lines_more line_in (batch_heading options.form) front h.batches cut_last),
+          ap (λ (bs : List BatchRows). length (last_lines front (batch_heading options.form) line_in bs)) shown,
+        )) (λ other. absurd (other refl))

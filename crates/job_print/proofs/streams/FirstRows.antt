@@ -158,8 +158,7 @@ refuses_first form fields rows k c fault less r =
 
 -- how many rows before a row that is refused are below the limit
 pub below_refused : (limit : Option ℕ) (before count rows c : ℕ) → WantsMoreRows limit before → count ≡ wanted_rows limit before rows → c
-    < count
-    → WantsMoreRows limit (before + c)
+    < count → WantsMoreRows limit (before + c)
 below_refused None before count rows c below is less = tt
 below_refused (Some n) before count rows c below is less = omega (arith, below, is, less)
 

@@ -1,4 +1,4 @@
--- A batch's rows behind its head.
+-- A batch's rows after its head.
 use Rattle.std.proofs.Common.{ℕ, List, [], Option, Some, None, Result, Ok, Err}
 use Rattle.ipc_model.specs.declared.schema.Field.{Field}
 use Rattle.ipc_model.specs.declared.value.Value.{Value}
@@ -9,7 +9,7 @@ use Rattle.job_print.specs.Output.{Output, output, Puts}
 use Rattle.job_print.specs.Streams.{PutsRows}
 use Rattle.job_print.proofs.Puts.{puts_then, puts_not_then}
 
--- rows that were put behind a head were put with it
+-- rows that were put after a head were put with it
 pub rows_behind : (form : Form) (fields : List Field) (head : List ℕ) (rows : List (List Value)) (a b : Output) (w : Option (List ℕ))
     (n : ℕ) (k : List ℕ) (r : Result (Option TextFault) PrintFault) → Puts a b head → PutsRows form fields [] rows b w n k r
     → PutsRows form fields head rows a w n k r

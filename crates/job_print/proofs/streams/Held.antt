@@ -1,5 +1,5 @@
 -- Where a source holds a table, its text is printed, or what stands in the way is in the table or outside.
-use Rattle.std.proofs.Common.{◌≡◌, ◌∙◌, refl, sym, ap, subst, ℕ, zero, inl, inr, List, [], ◌∷◌, ◌++◌, length, Option, Some, None}
+use Rattle.std.proofs.Common.{◌≡◌, ◌∙◌, refl, sym, ap, subst, ℕ, zero, inl, inr, List, [], ◌∷◌, ◌++◌, length, Option, Some, None, ◌+◌}
 use Rattle.std.proofs.Common.{Result, Ok, Err, ⊎_elim, append_assoc, append-nil, arith}
 use Rattle.std.specs.Prelude.{⊤, ◌⊎◌, Bool, Contains, IsTrue, false, true}
 use Rattle.std.specs.Io.KnownBytes.{Appends, Consumes, IsAtEnd}
@@ -26,18 +26,15 @@ use Rattle.ipc_stream_read.proofs.Beginnings.{reads_of, schema_begins, table_beg
 use Rattle.job_print.specs.declared.form.PrintOptions.{PrintOptions}
 use Rattle.job_print.specs.declared.stop.PrintStop.{PrintStop}
 use Rattle.job_print.specs.declared.stop.PrintStop.TheVariants as stop
-use Rattle.std.proofs.Common.{◌+◌}
 use Rattle.job_print.specs.FirstRows.{within, WantsMoreRows}
 use Rattle.job_print.specs.Forms.{form_fault, row_count, RefusesFirstRow}
 use Rattle.job_print.specs.Output.{Output}
 use Rattle.job_print.specs.Streams.{AnswersPrintedTable, EndsPrinting, HasUnprintableRow, Prints, PrintsFirst, PrintsStream, PrintsTable}
-use Rattle.job_print.specs.Streams.{PrintsText, StopsPrinting}
-use Rattle.job_print.specs.Streams.{broken, stream_text, refused}
-use Rattle.job_print.specs.Streams.{unfit, unopened}
+use Rattle.job_print.specs.Streams.{PrintsText, StopsPrinting, broken, stream_text, refused, unfit, unopened}
 use Rattle.job_print.proofs.streams.FirstRows.{reached_more, refused_within, within_prefix}
 use Rattle.job_print.proofs.streams.Streams.{one_more, reads_opened}
 
--- how often the source failed is told where reading is refused
+-- how often the source failed is stated where reading is refused
 abbrev pub TellsRead : ℕ → ℕ → Result ⊤ PrintStop → Type 0
 TellsRead old new (Ok done) = ⊤
 TellsRead old new (Err (stop.Read fault message)) = CountsFault old new fault
@@ -46,8 +43,7 @@ TellsRead old new (Err (stop.Text fault)) = ⊤
 
 -- why reading broke off, as what was taken: a fault, or an end without the mark that is required
 broken_taken : {limits : Limits} → (options : PrintOptions) (old new w0 w1 : Option (List ℕ)) (fault : Fault) (n : ℕ)
-    → EndsPrinting options limits old new w0 w1 fault n
-    → TakesTable limits old new (Err fault)
+    → EndsPrinting options limits old new w0 w1 fault n → TakesTable limits old new (Err fault)
     ⊎ ((u : Table) × TakesTable limits old new (Ok (u, Closed)) × IsTrue options.require_mark)
 broken_taken options old new w0 w1 fault n (unopened x bytes reads number kept) =
     inl (record { x = x; bytes = bytes; gives = ([], reads) })
@@ -65,8 +61,7 @@ broken_taken {limits} options old new w0 w1 fault n (broken x y u answer bytes o
 
 -- a table that was printed, as what was taken
 printed_taken : {limits : Limits} → (options : PrintOptions) (old new w0 w1 : Option (List ℕ))
-    (p : PrintsTable options limits old new w0 w1)
-    → TakesTable limits old new (Ok (p.table, p.end))
+    (p : PrintsTable options limits old new w0 w1) → TakesTable limits old new (Ok (p.table, p.end))
 printed_taken options old new w0 w1 p = record { x = p.x; bytes = p.bytes; gives = reads_of p.x new p.table p.end p.denotes p.closed }
 
 -- a row of a batch below the limit that has no text is one of the table's
@@ -140,8 +135,7 @@ module _ {limits : Limits} (options : PrintOptions) (old new w0 w1 : Option (Lis
       first_text options (x ++ rest) t (holds_marked x rest t d) new w0 w1 Mark (length x)
       (subst (λ (o : Option (List ℕ)). PrintsFirst options limits o new w0 w1) is p)
   printed_marked (Ok done) tells (inl p) x rest t is d =
-      let same = answers_marked old new 0 0 (Ok (p.table, p.end))
-      (printed_taken options old new w0 w1 p) refl (refl, refl) x rest t is d in
+      let same = answers_marked old new 0 0 (Ok (p.table, p.end)) (printed_taken options old new w0 w1 p) refl (refl, refl) x rest t is d in
       let here = subst (λ (o : Option (List ℕ)). Consumes o new p.x) is p.bytes in
       let left = left_of (x ++ rest) new p.x here in
       let read : Denotes limits p.x t Mark =
@@ -149,12 +143,10 @@ module _ {limits : Limits} (options : PrintOptions) (old new w0 w1 : Option (Lis
       text_of options w0 w1 p.table t p.end Mark (length p.x) (length x) same.0 same.1
       (ap length (sym (same_marked x rest p.x left.0 t d read left.1))) (inl (p.below, p.text))
   printed_marked (Err (stop.Read fault n)) tells p x rest t is d =
-      ⊎_elim (λ takes. answers_marked old new g0 g1 (Err fault) takes none tells x rest t is d)
-      (λ takes.
+      ⊎_elim (λ takes. answers_marked old new g0 g1 (Err fault) takes none tells x rest t is d) (λ takes.
       let same : Closed ≡ Mark =
       (answers_marked old new 0 0 (Ok (takes.0, Closed)) takes.1 refl (refl, refl) x rest t is d).1 in
-      absurd (cc))
-      (broken_taken options old new w0 w1 fault n p)
+      absurd (cc)) (broken_taken options old new w0 w1 fault n p)
   printed_marked (Err (stop.Text fault)) tells p x rest t is d =
       lacking options (x ++ rest) t (holds_marked x rest t d) new w0 w1 fault
       (subst (λ (o : Option (List ℕ)). StopsPrinting options limits o new w0 w1 fault) is p)
@@ -167,17 +159,14 @@ module _ {limits : Limits} (options : PrintOptions) (old new w0 w1 : Option (Lis
       first_text options x t (holds_closed x t d) new w0 w1 Closed (length x)
       (subst (λ (o : Option (List ℕ)). PrintsFirst options limits o new w0 w1) is p)
   printed_closed (Ok done) tells (inl p) x t free is d =
-      let same = answers_closed old new 0 0 (Ok (p.table, p.end))
-      (printed_taken options old new w0 w1 p) refl (refl, refl) x t is d in
+      let same = answers_closed old new 0 0 (Ok (p.table, p.end)) (printed_taken options old new w0 w1 p) refl (refl, refl) x t is d in
       let here = subst (λ (o : Option (List ℕ)). Consumes o new p.x) is p.bytes in
       text_of options w0 w1 p.table t p.end Closed (length p.x) (length x) same.0 same.1
       (ap length (same_closed x p.x new here (p.closed same.1))) (inl (p.below, p.text))
   printed_closed (Err (stop.Read fault n)) tells p x t free is d =
-      ⊎_elim (λ takes. answers_closed old new g0 g1 (Err fault) takes none tells x t is d)
-      (λ takes.
+      ⊎_elim (λ takes. answers_closed old new g0 g1 (Err fault) takes none tells x t is d) (λ takes.
       let bad : false ≡ true = sym free ∙ takes.2 in
-      absurd (cc))
-      (broken_taken options old new w0 w1 fault n p)
+      absurd (cc)) (broken_taken options old new w0 w1 fault n p)
   printed_closed (Err (stop.Text fault)) tells p x t free is d =
       lacking options x t (holds_closed x t d) new w0 w1 fault
       (subst (λ (o : Option (List ℕ)). StopsPrinting options limits o new w0 w1 fault) is p)
@@ -185,8 +174,7 @@ module _ {limits : Limits} (options : PrintOptions) (old new w0 w1 : Option (Lis
 
 -- what the answer to a stream whose schema was read says of how often its source failed
 pub stream_tells : (options : PrintOptions) (s t : Reader) (before after : Output) (r : Result ⊤ PrintStop)
-    → PrintsStream options s t before after r
-    → TellsRead s.failures t.failures r
+    → PrintsStream options s t before after r → TellsRead s.failures t.failures r
 stream_tells options s t before after (Ok done) p = tt
 stream_tells options s t before after (Err (stop.Read fault n)) p = p.3
 stream_tells options s t before after (Err (stop.Write fault)) p = tt

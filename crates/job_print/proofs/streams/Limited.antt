@@ -26,16 +26,14 @@ use Rattle.job_print.specs.declared.stop.PrintStop.TheVariants as stop
 use Rattle.job_print.specs.FirstRows.{within, AreWanted, HasReached, WantsMoreRows}
 use Rattle.job_print.specs.Forms.{form_fault, row_count}
 use Rattle.job_print.specs.Streams.{AnswersFirst, EndsPrinting, HasUnprintableRow, Prints, PrintsFirst, PrintsTable, ReachesLimit}
-use Rattle.job_print.specs.Streams.{StopsPrinting}
-use Rattle.job_print.specs.Streams.{broken, stream_text, refused, unfit, unopened}
+use Rattle.job_print.specs.Streams.{StopsPrinting, broken, stream_text, refused, unfit, unopened}
 use Rattle.job_print.proofs.streams.FirstRows.{below_less, not_both, reached_more, wanted_more}
 use Rattle.job_print.proofs.streams.Held.{TellsRead, lacking_row}
 use Rattle.job_print.proofs.streams.Streams.{one_more, reads_opened}
 
 -- of two runs of messages over the same bytes, the events of one begin with those of the other
 fronts : {limits : Limits} → {σ τ υ : State} {x y : List ℕ} {es gs : List Event} (a b : List ℕ) → Run limits σ x es τ
-    → Run limits σ y gs υ → x ++ a ≡ y ++ b
-    → ((rest : List Event) × (gs ≡ es ++ rest)) ⊎ ((rest : List Event) × (es ≡ gs ++ rest))
+    → Run limits σ y gs υ → x ++ a ≡ y ++ b → ((rest : List Event) × (gs ≡ es ++ rest)) ⊎ ((rest : List Event) × (es ≡ gs ++ rest))
 fronts {gs = gs} a b done q e = inl (gs, refl)
 fronts a b (more {es = es} {fs = hs} f p q) done e = inr (es ++ hs, refl)
 fronts {limits} a b (more {σ = σ} {τ = τ} {x = x} {metadata = m} {body = body} {y = y} {h = g} {es = es} {fs = hs} f p q)
@@ -44,15 +42,13 @@ fronts {limits} a b (more {σ = σ} {τ = τ} {x = x} {metadata = m} {body = bod
     let other : Step limits σ g body es' τ' = subst (λ z. Step limits σ z body es' τ') (sym same.same_head)
     (subst (λ z. Step limits σ g' z es' τ') (sym same.same_body) p') in
     let step = step_one p other in
-    ⊎_elim
-    (λ on. inl (on.0, ap (λ l. es' ++ l) on.1 ∙ (sym (append_assoc es' hs on.0) ∙ ap (λ l. (l ++ hs) ++ on.0) (sym step.0))))
+    ⊎_elim (λ on. inl (on.0, ap (λ l. es' ++ l) on.1 ∙ (sym (append_assoc es' hs on.0) ∙ ap (λ l. (l ++ hs) ++ on.0) (sym step.0))))
     (λ on. inr (on.0, ap (λ l. es ++ l) on.1 ∙ (sym (append_assoc es hs' on.0) ∙ ap (λ l. (l ++ hs') ++ on.0) step.0)))
     (fronts a b q (subst (λ z. Run limits z y' hs' υ') (sym step.1) q') same.same_rest)
 
 -- reading that breaks off at the bytes has reported the events of messages at their front, or the cause is outside of them
 breaks_after : {limits : Limits} → {σ τ υ : State} {x y : List ℕ} {es gs : List Event} (a z b : List ℕ) (fault : Fault)
-    → Run limits σ x es τ
-    → Run limits σ y gs υ → BreaksOff limits υ z (Some b) fault → x ++ a ≡ y ++ (z ++ b)
+    → Run limits σ x es τ → Run limits σ y gs υ → BreaksOff limits υ z (Some b) fault → x ++ a ≡ y ++ (z ++ b)
     → IsOutside fault ⊎ ((rest : List Event) × (gs ≡ es ++ rest))
 breaks_after {gs = gs} a z b fault done q r e = inr (gs, refl)
 breaks_after {limits} {σ = σ} {τ = τ} a z b fault (more {x = x} {y = y} {es = es} {fs = hs} f p q) done r e = by_events (es ++ hs) refl
@@ -127,17 +123,14 @@ module _ {limits : Limits} (options : PrintOptions) (x rest : List ℕ) (t : Tab
   first_printed new w0 w1 p =
       let left = left_of (x ++ rest) new p.x p.bytes in
       let same : p.table ≡ t =
-      ⊎_elim (λ on. same_table on.0 p.table t on.1 h.reached p.wanted)
-      (λ on. sym (same_table on.0 t p.table on.1 p.reached h.wanted))
+      ⊎_elim (λ on. same_table on.0 p.table t on.1 h.reached p.wanted) (λ on. sym (same_table on.0 t p.table on.1 p.reached h.wanted))
       (fronts rest left.0 h.run p.run left.1) in
       let run : Run limits None x (events_of p.table) h.state = subst (λ q. Run limits None x (events_of q) h.state) (sym same) h.run in
       let shown = subst (λ (q : Table). Appends w0 w1 (stream_text options.form q.schema (within options.limit q.batches))) same p.text in
-      ⊎_elim
-      (λ on.
+      ⊎_elim (λ on.
       let none = p.shortest x on.0 h.state on.1 run in
       let all : x ≡ p.x = sym (on.1 ∙ (ap (λ l. x ++ l) none ∙ append-nil x)) in
-      ((p.x, [], all ∙ sym (append-nil p.x), p.bytes), shown))
-      (λ on. ((p.x, on.0, on.1, p.bytes), shown))
+      ((p.x, [], all ∙ sym (append-nil p.x), p.bytes), shown)) (λ on. ((p.x, on.0, on.1, p.bytes), shown))
       (one_begins x p.x rest left.0 left.1)
 
   -- a table that was read to its end begins with the events of t
@@ -166,8 +159,7 @@ module _ {limits : Limits} (options : PrintOptions) (x rest : List ℕ) (t : Tab
       let same : f ≡ fault = cc in
       let joined : x ++ rest ≡ reads.whole ++ (reads.rest ++ b) =
       bytes ∙ (ap (λ l. l ++ b) reads.joined ∙ append_assoc reads.whole reads.rest b) in
-      subst IsOutside same
-      (⊎_elim (λ out. out) (λ on. absurd (not_below u on.0 on.1 below))
+      subst IsOutside same (⊎_elim (λ out. out) (λ on. absurd (not_below u on.0 on.1 below))
       (breaks_after rest reads.rest b f h.run reads.run reads.ends joined))
   broken_outside (Some b) y u (Ok Mark) m fault bytes reads is below = absurd (cc)
   broken_outside (Some b) y u (Ok Closed) true fault bytes reads is below =
@@ -210,14 +202,12 @@ module _ {limits : Limits} (options : PrintOptions) (x rest : List ℕ) (t : Tab
       let before : WantsMoreRows options.limit (row_count u.batches) =
       below_less options.limit (row_count u.batches) (row_count u.batches + count) (omega arith) below in
       let begins : (others : List BatchRows) × (t ≡ record { schema = u.schema; batches = (u.batches ++ last ∷ []) ++ others }) =
-      ⊎_elim
-      (λ on. (
+      ⊎_elim (λ on. (
         [],
         sym (same_table on.0 longer t (one_more u last ∙ on.1) h.reached (wanted_more options.limit u.batches last before))
             ∙ ap (λ (bs : List BatchRows). record { schema = u.schema; batches = bs }) (sym (append-nil (u.batches ++ last ∷ []))),
       ))
-      (λ on. table_begins t longer on.0 (on.1 ∙ ap (λ es. es ++ on.0) (sym (one_more u last))))
-      (fronts rest left.0 h.run run left.1) in
+      (λ on. table_begins t longer on.0 (on.1 ∙ ap (λ es. es ++ on.0) (sym (one_more u last)))) (fronts rest left.0 h.run run left.1) in
       lacking_row options t u last count fault begins.0 begins.1 below refuses
 
 -- where the source begins with the messages of a table up to the limit, the answer is the text of its rows up to it

@@ -2,7 +2,7 @@
 use Rattle.ipc_model.specs.declared.table.BatchRows.{BatchRows}
 use Rattle.std.proofs.Common.{refl, ◌≡◌, ◌≢◌, ◌∙◌, sym, ap, subst, ℕ, inl, inr, List, [], ◌∷◌, ◌++◌, map, take, drop, Option, Some, None}
 use Rattle.std.proofs.Common.{Result, Ok, Err, append_assoc, append-nil, arith, ◌+◌}
-use Rattle.std.specs.Prelude.{⊤}
+use Rattle.std.specs.Prelude.{⊤, length}
 use Rattle.std.specs.Io.KnownBytes.{Appends, Consumes, IsAtEnd, Keeps}
 use Rattle.std.proofs.KnownBytes.{Consumes-trans, Keeps-refl}
 use Rattle.ipc_model.specs.declared.fault.Fault.{Fault}
@@ -25,7 +25,6 @@ use Rattle.job_print.specs.declared.stop.PrintStop.TheVariants as stop
 use Rattle.job_print.specs.FirstRows.{batch_prefix, within, WantsMoreRows, wanted_rows}
 use Rattle.job_print.specs.Forms.{row_count, form_fault, front_text, batch_heading, line_of, tail_text}
 use Rattle.ipc_stream_read.specs.Counts.{count_up, messages_in}
-use Rattle.std.specs.Prelude.{length}
 use Rattle.job_print.specs.Output.{Output, output, AppendsText, Puts, PutFails}
 use Rattle.job_print.specs.Rows.{lines, batch_lines}
 use Rattle.job_print.specs.Streams.{PrintsTable, PrintsFirst, EndsPrinting, unopened, broken, StopsPrinting, unfit, refused, PrintsStream}
@@ -177,8 +176,7 @@ module _ {limits : Limits} (options : PrintOptions) (old : Option (List ℕ)) (s
         fits = fits;
         rows = r.have;
         text = subst (λ (n : ℕ). Appends w0 w1 (stream_text options.form s.schema r.batches ++ tail_text options.form end n r.batches))
-            taken
-            (grows_appends w0 w1 _ (grows_then w0 all.middle.written w1 [] all.middle.kept [] _ _ r.puts.bytes all.tail.bytes));
+            taken (grows_appends w0 w1 _ (grows_then w0 all.middle.written w1 [] all.middle.kept [] _ _ r.puts.bytes all.tail.bytes));
       }
   prints_rows (Err (stop.Read fault n)) (answer, r, ends, tells, number) =
       let after = output w1 n1 [] in
@@ -235,8 +233,7 @@ broken_part options old new w0 w1 fault n (broken x y t answer bytes opens behin
 all_rows : (form : Form) (t : Table) (rows : BatchRows) (count : ℕ)
     → (stream_text form t.schema t.batches
     ++ (batch_heading form rows.pairs ++ lines (line_of form t.schema.fields) (take count rows.rows)))
-    ++ lines (line_of form t.schema.fields) (drop count rows.rows)
-    ≡ stream_text form t.schema (t.batches ++ rows ∷ [])
+    ++ lines (line_of form t.schema.fields) (drop count rows.rows) ≡ stream_text form t.schema (t.batches ++ rows ∷ [])
 all_rows form t rows count =
     let line = line_of form t.schema.fields in
     let front = front_text form t.schema in
@@ -270,8 +267,7 @@ stopped_part {limits} options old new w0 w1 fault (refused x t rows count σ byt
     (subst (λ (z : List ℕ). AppendsText w0 [] w1 rest z)
     (all_rows form t first count ∙ (ap (stream_text form t.schema) (sym shown) ∙ sym (append-nil _)))
     (grows_more w0 w1 [] [] (start ++ (batch_heading form rows.pairs ++ lines line (take count first.rows))) rest
-    (appends_grows w0 w1 _ here)))
-    (omega (
+    (appends_grows w0 w1 _ here))) (omega (
       arith,
       ap length (head_rest line (batch_heading form rows.pairs) first.rows count),
       length-append (batch_heading form rows.pairs ++ lines line (take count first.rows)) rest,

@@ -1,7 +1,6 @@
 -- Fields of CSV between quotes.
 use Rattle.std.proofs.Common.{◌≡◌, ◌∙◌, refl, sym, ap, ℕ, suc, ◌+◌, ◌<◌, ◌≤◌, ◌==◌, ◌||◌, Bool, true, false, List, [], ◌∷◌, ◌++◌, length}
-use Rattle.std.proofs.Common.{drop}
-use Rattle.std.proofs.Common.{drop-cons, get_or, add-one, append-nil, append_assoc}
+use Rattle.std.proofs.Common.{drop, drop-cons, get_or, add-one, append-nil, append_assoc}
 use Rattle.std.specs.Prelude.{if◌then◌else◌}
 use Rattle.std.proofs.lemmas.List.{drop_all}
 use Rattle.csv.specs.Writing.{default_writer, escaped, needs_byte, needs_quotes}
@@ -38,7 +37,7 @@ pub backslash_between : (bs : List ℕ) → escaped default_writer (92 ∷ bs) �
 unfolding escaped
 backslash_between bs = refl
 
--- a text behind a backslash that needs quotes, between them
+-- a text after a backslash that needs quotes, between them
 either_needs : (c : ℕ) (field : List ℕ)
     → needs_quotes (writer c) (92 ∷ field) ≡ (needs_quotes (writer c) (92 ∷ []) || needs_quotes (writer c) field)
 either_needs c field = list_any-append (needs_byte (writer c)) (92 ∷ []) field

@@ -1,8 +1,8 @@
 -- What slots hold, and their texts.
-use Rattle.std.proofs.Common.{◌≡◌, ◌∙◌, refl, sym, ap, ℕ, zero, suc, ◌+◌, ◌-◌, ◌<◌, ◌≤◌, List, [], ◌∷◌, length, map}
-use Rattle.std.proofs.Common.{Some, drop, le-leb}
-use Rattle.std.proofs.Common.{Option, None, arith, subst, replicate}
+use Rattle.std.proofs.Common.{◌≡◌, ◌∙◌, refl, sym, ap, ℕ, zero, suc, ◌+◌, ◌-◌, ◌<◌, ◌≤◌, List, [], ◌∷◌, length, map, Some, drop, le-leb}
+use Rattle.std.proofs.Common.{Option, None, arith, subst, replicate, Bor, take}
 use Rattle.std.specs.Prelude.{nat_lt, slice_get, true}
+use Rattle.job_print.proofs.Trees.{some_same}
 use Rattle.std.proofs.lemmas.List.{drop_all}
 use Rattle.std.proofs.lemmas.Option.{get_or_from_slice_get, none-some}
 use Rattle.ipc_model.specs.declared.schema.Field.{Field, out-Field, fold_out-Field}
@@ -24,7 +24,6 @@ use Rattle.ipc_column.proofs.Parts.{children_out}
 use Rattle.ipc_column.proofs.lending.Slots.{items_length}
 use Rattle.serde_json.specs.Data.{null}
 use Rattle.ipc_column.proofs.Cells.{row_length}
-use Rattle.std.proofs.Common.{Bor, take}
 use Rattle.ipc_model.specs.declared.schema.DataType.{DataType}
 use Rattle.ipc_text_csv.specs.declared.dialect.Dialect.{Dialect}
 use Rattle.ipc_text_csv.specs.RowCsv.{csv_text, value_text}
@@ -66,8 +65,7 @@ json_shown shape f child_columns i s =
 
 -- the JSON of a slot, by what it was found to hold
 pub slot_json : (shape : RowShape) (f : Field) (n : Nested) (i : ℕ) (s : Slot)
-    → slice_get (slot_values n) i ≡ Some (value_in_slot (row (child_columns n)) i s)
-    → cell_json shape f (slot_value n i)
+    → slice_get (slot_values n) i ≡ Some (value_in_slot (row (child_columns n)) i s) → cell_json shape f (slot_value n i)
     ≡ value_json shape (out-Field f).kind (map (row_field shape) (out-Field f).children) (open_slot (row (child_columns n)) i s)
 slot_json shape f n i s h =
     ap (cell_json shape f) (get_or_from_slice_get (slot_values n) i (value_in_slot (row (child_columns n)) i s) v.Null h)
@@ -80,25 +78,6 @@ pub slot_csv : (d : Dialect) (kind : DataType) (n : Nested) (i : ℕ) (s : Slot)
 slot_csv d kind n i s h =
     ap (csv_text d kind) (get_or_from_slice_get (slot_values n) i (value_in_slot (row (child_columns n)) i s) v.Null h)
     ∙ ap (value_text d kind) (out_slot (row (child_columns n)) i s)
-
--- the JSON of a slot whose text was told
-pub told_json : (shape : RowShape) (f : Field) (n : Nested) (i : ℕ) (bytes : Bor (List ℕ)) (len : ℕ)
-    → slice_get (slot_values n) i ≡ Some (v.Text (take len bytes.now))
-    → cell_json shape f (slot_value n i)
-    ≡ value_json shape (out-Field f).kind (map (row_field shape) (out-Field f).children) (Value-F.Text (take len bytes.now))
-told_json shape f n i bytes len h =
-    ap (cell_json shape f) (get_or_from_slice_get (slot_values n) i (v.Text (take len bytes.now)) v.Null h)
-    ∙ (ap (λ (p : Printed). p.json (v.Text (take len bytes.now))) (fold_out-Field Printed (field_json shape) f)
-    ∙ ap (value_json shape (out-Field f).kind (map (row_field shape) (out-Field f).children))
-    (ap out-Value (sym (v.rolls-Text (take len bytes.now))) ∙ out-roll-Value (Value-F.Text (take len bytes.now))))
-
--- the text in CSV of a slot whose text was told
-pub told_csv : (d : Dialect) (kind : DataType) (n : Nested) (i : ℕ) (bytes : Bor (List ℕ)) (len : ℕ)
-    → slice_get (slot_values n) i ≡ Some (v.Text (take len bytes.now))
-    → csv_text d kind (slot_value n i) ≡ value_text d kind (Value-F.Text (take len bytes.now))
-told_csv d kind n i bytes len h =
-    ap (csv_text d kind) (get_or_from_slice_get (slot_values n) i (v.Text (take len bytes.now)) v.Null h)
-    ∙ ap (value_text d kind) (ap out-Value (sym (v.rolls-Text (take len bytes.now))) ∙ out-roll-Value (Value-F.Text (take len bytes.now)))
 
 -- a child has the slots of its column
 slots_length : (body : List ℕ) (p : ColumnRanges) → length (slot_values (nested body p)) ≡ (column_of body p).slots
@@ -122,13 +101,6 @@ items_same f g i (suc n) h =
     let first = h i (omega arith) (omega arith) in
     let rest = items_same f g (i + 1) n (λ j a b. h j (omega arith) (omega arith)) in
     λ k. first k ∷ rest k
-
-some_same : (a b : Nested) → Some a ≡ Some b → a ≡ b
-some_same a b h = ap (λ (o : Option Nested). out o) h
-  where
-    out : Option Nested → Nested
-    out (Some x) = x
-    out None = a
 
 -- the first child of a list has its values
 list_first : (body : List ℕ) (ps : List ColumnRanges) (child : Nested) (from to : ℕ) → slice_get (map (nested body) ps) 0 ≡ Some child
@@ -191,11 +163,11 @@ repeated_at x zero i l = absurd (omega arith)
 repeated_at x (suc n) zero l = refl
 repeated_at x (suc n) (suc i) l = repeated_at x n i (omega arith)
 
--- behind so many slots there are none of them
+-- after so many slots there are none of them
 pub slots_done : (n : Nested) (from count i : ℕ) → count ≤ i → drop i (values_between n from count) ≡ []
 slots_done n from count i h =
     drop_all i (values_between n from count) (let size = items_length (slot_value n) from count in omega (arith, size, h))
 
--- behind the children of a struct it has no values
+-- after the children of a struct it has no values
 pub children_done : (n : Nested) (slot i : ℕ) → length n.children ≤ i → drop i (row (child_columns n) slot) ≡ []
 children_done n slot i h = drop_all i (row (child_columns n) slot) (let size = row_length n.body n.children slot in omega (arith, size, h))

@@ -16,8 +16,7 @@ pub front_written : (old new long : List ℕ) (at n : ℕ) → at ≤ length old
 front_written old new long at n inside less is =
     let front = take at old in
     let size : length front ≡ at = length-take-le at old inside in
-    sym (take-take (at + n) (at + length long) new (omega (arith, less)))
-    ∙ (ap (take (at + n)) is
+    sym (take-take (at + n) (at + length long) new (omega (arith, less))) ∙ (ap (take (at + n)) is
     ∙ (ap (λ (k : ℕ). take (k + n) (front ++ long)) (sym size) ∙ take-append-add front long n))
 
 -- a word of JSON
@@ -30,7 +29,7 @@ pub truth_field : (d : Dialect) (text : List ℕ) (truth : Bool) → with_field 
 truth_field d text true = rw (all_plain d.delimiter (bool_text true) d.allowed.apart refl) refl
 truth_field d text false = rw (all_plain d.delimiter (bool_text false) d.allowed.apart refl) refl
 
--- a word that was written with what is left of five bytes behind it
+-- a word that was written with what is left of five bytes after it
 pub truth_written : (truth : Bool) (old new five : List ℕ) (at less end : ℕ) → at ≤ length old → length five ≡ 5
     → end ≡ at + length five → take end new ≡ take at old ++ five → take (length (bool_text truth)) five ≡ bool_text truth
     → less ≡ from_bool truth → take (at + 5 - less) new ≡ take at old ++ bool_text truth

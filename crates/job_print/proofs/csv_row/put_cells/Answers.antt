@@ -11,10 +11,8 @@ loop-fields-preserved c =
     let k = c.loop-fields in
     let comma = rw (c.delimiter.ensures, c.reserve.ensures.text) at c.put_delimiter.ensures.text in
     let h = first_appended c.args.dialect.now k.fields.now k.columns.now c.args.row c.field-item.result c.column-item.result _ k.number _ _
-    _ _
-    (search rules) (search rules) k.invariant.columns k.invariant.row c.field-item.is c.column-item.is
-    (ap (λ (vs : List Value). slice_index_or vs c.args.row v.Null) c.tree.ensures) k.invariant.text
-    comma c.in_ok-put_cell.ensures in
+    _ _ (search rules) (search rules) k.invariant.columns k.invariant.row c.field-item.is c.column-item.is
+    (ap (λ (vs : List Value). slice_index_or vs c.args.row v.Null) c.tree.ensures) k.invariant.text comma c.in_ok-put_cell.ensures in
     let left = h.left in
     let number = k.invariant.number in
     record {

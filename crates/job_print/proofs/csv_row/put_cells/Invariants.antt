@@ -3,7 +3,7 @@ use Rattle.ipc_text_csv.specs.RowCsv.{with_fields, all_texts, each_text}
 use Rattle.job_print.specs.LentRows.{HaveRow, row_at}
 use Rattle.job_print.proofs.csv_row.put_cells.Given as goal
 
--- what is left to write stands behind what was written
+-- what is left to write stands after what was written
 abbrev pub invariant-loop-fields : goal.invariant-loop-fields
 invariant-loop-fields l = record {
   columns : length l.columns ≡ length l.fields;

@@ -1,56 +1,42 @@
-use Rattle.std.proofs.Common.{rules, ap, inr, refl, Some, FitsSigned, w64}
+use Rattle.std.proofs.Common.{rules, ap, inr, refl, Some, w64}
 use Rattle.std.proofs.lemmas.Int.{to_z-of_z}
 use Rattle.ipc_column.specs.declared.slot_view.Slot.TheVariants as slot
 use Rattle.job_print.proofs.texts.SlotTexts.{slot_csv}
 use Rattle.job_print.proofs.csv_row.put_slot_text.Goals as goal
 
 pub returns-in_ok-put_null-in-Null : goal.returns-in_ok-put_null-in-Null
-returns-in_ok-put_null-in-Null c = rw (slot_csv c.args.dialect.now c.args.kind.now c.args.tree.now c.args.slot slot.Null (rw
-    c.in-Null.is at c.requires.value))
-    (ap Some c.in_ok-put_null-in-Null.ensures)
+returns-in_ok-put_null-in-Null c =
+    rw (slot_csv _ _ c.args.tree.now _ slot.Null (rw c.in-Null.is at c.requires.value)) (ap Some c.in_ok-put_null-in-Null.ensures)
 
 pub returns-in-Bool : goal.returns-in-Bool
-returns-in-Bool c = rw (slot_csv c.args.dialect.now c.args.kind.now c.args.tree.now c.args.slot (slot.Bool c.in-Bool.truth)
-    (rw c.in-Bool.is at c.requires.value)) (ap Some (c.put_bool.ensures c.args.dialect.now))
+returns-in-Bool c =
+    rw (slot_csv _ _ c.args.tree.now _ (slot.Bool c.in-Bool.truth) (rw c.in-Bool.is at c.requires.value))
+    (ap Some (c.put_bool.ensures c.args.dialect.now))
 
 pub returns-in-Int : goal.returns-in-Int
 returns-in-Int c =
-    let fits : FitsSigned w64 c.in-Int.number = search rules in
-    rw (slot_csv c.args.dialect.now c.args.kind.now c.args.tree.now c.args.slot (slot.Int c.in-Int.number) (rw c.in-Int.is at
-    c.requires.value)) (rw
-    (to_z-of_z w64 c.in-Int.number fits) at c.put_int.ensures c.args.dialect.now)
+    rw (slot_csv _ _ c.args.tree.now _ (slot.Int c.in-Int.number) (rw c.in-Int.is at c.requires.value))
+    (rw (to_z-of_z w64 c.in-Int.number (search rules)) at c.put_int.ensures c.args.dialect.now)
 
 pub returns-in-UInt : goal.returns-in-UInt
-returns-in-UInt c = rw (slot_csv c.args.dialect.now c.args.kind.now c.args.tree.now c.args.slot (slot.UInt c.in-UInt.number)
-    (rw c.in-UInt.is at c.requires.value))
+returns-in-UInt c =
+    rw (slot_csv _ _ c.args.tree.now _ (slot.UInt c.in-UInt.number) (rw c.in-UInt.is at c.requires.value))
     (ap Some (c.put_unsigned_field.ensures c.args.dialect.now))
 
 pub returns-in-Bytes : goal.returns-in-Bytes
-returns-in-Bytes c = rw (slot_csv c.args.dialect.now c.args.kind.now c.args.tree.now c.args.slot
-    (slot.Bytes c.in-Bytes.bytes) (rw c.in-Bytes.is at c.requires.value))
-    c.put_bytes_field.ensures
+returns-in-Bytes c =
+    rw (slot_csv _ _ c.args.tree.now _ (slot.Bytes c.in-Bytes.bytes) (rw c.in-Bytes.is at c.requires.value)) c.put_bytes_field.ensures
 
 pub returns-in-Text : goal.returns-in-Text
-returns-in-Text c = rw (slot_csv c.args.dialect.now c.args.kind.now c.args.tree.now c.args.slot
-    (slot.Text c.in-Text.chars) (rw c.in-Text.is at c.requires.value))
-    c.put_text_field.ensures
+returns-in-Text c =
+    rw (slot_csv _ _ c.args.tree.now _ (slot.Text c.in-Text.chars) (rw c.in-Text.is at c.requires.value)) c.put_text_field.ensures
 
 pub returns-in-List : goal.returns-in-List
 returns-in-List c = (
-  inr (
-    refl,
-    rw (slot_csv c.args.dialect.now c.args.kind.now c.args.tree.now c.args.slot
-        (slot.List c.in-List.from c.in-List.to) (rw c.in-List.is at c.requires.value)) refl,
-  ),
-  λ _. refl,
+  inr (refl, rw (slot_csv _ _ c.args.tree.now _ (slot.List c.in-List.from c.in-List.to) (rw c.in-List.is at c.requires.value)) refl),
+  λ
+      _. refl,
 )
 
 pub returns-in-Struct : goal.returns-in-Struct
-returns-in-Struct c = (
-  inr (
-    refl,
-    rw (slot_csv c.args.dialect.now c.args.kind.now c.args.tree.now c.args.slot slot.Struct
-        (rw c.in-Struct.is at c.requires.value)) refl,
-  ),
-  λ _. refl,
-)
+returns-in-Struct c = (inr (refl, rw (slot_csv _ _ c.args.tree.now _ slot.Struct (rw c.in-Struct.is at c.requires.value)) refl), λ _. refl)

@@ -1,4 +1,4 @@
-use Rattle.std.proofs.Common.{rules, arith, ◌+◌, FitsSigned, w64}
+use Rattle.std.proofs.Common.{rules, arith, ◌+◌, w64}
 use Rattle.std.proofs.lemmas.Int.{to_z-of_z}
 use Rattle.ipc_column.specs.declared.slot_view.Slot.TheVariants as slot
 use Rattle.ipc_column.proofs.lending.Slots.{items_at}
@@ -13,61 +13,46 @@ pub put_slot-returns-in-Utf8 : goal.put_slot-returns-in-Utf8
 put_slot-returns-in-Utf8 t c = c.put_text_slot.ensures c.args.shape c.args.field.now
 
 pub put_slot-returns-in-Null : goal.put_slot-returns-in-Null
-put_slot-returns-in-Null t c =
-    rw (slot_json c.args.shape c.args.field.now c.args.column.now c.args.slot slot.Null
-    (rw c.in-Null.is at c.at.ensures.value)) c.put_null.ensures
+put_slot-returns-in-Null t c = rw (slot_json _ _ c.args.column.now _ slot.Null (rw c.in-Null.is at c.at.ensures.value)) c.put_null.ensures
 
 pub put_slot-returns-in-Bool : goal.put_slot-returns-in-Bool
 put_slot-returns-in-Bool t c =
-    rw (slot_json c.args.shape c.args.field.now c.args.column.now c.args.slot (slot.Bool c.in-Bool.truth)
-    (rw c.in-Bool.is at c.at.ensures.value))
-    c.put_bool.ensures
+    rw (slot_json _ _ c.args.column.now _ (slot.Bool c.in-Bool.truth) (rw c.in-Bool.is at c.at.ensures.value)) c.put_bool.ensures
 
 pub put_slot-returns-in-Int : goal.put_slot-returns-in-Int
 put_slot-returns-in-Int t c =
-    let fits : FitsSigned w64 c.in-Int.number = search rules in
-    rw (slot_json c.args.shape c.args.field.now c.args.column.now c.args.slot (slot.Int c.in-Int.number)
-    (rw c.in-Int.is at c.at.ensures.value))
-    (rw (to_z-of_z w64 c.in-Int.number fits) at c.put_int.ensures)
+    rw (slot_json _ _ c.args.column.now _ (slot.Int c.in-Int.number) (rw c.in-Int.is at c.at.ensures.value))
+    (rw (to_z-of_z w64 c.in-Int.number (search rules)) at c.put_int.ensures)
 
 pub put_slot-returns-in-UInt : goal.put_slot-returns-in-UInt
 put_slot-returns-in-UInt t c =
-    rw (slot_json c.args.shape c.args.field.now c.args.column.now c.args.slot (slot.UInt c.in-UInt.number)
-    (rw c.in-UInt.is at c.at.ensures.value))
-    c.put_u64.ensures
+    rw (slot_json _ _ c.args.column.now _ (slot.UInt c.in-UInt.number) (rw c.in-UInt.is at c.at.ensures.value)) c.put_u64.ensures
 
 pub put_slot-returns-in-Bytes : goal.put_slot-returns-in-Bytes
 put_slot-returns-in-Bytes t c =
-    rw (slot_json c.args.shape c.args.field.now c.args.column.now c.args.slot (slot.Bytes c.in-Bytes.bytes)
-    (rw c.in-Bytes.is at c.at.ensures.value))
-    c.put_bytes.ensures
+    rw (slot_json _ _ c.args.column.now _ (slot.Bytes c.in-Bytes.bytes) (rw c.in-Bytes.is at c.at.ensures.value)) c.put_bytes.ensures
 
 pub put_slot-returns-in-Text : goal.put_slot-returns-in-Text
 put_slot-returns-in-Text t c =
-    rw (slot_json c.args.shape c.args.field.now c.args.column.now c.args.slot (slot.Text c.in-Text.chars)
-    (rw c.in-Text.is at c.at.ensures.value))
-    c.put_string.ensures
+    rw (slot_json _ _ c.args.column.now _ (slot.Text c.in-Text.chars) (rw c.in-Text.is at c.at.ensures.value)) c.put_string.ensures
 
 pub put_slot-returns-in-List : goal.put_slot-returns-in-List
 put_slot-returns-in-List t c =
     rw (
-      slot_json c.args.shape c.args.field.now c.args.column.now c.args.slot (slot.List c.in-List.from c.in-List.to)
-          (rw c.in-List.is at c.at.ensures.value),
-      ← c.as_slice.ensures,
+      slot_json _ _ c.args.column.now _ (slot.List c.in-List.from c.in-List.to) (rw c.in-List.is at c.at.ensures.value),
+      ←
+          c.as_slice.ensures,
     ) c.put_list.ensures
 
 pub put_slot-returns-in-Struct : goal.put_slot-returns-in-Struct
 put_slot-returns-in-Struct t c =
-    rw (
-      slot_json c.args.shape c.args.field.now c.args.column.now c.args.slot slot.Struct (rw c.in-Struct.is at c.at.ensures.value),
-      ← c.as_slice-in-Struct.ensures,
-    ) c.put_struct.ensures
+    rw (slot_json _ _ c.args.column.now _ slot.Struct (rw c.in-Struct.is at c.at.ensures.value), ← c.as_slice-in-Struct.ensures)
+    c.put_struct.ensures
 
 pub put_slots-loop-number-preserved : goal.put_slots-loop-number-preserved
 put_slots-loop-number-preserved t c = record {
   text = item_written (cell_json c.args.shape c.args.field.now) _ c.loop-number.number
-      (slot_value c.args.column.now (c.args.from + c.loop-number.number))
-      c.loop-number.later _ _ _
+      (slot_value c.args.column.now (c.args.from + c.loop-number.number)) c.loop-number.later _ _ _
       (items_at (slot_value c.args.column.now) c.args.from c.args.count c.loop-number.number (omega arith)) c.loop-number.invariant.text
       (rw c.in_ok-start_item.ensures.text at c.in_ok-put_slot.ensures);
 }

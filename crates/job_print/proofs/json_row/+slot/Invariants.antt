@@ -21,6 +21,5 @@ invariant-put_struct-loop-number l = record {
   text : l.out.text
       ++ text_behind l.shape l.later (map (row_field l.shape) (drop l.number l.children))
       (drop l.number (row (child_columns l.column) l.slot))
-      ≡ l.fn.out.text ++ compact_text (values_json l.shape (map (row_field l.shape) l.children)
-      (row (child_columns l.column) l.slot));
+      ≡ l.fn.out.text ++ compact_text (values_json l.shape (map (row_field l.shape) l.children) (row (child_columns l.column) l.slot));
 }

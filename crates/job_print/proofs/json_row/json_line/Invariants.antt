@@ -4,7 +4,7 @@ use Rattle.job_print.specs.LentRows.{HaveRow, row_at}
 use Rattle.job_print.proofs.texts.CellTexts.{text_behind}
 use Rattle.job_print.proofs.json_row.json_line.Given as goal
 
--- what is left to write stands behind what was written
+-- what is left to write stands after what was written
 abbrev pub invariant-loop-fields : goal.invariant-loop-fields
 invariant-loop-fields l = record {
   columns : length l.columns ≡ length l.fields;

@@ -1,6 +1,5 @@
-use Rattle.std.proofs.Common.{◌≡◌, ◌∙◌, ap, sym, inl, inr}
+use Rattle.std.proofs.Common.{◌∙◌, sym, inl, inr}
 use Rattle.std.proofs.lemmas.Result.{err_from_is_err_and}
-use Rattle.ipc_model.specs.declared.schema.Schema.{Schema}
 use Rattle.ipc_stream_read.proofs.Reporting.{progressed_all, progressed_break, progressed_end, progressed_less, progressed_more}
 use Rattle.ipc_stream_read.proofs.Reporting.{progressed_none}
 use Rattle.job_print.specs.Output.{output}
@@ -19,24 +18,21 @@ returns-in_err-refused-in-Ok-Some-clause-prints g c =
     let p = err_from_is_err_and c.from_residual.result c.from_residual.ensures.1 in
     let below = c.has_reached.ensures.below _ c.loop-form.invariant.printed.tallies.1 c.if-has_reached.false in
     let next = rw c.in-Ok-Some.field-0-is at c.in-Ok-Some.ensures.next in
-    let is : c.fields-fields.result.now ≡ c.args.stream.now.schema.fields =
-    c.fields-fields.ensures ∙ ap (λ (s : Schema). s.fields) (next.same_schema ∙ c.loop-form.invariant.printed.same) in
     let wants = rw c.rows.ensures at (c.count_wanted-count.ensures.wanted _ c.loop-form.invariant.printed.tallies.1) in
     rw (p.1, p.2) (batches_cut c.args.options _ _ _ _ _ _ c.loop-form.invariant.printed below c.fields-fields.result.now
     (c.in-Ok-Some.batch, c.in-Ok-Some.pairs) _ _ _
-    c.print_batch.new.lines _ wants is next c.in-Ok-Some.ensures.failures (rw c.deref.ensures at c.in_err-refused-in-Ok-Some.ensures))
+    c.print_batch.new.lines _ wants c.fields-fields.ensures next c.in-Ok-Some.ensures.failures
+    (rw c.deref.ensures at c.in_err-refused-in-Ok-Some.ensures))
 
 pub returns-in-Some-clause-prints : goal.returns-in-Some-clause-prints
 returns-in-Some-clause-prints g c =
     let below = c.has_reached.ensures.below _ c.loop-form.invariant.printed.tallies.1 c.if-has_reached.false in
     let next = rw c.in-Ok-Some.field-0-is at c.in-Ok-Some.ensures.next in
-    let is : c.fields-fields.result.now ≡ c.args.stream.now.schema.fields =
-    c.fields-fields.ensures ∙ ap (λ (s : Schema). s.fields) (next.same_schema ∙ c.loop-form.invariant.printed.same) in
     let wants = rw c.rows.ensures at (c.count_wanted-count.ensures.wanted _ c.loop-form.invariant.printed.tallies.1) in
     batches_refused c.args.options _ _ _ _ _ _ c.loop-form.invariant.printed below c.fields-fields.result.now
     (c.in-Ok-Some.batch, c.in-Ok-Some.pairs) _
     (g.W.Sink.written c.print_batch.new.sink) (g.W.Sink.failures c.print_batch.new.sink) c.print_batch.new.lines c.in-Some.fault
-    wants is next
+    wants c.fields-fields.ensures next
     c.in-Ok-Some.ensures.failures (rw (c.in-Some.is, c.deref.ensures) at c.in_ok-refused-in-Ok-Some.ensures)
 
 pub returns-in_err-flush-in-Ok-Some-clause-prints : goal.returns-in_err-flush-in-Ok-Some-clause-prints
@@ -44,13 +40,11 @@ returns-in_err-flush-in-Ok-Some-clause-prints g c =
     let p = err_from_is_err_and c.from_residual-in_err-flush-in-Ok-Some.result c.from_residual-in_err-flush-in-Ok-Some.ensures.1 in
     let below = c.has_reached.ensures.below _ c.loop-form.invariant.printed.tallies.1 c.if-has_reached.false in
     let next = rw c.in-Ok-Some.field-0-is at c.in-Ok-Some.ensures.next in
-    let is : c.fields-fields.result.now ≡ c.args.stream.now.schema.fields =
-    c.fields-fields.ensures ∙ ap (λ (s : Schema). s.fields) (next.same_schema ∙ c.loop-form.invariant.printed.same) in
     let wants = rw c.rows.ensures at (c.count_wanted-count.ensures.wanted _ c.loop-form.invariant.printed.tallies.1) in
     rw (p.1, p.2, c.in_err-flush-in-Ok-Some.ensures.works) (batches_unsent c.args.options _ _ _ _ _ _ c.loop-form.invariant.printed below
     c.fields-fields.result.now (c.in-Ok-Some.batch, c.in-Ok-Some.pairs) _
     (g.W.Sink.written c.print_batch.new.sink) (g.W.Sink.written c.flush.new.sink) (g.W.Sink.failures c.print_batch.new.sink)
-    (g.W.Sink.failures c.flush.new.sink) c.print_batch.new.lines wants is next c.in-Ok-Some.ensures.failures
+    (g.W.Sink.failures c.flush.new.sink) c.print_batch.new.lines wants c.fields-fields.ensures next c.in-Ok-Some.ensures.failures
     (rw (c.in_default.is, c.deref.ensures) at c.in_ok-refused-in-Ok-Some.ensures)
     (rw c.in_err-flush-in-Ok-Some.ensures.works at c.in_err-flush-in-Ok-Some.ensures.puts))
 
@@ -58,18 +52,15 @@ pub loop-form-preserved : goal.loop-form-preserved
 loop-form-preserved g c =
     let below = c.has_reached.ensures.below _ c.loop-form.invariant.printed.tallies.1 c.if-has_reached.false in
     let next = rw c.in-Ok-Some.field-0-is at c.in-Ok-Some.ensures.next in
-    let is : c.fields-fields.result.now ≡ c.args.stream.now.schema.fields =
-    c.fields-fields.ensures ∙ ap (λ (s : Schema). s.fields) (next.same_schema ∙ c.loop-form.invariant.printed.same) in
     let wants = rw c.rows.ensures at (c.count_wanted-count.ensures.wanted _ c.loop-form.invariant.printed.tallies.1) in
     record {
       printed = rw c.reuse.ensures (batches_more c.args.options _ _ _ _ _ _ c.loop-form.invariant.printed below c.fields-fields.result.now
-          (c.in-Ok-Some.batch, c.in-Ok-Some.pairs)
-          _ c.with_batch-tally.result
+          (c.in-Ok-Some.batch, c.in-Ok-Some.pairs) _ c.with_batch-tally.result
           (g.W.Sink.written c.print_batch.new.sink) (g.W.Sink.failures c.print_batch.new.sink) c.print_batch.new.lines
           (output (g.W.Sink.written c.flush.new.sink) (g.W.Sink.failures c.flush.new.sink) c.flush.new.self)
-          wants c.with_batch-tally.ensures.batches (rw c.rows-in-Ok-Some.ensures at c.with_batch-tally.ensures.rows) is next
-          c.in-Ok-Some.ensures.failures
-          (rw (c.in_default.is, c.deref.ensures) at c.in_ok-refused-in-Ok-Some.ensures)
+          wants c.with_batch-tally.ensures.batches (rw c.rows-in-Ok-Some.ensures at c.with_batch-tally.ensures.rows)
+          c.fields-fields.ensures next
+          c.in-Ok-Some.ensures.failures (rw (c.in_default.is, c.deref.ensures) at c.in_ok-refused-in-Ok-Some.ensures)
           (rw c.in_ok-flush-in-Ok-Some.ensures.empty c.in_ok-flush-in-Ok-Some.ensures.puts) c.in_ok-flush-in-Ok-Some.ensures.empty);
       reported = λ limits start o.
           rw c.reuse.ensures (progressed_more start _ _ _ _ _ (c.loop-form.invariant.reported limits start o) _

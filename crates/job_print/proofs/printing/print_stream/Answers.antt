@@ -32,8 +32,7 @@ returns-in_err-outcome-clause-prints g c =
     c.in_ok-flush.ensures.puts c.in_ok-flush.ensures.empty in
     rw (p.1, p.2) (behind_front c.args.options _ c.args.stream.now c.print_batches.new.stream _ _
     (output (g.W.Sink.written c.print_batches.new.sink) (g.W.Sink.failures c.print_batches.new.sink) c.print_batches.new.lines)
-    (Err c.in_err-outcome.field-0.0) puts
-    c.in_err-outcome.ensures.prints)
+    (Err c.in_err-outcome.field-0.0) puts c.in_err-outcome.ensures.prints)
 
 pub returns-in_err-print_tail-clause-prints : goal.returns-in_err-print_tail-clause-prints
 returns-in_err-print_tail-clause-prints g c =
@@ -42,12 +41,10 @@ returns-in_err-print_tail-clause-prints g c =
     c.in_ok-flush.ensures.puts c.in_ok-flush.ensures.empty in
     let prints = behind_front c.args.options _ c.args.stream.now c.print_batches.new.stream _ _
     (output (g.W.Sink.written c.print_batches.new.sink) (g.W.Sink.failures c.print_batches.new.sink) c.print_batches.new.lines)
-    (Ok c.in_ok-outcome.outcome) puts
-    c.in_ok-outcome.ensures.prints in
+    (Ok c.in_ok-outcome.outcome) puts c.in_ok-outcome.ensures.prints in
     rw (p.1, p.2) (tail_cut c.args.options _ c.args.stream.now c.print_batches.new.stream _
     (output (g.W.Sink.written c.print_batches.new.sink) (g.W.Sink.failures c.print_batches.new.sink) c.print_batches.new.lines)
-    c.in_ok-outcome.outcome _ _ _
-    c.in_err-print_tail.ensures.whole prints (rw c.taken.ensures at c.in_err-print_tail.ensures.puts))
+    c.in_ok-outcome.outcome _ _ _ c.in_err-print_tail.ensures.whole prints (rw c.taken.ensures at c.in_err-print_tail.ensures.puts))
 
 pub returns-in_err-flush-2-clause-prints : goal.returns-in_err-flush-2-clause-prints
 returns-in_err-flush-2-clause-prints g c =
@@ -56,8 +53,7 @@ returns-in_err-flush-2-clause-prints g c =
     c.in_ok-flush.ensures.puts c.in_ok-flush.ensures.empty in
     let prints = behind_front c.args.options _ c.args.stream.now c.print_batches.new.stream _ _
     (output (g.W.Sink.written c.print_batches.new.sink) (g.W.Sink.failures c.print_batches.new.sink) c.print_batches.new.lines)
-    (Ok c.in_ok-outcome.outcome) puts
-    c.in_ok-outcome.ensures.prints in
+    (Ok c.in_ok-outcome.outcome) puts c.in_ok-outcome.ensures.prints in
     rw (p.1, p.2, c.in_err-flush-2.ensures.works) (unflushed c.args.options _ c.args.stream.now c.print_batches.new.stream _
     (output (g.W.Sink.written c.print_batches.new.sink) (g.W.Sink.failures c.print_batches.new.sink) c.print_batches.new.lines)
     c.in_ok-outcome.outcome _ _ _ prints (rw c.taken.ensures at c.in_ok-print_tail.ensures.puts)
@@ -69,12 +65,10 @@ returns-clause-prints g c =
     c.in_ok-flush.ensures.puts c.in_ok-flush.ensures.empty in
     let prints = behind_front c.args.options _ c.args.stream.now c.print_batches.new.stream _ _
     (output (g.W.Sink.written c.print_batches.new.sink) (g.W.Sink.failures c.print_batches.new.sink) c.print_batches.new.lines)
-    (Ok c.in_ok-outcome.outcome) puts
-    c.in_ok-outcome.ensures.prints in
+    (Ok c.in_ok-outcome.outcome) puts c.in_ok-outcome.ensures.prints in
     flushed c.args.options _ c.args.stream.now c.print_batches.new.stream _
     (output (g.W.Sink.written c.print_batches.new.sink) (g.W.Sink.failures c.print_batches.new.sink) c.print_batches.new.lines)
-    c.in_ok-outcome.outcome _ _ refl prints
-    (rw c.taken.ensures at c.in_ok-print_tail.ensures.puts) c.in_ok-flush-2.ensures.puts
+    c.in_ok-outcome.outcome _ _ refl prints (rw c.taken.ensures at c.in_ok-print_tail.ensures.puts) c.in_ok-flush-2.ensures.puts
 
 pub returns-in_err-lines-clause-reports : goal.returns-in_err-lines-clause-reports
 returns-in_err-lines-clause-reports g c = λ limits start o.
@@ -105,6 +99,3 @@ pub returns-in_err-flush-2-clause-reports : goal.returns-in_err-flush-2-clause-r
 returns-in_err-flush-2-clause-reports g c = λ limits start o.
     let p = err_from_is_err_and c.from_residual-in_err-flush-2.result c.from_residual-in_err-flush-2.ensures.1 in
     rw p.1 (outcome_some start _ _ _ c.in_ok-outcome.outcome (c.in_ok-outcome.ensures.reports limits start o))
-
-pub returns-clause-reports : goal.returns-clause-reports
-returns-clause-reports g c = λ limits start o. c.in_ok-outcome.ensures.reports limits start o

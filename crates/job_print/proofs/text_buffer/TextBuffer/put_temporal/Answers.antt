@@ -1,13 +1,11 @@
-use Rattle.std.proofs.Common.{◌≡◌, ◌∙◌, ◌++◌, ap, rules, length, take, drop, Some, FitsSigned, w64}
-use Rattle.std.proofs.Common.{take-take}
+use Rattle.std.proofs.Common.{◌≡◌, ◌∙◌, ◌++◌, ap, rules, length, take, drop, Some, w64, take-take}
 use Rattle.std.proofs.lemmas.List.{take-append-le}
 use Rattle.std.proofs.lemmas.Int.{to_z-of_z}
 use Rattle.job_print.proofs.text_buffer.TextBuffer.put_temporal.Goals as goal
 
 pub returns-in-Some-clause-text : goal.returns-in-Some-clause-text
 returns-in-Some-clause-text c =
-    let fits : FitsSigned w64 c.args.number = search rules in
-    let z = to_z-of_z w64 c.args.number fits in
+    let z = to_z-of_z w64 c.args.number (search rules) in
     let end = c.in-Some.end in
     let new = c.put_temporal.new.text in
     let kept : take end (take c.self.inside.bytes.len (new ++ drop (length new) c.self.inside.bytes.items)) ≡ take end new =

@@ -2,7 +2,7 @@ use Rattle.std.proofs.Common.{take}
 use Rattle.job_print.specs.Forms.{HaveLines, line_of}
 use Rattle.job_print.specs.Output.{output, Puts}
 use Rattle.job_print.specs.Rows.{lines}
-use Rattle.job_print.proofs.batch_text.print_lines.Given as goal
+use Rattle.job_print.proofs.batch_text.print_batch_rows.Given as goal
 
 -- the first rows were put
 abbrev pub invariant-loop-row : goal.invariant-loop-row
