@@ -10,8 +10,8 @@ use Rattle.ipc_stream.proofs.pending_batch.PendingBatch.drop_last.Goals as goal
 
 pub returns-clause-holds : goal.returns-clause-holds
 returns-clause-holds c = λ limits s b row well h.
-    let popped = c.pop.ensures (index_or_zero (place_of_value (tally_of_rows s.fields (b.rows ++ row ∷ [])))) limits s.fields b.rows row
-    h.rows in
+    let popped = c.pop.ensures.rows (index_or_zero (place_of_value (tally_of_rows s.fields (b.rows ++ row ∷ [])))) limits s.fields b.rows
+    row h.rows in
     record {
       tally = subst (λ (t : TallyState). HasCounted limits s.fields b.rows t) (sym c.cut.ensures) h.before;
       rows = rows_cut limits s.fields b.rows row c.pop.new.self well.each popped;
