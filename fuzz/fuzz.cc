@@ -25,6 +25,8 @@ static void fail(const char *law, int line) {
 
 // The growth that is refused, counted from 1; 0 refuses none.
 static uint64_t refused_growth, growths;
+// Whether each growth of each stream is refused in turn, or one of every second stream.
+static const bool refuses_each = std::getenv("REFUSE_EACH") != nullptr;
 
 extern "C" {
 void *__real_malloc(size_t size);
@@ -344,12 +346,17 @@ extern "C" int LLVMFuzzerTestOneInput(const uint8_t *data, size_t size) {
             compare_layouts(found.columns[column], meant.batches[i].columns[column]);
     }
     if (!read.batches.empty()) write_back(read, meant);
-    if (hash >> 32 & 1) {
-        growths = 0, refused_growth = 1 + (hash >> 40) % 100;
+    auto is_refused = [&](uint64_t number) {
+        growths = 0, refused_growth = number;
         Answer starved = answer(input, limits, 1 + hash % 64);
         refused_growth = 0;
         LAW(starved.status == read.status || starved.status == ARROWSTREAM_OUT_OF_MEMORY);
-    }
+        return growths >= number;
+    };
+    if (refuses_each)
+        for (uint64_t number = 1; is_refused(number);) number++;
+    else if (hash >> 32 & 1)
+        is_refused(1 + (hash >> 40) % 100);
     return 0;
 }
 
