@@ -42,14 +42,14 @@ fn write_buffer(out: &mut Vec<u8>, tree: &FlatTree) -> Result<(), AllocError>
 /// - for each vector of tables 12 bytes, and 4 for each table;
 /// - for each vector of pairs 12 bytes, and 16 for each pair.
 ///
-/// In each table the slots' numbers must ascend and be below 16. Tables may nest at most 255 deep.
-/// Each slot is visited a few times, so the time is proportional to the slots and the bytes.
+/// In each table the slots' numbers must ascend and be below 16. Each slot is
+/// visited a few times, so the time is proportional to the slots and the bytes.
 ///
 /// `greatest` is the maximum size bound of the tree. It must be below 2^31, because the format's
 /// offsets are signed numbers of 32 bits.
 ///
-/// Errors: `TooLarge` exactly if the size bound is above `greatest`, before any memory is taken;
-/// `OutOfMemory` only if memory for the bytes ran out.
+/// Errors: `TooLarge` exactly if the size bound is above `greatest`; `OutOfMemory` only if memory
+/// for the bytes ran out.
 pub fn build(alloc: Global, tree: &FlatTree, greatest: u64) -> Result<Vec<u8>, BuildFault>
     requires ascends { Ascends (fields 0) (view tree.now) }
     requires limit { greatest < 2 ^ 31 }

@@ -221,7 +221,7 @@ impl Batch {
         self.shared.body.len()
     }
 
-    /// Returns the number of slots that `check` visited one by one.
+    /// Returns the number of slot tests that `check` counted. A clause of `check` bounds it.
     pub fn tests(&self) -> u64
         ensures { result ≡ self.now.tests }
     {
@@ -306,8 +306,8 @@ impl Batch {
         is_one_leaf(&shared.parts)
     }
 
-    /// Returns the bytes of the body for other use. Returns `None` if the batch still has clones,
-    /// or is the dictionary of another batch; these keep the body.
+    /// Returns the bytes of the body for other use, or `None`. The code returns `None` if the batch
+    /// still has clones, or is the dictionary of another batch; no clause says so.
     pub fn into_body(self) -> Option<Vec<u8>>
         ensures len { IfSome result (λ body. length body.items ≡ self.body_len) }
         // They are the bytes that the batch was checked with.
@@ -336,7 +336,7 @@ impl Batch {
         share_values(&shared.body, &shared.parts, shared.count)
     }
 
-    /// Returns the rows as owned values. Errors: `OutOfMemory`, if memory for a list ran out.
+    /// Returns the rows as owned values. Errors: `OutOfMemory`, if memory for the rows ran out.
     pub fn to_rows(&self, alloc: Global) -> Result<Items<Row>, Fault>
         ensures rows { IfOk result (λ rows. rows ≡ self.now.rows) }
         ensures memory { IfErr result (λ fault. fault ≡ Fault.OutOfMemory) }
@@ -347,8 +347,8 @@ impl Batch {
     }
 
     /// Replaces all that `values` has by the values of one row, and uses its memory again. `row`
-    /// must be below `rows`. Errors: `OutOfMemory`, if memory for a list ran out; then the contents
-    /// of `values` are unspecified.
+    /// must be below `rows`. Errors: `OutOfMemory`, if memory for the rows ran out; then the
+    /// contents of `values` are unspecified.
     pub fn read_row(&self, alloc: Global, row: usize, values: &mut Vec<Value>) -> Result<(), Fault>
         requires { row < length self.now.rows }
         ensures values { OnOk result (values.new.items ≡ slice_index_or self.now.rows row []) }

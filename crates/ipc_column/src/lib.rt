@@ -1,5 +1,6 @@
 //! Reads record batches in place: columns over one body, whose cells are lent. A batch is accepted
-//! exactly if its fields, metadata and body denote rows, memory aside (Arrow Columnar Format).
+//! exactly if its fields, metadata and body denote rows, unless memory runs out (Arrow Columnar
+//! Format).
 #![tactic(auto)]
 
 mod assign;

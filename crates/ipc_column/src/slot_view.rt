@@ -149,10 +149,10 @@ impl<'a> SlotView<'a> {
         )
     }
 
-    /// Returns the bytes of the column's data from the beginning of the text in a slot, and the
-    /// number of bytes of the text. Returns `None` if the slot is null. So a short text can be
-    /// copied by one load of more bytes than it has. `slot` must be below `len`, and the column
-    /// must be one of texts.
+    /// Returns bytes that begin with the text in a slot, and the number of bytes of the text.
+    /// Returns `None` if the slot is null. What follows the text is in no clause: it is the rest of
+    /// the column's data, so a short text can be copied by one load of more bytes than it has.
+    /// `slot` must be below `len`, and the column must be one of texts.
     #[inline(always)]
     pub fn text_at(&self, slot: usize) -> Option<(&'a [u8], usize)>
         requires layout { self.now.column.layout ≡ Layout.VariableBytes true }
@@ -263,8 +263,8 @@ impl<'a> SlotView<'a> {
         }
     }
 
-    /// Returns the slots of the values of the column's dictionary. Returns `None` if the column has
-    /// no dictionary or none in force.
+    /// Returns the slots of the values of the column's dictionary. `None` comes only if the column
+    /// has no values of a dictionary.
     pub fn entries(&self) -> Option<SlotView<'a>>
         ensures values { IfSome result
             (λ entries. slot_values entries ≡ self.now.column.dictionary) }

@@ -81,8 +81,9 @@ impl<'a> ColumnView<'a> {
         )
     }
 
-    /// Returns the slots of the column, which give access to its children. Use it to read a whole
-    /// column of lists or structs without a `Cell` for each.
+    /// Returns slots with the values of the column. Use it to read a whole column of lists or
+    /// structs without a `Cell` for each. That they have the column's buffers and children is in no
+    /// clause; `Batch::slots` states it.
     #[inline(always)]
     pub fn slots(&self) -> SlotView<'a>
         ensures values { slot_values result ≡ self.now }

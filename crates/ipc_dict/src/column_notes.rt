@@ -19,7 +19,7 @@ use ipc_encode::PushFault;
 use ipc_model::{Field, Value};
 use std::alloc::{AllocError, Global};
 
-// Whether two fields surely name no dictionary in common.
+// Whether it is known that two fields name no dictionary in common.
 fn have_other_dictionaries(one: &Field, other: &Field) -> bool
     ensures { IsTrue result
         → (v w : Value) → AreOthers (pairs one.now v) (pairs other.now w) }
@@ -33,7 +33,7 @@ fn have_other_dictionaries(one: &Field, other: &Field) -> bool
     }
 }
 
-// Whether a field surely names no dictionary of the others.
+// Whether it is known that a field names no dictionary of the others.
 fn has_other_dictionaries(field: &Field, others: &[Field]) -> bool
     ensures { IsTrue result → HasOtherDictionaries field.now others.now }
 {
@@ -48,7 +48,7 @@ fn has_other_dictionaries(field: &Field, others: &[Field]) -> bool
     true
 }
 
-// Whether surely no dictionary is named by two of the fields.
+// Whether it is known that no two of the fields name one dictionary.
 fn have_distinct_dictionaries(fields: &[Field]) -> bool
     ensures { IsTrue result → HaveDistinctDictionaries fields.now }
 {

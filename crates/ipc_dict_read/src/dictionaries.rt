@@ -43,7 +43,7 @@ impl Model for Dictionaries {
 
 impl Dictionaries {
     /// Creates the dictionaries at the beginning of a stream of this schema: none is in force.
-    /// Dictionaries that are set later take memory from `alloc`.
+    /// The map of the values takes memory from `alloc`.
     ///
     /// The schema must pass `Schema::check`: then the values of a dictionary have no children, and
     /// the fields with one dictionary id have values of one type. Errors: `OutOfMemory` if memory
@@ -88,8 +88,8 @@ impl Dictionaries {
         &self.current
     }
 
-    /// Returns the number of bytes of the bodies of the values in force. Each body counts once, and
-    /// a replaced batch does not count.
+    /// Returns the sum of the lengths of the bodies in force, one for each id. A replaced batch
+    /// does not count.
     pub fn held(&self) -> usize
         ensures { result ≡ total self.now.current }
     {
@@ -102,7 +102,8 @@ impl Dictionaries {
     ///
     /// The values must be a batch that was validated as one column of the type of the id's fields,
     /// without dictionaries: then the column has no children and no dictionary. Errors:
-    /// `OutOfMemory` if memory ran out; then nothing has changed.
+    /// `OutOfMemory` if memory ran out, or if the bodies together had more than 2^64 - 1 bytes.
+    /// Then nothing has changed.
     pub fn apply(&mut self, alloc: Global, id: i64, values: Batch) -> Result<(), Fault>
         requires { IsDictionary values }
         ensures after { OnOk result (self.new ≡ record self.old {

@@ -27,7 +27,7 @@ pub(crate) fn push_bit(bytes: &mut Vec<u8>, bits: usize, bit: bool) -> Result<()
     Ok(())
 }
 
-/// Appends `bits` packed bits that are set to an empty list.
+/// Appends `bits` packed bits that are set to an empty buffer.
 pub(crate) fn set_bits(bytes: &mut Vec<u8>, bits: usize) -> Result<(), AllocError>
     ensures { bytes.old.items ≡ []
         → OnOk result (bytes.new.items ≡ bitmap (replicate bits true)) }
@@ -74,7 +74,7 @@ pub(crate) fn is_valid_in_bitmap(marks: &[u8], slot: usize) -> bool
     marks.is_empty() || bit(marks, slot)
 }
 
-// Appends whether slots are valid to an empty list, one byte at a time. Returns the number of
+// Appends whether slots are valid to an empty buffer, one byte at a time. Returns the number of
 // slots.
 fn push_bitmap_bytes(bits: &mut Vec<u8>, marks: &[u8], count: usize) -> Result<usize, AllocError>
     requires { HasBits marks.now count }
@@ -90,7 +90,7 @@ fn push_bitmap_bytes(bits: &mut Vec<u8>, marks: &[u8], count: usize) -> Result<u
     Ok(count / 8 * 8)
 }
 
-/// Appends whether each of `count` slots is valid to an empty list.
+/// Appends whether each of `count` slots is valid to an empty buffer.
 pub(crate) fn push_bitmap(bits: &mut Vec<u8>, marks: &[u8], count: usize) -> Result<(), AllocError>
     requires { HasBits marks.now count }
     ensures { (values : List Value) → length values ≡ count → MarksNulls marks.now values

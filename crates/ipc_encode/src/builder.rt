@@ -108,7 +108,7 @@ impl Builder {
     /// `Schema::check`.
     ///
     /// Errors: W6 `TooLong` if the buffers of zero rows already have more than `limits.body` bytes;
-    /// W11 `OutOfMemory` if memory for a list ran out.
+    /// W11 `OutOfMemory` if memory for a buffer ran out.
     pub fn new(alloc: Global, fields: &[Field], limits: &Limits) -> Result<Builder, WriteFault>
         ensures rows { (known : Numbering) → IfOk result
             (StoresRows known limits.now fields.now []) }
@@ -246,7 +246,7 @@ impl Builder {
     ///   items in all lists of a column.
     /// - W6 `TooLong`: a binary or UTF-8 column would have more than 2^31 - 1 bytes of data,
     ///   whatever the limits, or the body more than `limits.body` bytes.
-    /// - W11 `OutOfMemory`: memory for a list ran out. The builder has failed.
+    /// - W11 `OutOfMemory`: memory for a buffer ran out. The builder has failed.
     /// - W10 `Failed`: the call comes after W11.
     #[inline(always)]
     pub fn push<I: IndexOf>(
@@ -347,7 +347,7 @@ impl Builder {
     /// Returns the parts of the rows. Each index under which a value was pushed is replaced by its
     /// number in `numbers`, which must fit the field's index type.
     ///
-    /// Errors: W11 `OutOfMemory` if memory for a list ran out; W10 `Failed` after an error of
+    /// Errors: W11 `OutOfMemory` if memory for a buffer ran out; W10 `Failed` after an error of
     /// `push`.
     pub fn finish<N: Renumber>(self, numbers: &N) -> Result<Parts, WriteFault>
         // The parts give the rows back under each map in which the numbers find their values.
@@ -418,7 +418,7 @@ pub fn holds_agreeing()
 ///   in all lists of a column.
 /// - W6 `TooLong`: a binary or UTF-8 column has more than 2^31 - 1 bytes of data, whatever the
 ///   limits; or the body would have more than `limits.body` bytes.
-/// - W11 `OutOfMemory`: memory for a list ran out.
+/// - W11 `OutOfMemory`: memory for a buffer ran out.
 pub fn encode<I: IndexOf>(
     alloc: Global,
     limits: &Limits,

@@ -237,7 +237,7 @@ impl ColumnData {
         }
     }
 
-    // Drops the values, and keeps the memory of the lists. Offsets begin with 0.
+    // Drops the values, and keeps the memory of the buffers. Offsets begin with 0.
     fn clear(&mut self) -> Result<(), AllocError>
         ensures layout { data_layout self.new ≡ data_layout self.old }
         ensures holds { (known : Numbering) → OnOk result (HoldsValues known [] self.new) }

@@ -188,7 +188,7 @@ fn count_nulls(indices: &[Option<u64>]) -> usize
     null_count
 }
 
-// Appends the bitmap of values with these indices to an empty list. It stays empty if no value is
+// Appends the bitmap of values with these indices to an empty buffer. It stays empty if no value is
 // null.
 fn push_validities(
     validity: &mut Vec<u8>,

@@ -1,4 +1,4 @@
-//! Encodes a batch that was read, column by column, as parts whose body is a list of segments.
+//! Encodes a batch that was read, column by column, as parts whose body is a sequence of segments.
 ghost use Rattle.std.specs.Prelude.{◌≡◌, ◌<◌, ◌≤◌, ◌+◌, ◌^◌, ◌++◌, [], ◌∷◌, ℕ, List, length, ◌+ℤ◌};
 ghost use Rattle.std.specs.Prelude.{pos, slice_get, Some, IfErr, IfOk, OnOk};
 ghost use Rattle.std.specs.List.{AllByRecursion};
@@ -229,7 +229,7 @@ fn add_fields<'a, I: IndexOf, N: Renumber>(
 /// indices and numbers. Numbers are borrowed if null slots are zeros, fixed-size binary values if
 /// none is null, and other binary values and texts with their offsets if these begin at 0 and null
 /// slots are empty. So are offsets of lists, and validity bitmaps of a multiple of 8 slots. Other
-/// buffers are copied, into the memory of the lists in `pool` if there are any. These columns are
+/// buffers are copied, into the memory of the buffers in `pool` if there are any. These columns are
 /// encoded anew:
 ///
 /// - columns of a field with a dictionary;
@@ -243,7 +243,7 @@ fn add_fields<'a, I: IndexOf, N: Renumber>(
 ///   in all lists of a column.
 /// - W6 `TooLong`: a binary or UTF-8 column has more than 2^31 - 1 bytes of data, whatever the
 ///   limits; or the body would have more than `limits.body` bytes.
-/// - W11 `OutOfMemory`: memory for a list ran out.
+/// - W11 `OutOfMemory`: memory for a buffer ran out.
 pub fn encode_columns<'a, I: IndexOf, N: Renumber>(
     alloc: Global,
     pool: &mut Vec<Vec<u8>>,

@@ -14,7 +14,7 @@ pub enum PushFault {
     TooMany,
     /// A dictionary would have more distinct values than an index type of its fields counts.
     DictionaryFull,
-    /// Memory for a list ran out.
+    /// Memory for a buffer ran out.
     OutOfMemory,
     /// The call comes after an error that made it fail.
     Failed,

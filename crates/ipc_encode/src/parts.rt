@@ -62,7 +62,7 @@ pub struct Parts {
     pub buffers: Items<(i64, i64)>,
     /// The bytes of the buffers, each padded with zeros to a multiple of 8 bytes.
     pub body: Vec<u8>,
-    /// The lists of the columns. `Builder::with_pool` uses their memory for the next batch.
+    /// The buffers of the columns. `Builder::with_pool` uses their memory for the next batch.
     pub room: BufferPool,
 }
 
@@ -221,7 +221,7 @@ fn add_column<N: Renumber>(
 }
 
 /// Appends the nodes and the buffers of a column, and then those of its descendants. Returns an
-/// error if memory for a list ran out.
+/// error if memory for a buffer ran out.
 #[cycle(add)]
 pub(crate) fn add_node<N: Renumber>(
     node: &Node,
@@ -245,7 +245,7 @@ pub(crate) fn add_node<N: Renumber>(
 }
 
 /// Appends the nodes and the buffers of columns, each column before its descendants. Returns an
-/// error if memory for a list ran out.
+/// error if memory for a buffer ran out.
 #[cycle(add)]
 pub(crate) fn add_nodes<N: Renumber>(
     nodes: &[Node],

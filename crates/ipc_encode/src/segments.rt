@@ -147,7 +147,7 @@ fn end_buffer(
 /// Adds a buffer of one segment, padded to a multiple of 8 bytes.
 ///
 /// Errors: `TooLong` if the body would have more than `limits.body` bytes; `OutOfMemory` if memory
-/// for a list ran out.
+/// for a buffer ran out.
 pub(crate) fn add_buffer<'a>(
     draft: &mut SegmentedDraft<'a>,
     segment: Segment<'a>,

@@ -135,7 +135,7 @@ pub(crate) fn push_numbers(
     }
 }
 
-// Appends bytes of booleans to an empty list. If the bitmap marks a slot as null, its bit is 0.
+// Appends bytes of booleans to an empty buffer. If the bitmap marks a slot as null, its bit is 0.
 fn push_set_bits(
     bits: &mut Vec<u8>,
     truths: &[u8],
@@ -158,7 +158,7 @@ fn push_set_bits(
     Ok(())
 }
 
-/// Appends whether each slot is true to an empty list, one byte at a time as long as bytes are
+/// Appends whether each slot is true to an empty buffer, one byte at a time as long as bytes are
 /// full.
 pub(crate) fn push_bools(bits: &mut Vec<u8>, view: &SlotView<'_>) -> Result<(), AllocError>
     requires { view.now.column.layout ≡ Bits }

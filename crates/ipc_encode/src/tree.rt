@@ -43,7 +43,7 @@ impl Node {
 }
 
 /// Returns a column of this field without values, with those of its children, in the memory of a
-/// node that held others. Returns an error if memory for a list ran out.
+/// node that held others. Returns an error if memory for a buffer ran out.
 #[cycle(new)]
 pub(crate) fn new_node(field: &Field, kept: Option<Node>, alloc: Global) -> Result<Node, AllocError>
     ensures { (known : Numbering) (limits : Limits)
@@ -60,7 +60,7 @@ pub(crate) fn new_node(field: &Field, kept: Option<Node>, alloc: Global) -> Resu
 }
 
 /// Returns columns of these fields without values, in the memory of nodes that held others. Returns
-/// an error if memory for a list ran out.
+/// an error if memory for a buffer ran out.
 #[cycle(new)]
 pub(crate) fn new_nodes(
     fields: &[Field],

@@ -261,7 +261,7 @@ fn add_data<'a>(
 ///
 /// Errors: `TooMany` if there are more than `limits.slots` slots, or more than 2^31 - 1 items of
 /// lists; `TooLong` if binary values or texts have more than 2^31 - 1 bytes, or the body would have
-/// more than `limits.body`; `OutOfMemory` if memory for a list ran out.
+/// more than `limits.body`; `OutOfMemory` if memory for a buffer ran out.
 pub(crate) fn add_own<'a>(
     alloc: Global,
     pool: &mut Vec<Vec<u8>>,

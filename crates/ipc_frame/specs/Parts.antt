@@ -20,16 +20,16 @@ use Rattle.ipc_frame.specs.declared.decision.Decision.TheVariants as decision
 abbrev pub received_bytes : PartialMessage → List ℕ
 received_bytes p = p.start ++ (p.meta.items ++ body_bytes p.body)
 
--- how many bytes the lists of a message have room for: the metadata's and the body's
+-- how many bytes the buffers of a message have room for: the metadata's and the body's
 pub record Capacity : Type 0 where
   pub metadata : ℕ
   pub body : ℕ
 
--- there is no list
+-- there is no buffer
 abbrev pub no_capacity : Capacity
 no_capacity = record { metadata = 0; body = 0 }
 
--- the room of the lists of a message
+-- the room of the buffers of a message
 abbrev pub capacity_of : PartialMessage → Capacity
 capacity_of p = record { metadata = vec_capacity p.meta; body = vec_capacity p.body.list }
 

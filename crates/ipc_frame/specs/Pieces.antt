@@ -26,7 +26,7 @@ pub data Progress : Type 0 where
   ended : Progress
   refused : Progress
 
--- the value of a `Frames`: its limits, its progress, and the room of the lists that it keeps
+-- the value of a `Frames`: its limits, its progress, and the room of the buffers that it keeps
 pub record Framing : Type 0 where
   pub limits : Limits
   pub progress : Progress
@@ -38,8 +38,8 @@ progress_of p (phase.Reading a) = taking (received_bytes p)
 progress_of p phase.Ended = ended
 progress_of p phase.Refused = refused
 
--- the stored bytes are the undecided beginning of a message; none are stored, and no list is kept,
--- after the end or a refusal
+-- the stored bytes are the undecided beginning of a message; none are stored, and no buffer is
+-- kept, after the end or a refusal
 abbrev pub IsSound : Limits → PartialMessage → FramePhase → Type 0
 IsSound limits p (phase.Reading a) = Undecided limits p a
 IsSound limits p phase.Ended = (received_bytes p ≡ []) × (capacity_of p ≡ no_capacity)
@@ -51,7 +51,7 @@ phase_after (f.Message meta head body) = phase.Reading Continuation
 phase_after f.End = phase.Ended
 
 -- what a call does after a step: the stored parts, the next phase, and the result. After a refusal
--- no bytes are stored and no list is kept
+-- no bytes are stored and no buffer is kept
 abbrev pub FinishesStep : Result MessageStep Fault → PartialMessage → PartialMessage → FramePhase
     → Result (Option Framed) Fault → Type 0
 FinishesStep (Ok (More a)) old new next r = (new ≡ old) × (next ≡ phase.Reading a) × (r ≡ Ok None)
@@ -98,7 +98,7 @@ Closes (taking z) new (Err fault) = (z ≢ []) × (fault ≡ Truncated) × (new 
 Closes ended new r = (new ≡ ended) × (r ≡ Ok tt)
 Closes refused new r = (new ≡ refused) × (r ≡ Err Failed)
 
--- no list is kept after the end or a refusal
+-- no buffer is kept after the end or a refusal
 abbrev pub DropsLists : Progress → Capacity → Type 0
 DropsLists (taking z) room = ⊤
 DropsLists ended room = room ≡ no_capacity

@@ -16,7 +16,7 @@ use Rattle.ipc_frame.specs.declared.partial_message.PartialMessage.{PartialMessa
 use Rattle.ipc_frame.specs.declared.step.MessageStep.{MessageStep}
 use Rattle.ipc_frame.specs.declared.step.MessageStep.TheVariants.{More, Whole}
 
--- k bytes were read into a list after its first `start` bytes; k is 0 only at the source's end
+-- k bytes were read into a buffer after its first `start` bytes; k is 0 only at the source's end
 pub record Behind (old new : Option (List ℕ)) (list_old list_new : List ℕ)
     (start k : ℕ) : Type 0 where
   pub fits : start + k ≤ length list_new
@@ -24,8 +24,8 @@ pub record Behind (old new : Option (List ℕ)) (list_old list_new : List ℕ)
   pub bytes : Consumes old new (take k (drop start list_new))
   pub at_end : k ≡ 0 → IsAtEnd new
 
--- k bytes were read and appended to a list, at most the wanted number; k is 0 only at the source's
--- end
+-- k bytes were read and appended to a buffer, at most the wanted number; k is 0 only at the
+-- source's end
 pub record Comes (old new : Option (List ℕ)) (list_old list_new : List ℕ)
     (wanted k : ℕ) : Type 0 where
   pub came : List ℕ

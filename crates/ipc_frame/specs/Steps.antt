@@ -13,7 +13,7 @@ use Rattle.ipc_frame.specs.declared.partial_message.Expectation.TheVariants.{Con
 use Rattle.ipc_frame.specs.declared.step.MessageStep.{MessageStep}
 use Rattle.ipc_frame.specs.declared.step.MessageStep.TheVariants.{More, Whole}
 
--- the bytes are this frame, and nothing is stored after it, nor a list kept
+-- the bytes are this frame, and nothing is stored after it, nor a buffer kept
 pub record IsWhole (limits : Limits) (z : List ℕ) (p : PartialMessage) (frame : Framed) : Type
     0 where
   pub is : IsFrame limits z frame

@@ -5,8 +5,8 @@ use ipc_device::Source;
 use ipc_model::Fault;
 use std::alloc::{AllocError, Global};
 
-// The bytes of a body that came, at the front of a list. The bytes after them, old or cleared, are
-// overwritten by the next reads.
+// The bytes of a body that came, at the front of a buffer. The bytes after them, old or cleared,
+// are overwritten by the next reads.
 #[derive(Drop)]
 pub struct Body {
     list: Vec<u8>,
@@ -86,7 +86,7 @@ impl Body {
         Ok(count)
     }
 
-    // Takes a list to read over, where no byte came and it is longer than the one that is there.
+    // Takes a buffer to read over, where no byte came and it is longer than the one that is there.
     pub fn reuse(&mut self, list: Vec<u8>)
         ensures came { body_bytes self.new ≡ body_bytes self.old }
         ensures kept { KeepsOne (vec_capacity self.old.list) (vec_capacity self.new.list)

@@ -29,7 +29,7 @@ fn phase_after(frame: &Frame) -> FramePhase
 }
 
 // Sets the phase after a step, and returns the frame that the step completes. After a refusal no
-// bytes and no lists are kept. It takes the fields, because they break the invariant of `Frames`
+// bytes and no buffers are kept. It takes the fields, because they break the invariant of `Frames`
 // until a refusal is finished.
 fn finish_step(
     alloc: Global,
@@ -59,15 +59,15 @@ fn finish_step(
 /// Splits a stream, whose bytes arrive in pieces of any length, into its messages (Arrow Columnar
 /// Format, "Encapsulated message format" and "IPC Streaming Format").
 ///
-/// Bytes are pushed by `feed` or pulled by `feed_from`, and the two may be mixed. It keeps all
-/// bytes of the current message that came, and no others. Metadata is read once when it is
-/// complete, and once more with the complete body. The list of the body moves to the message
-/// without a copy.
+/// Bytes are pushed by `feed` or pulled by `feed_from`, and the two may be mixed. It keeps the
+/// bytes of the current message that came. A buffer that was passed to `reuse` may have further
+/// bytes after them, which are never read. The code reads metadata once when it is complete, and
+/// once more with the complete body, whose buffer becomes that of the message.
 ///
-/// Lists grow as bytes come, never by what a message states: together they take at most twice the
-/// bytes that came, and 64 KiB. The first eight bytes of a message take no memory. Between two
-/// messages only a list that was passed to `reuse` is kept. No list is kept after the end-of-stream
-/// mark, after a refusal, or after `close`.
+/// Buffers grow as bytes come, not by what a message states: the code takes at most twice the bytes
+/// that came, and 64 KiB, or the buffer that was passed to `reuse`. The first eight bytes of a
+/// message take no memory. Between two messages only a buffer that was passed to `reuse` is kept.
+/// No buffer is kept after the end-of-stream mark, after a refusal, or after `close`.
 ///
 /// After a refusal each call returns F35 (`Failed`) and takes no bytes.
 #[derive(Drop)]
@@ -131,11 +131,11 @@ impl Frames {
     /// - F5 to F9 and F12 to F24, at the last byte of the metadata: the metadata states no valid
     ///   head within the limits. `ipc_meta::read_message` explains each of them.
     /// - `Failed` (F35): an earlier call was refused.
-    /// - `OutOfMemory` (F37): memory for a list or for the head ran out, after byte 8.
+    /// - `OutOfMemory` (F37): memory for a buffer or for the head ran out, after byte 8.
     pub fn feed(&mut self, piece: &[u8]) -> Result<(usize, Option<Frame>), Fault>
         ensures feeds { Feeds self.old.limits self.old.progress piece.now self.new.progress result }
         ensures limits { self.new.limits ≡ self.old.limits }
-        // No list is kept after a message, after the end-of-stream mark and after a refusal.
+        // No buffer is kept after a message, after the end-of-stream mark and after a refusal.
         ensures moved { MatchResult result (λ found. IfSome found.1
             (λ _. self.new.room ≡ no_capacity))
             (λ _. self.new.room ≡ no_capacity) }
@@ -161,9 +161,9 @@ impl Frames {
         }
     }
 
-    /// Calls the source once, for at most `wants` bytes, and stores what comes without a further
-    /// copy. Returns the number of bytes that came, also with a refusal, and the message or
-    /// end-of-stream mark that they complete.
+    /// Takes at most `wants` bytes from the source. The code calls it once, and stores what comes
+    /// without a further copy. Returns the number of bytes that came, also with a refusal, and the
+    /// message or end-of-stream mark that they complete.
     ///
     /// Without a refusal, a count of 0 means that the source is at its end. After the end-of-stream
     /// mark, or after a `close` that returned `Ok`, the source is not called, and the result is
@@ -178,7 +178,7 @@ impl Frames {
         ensures fewer { OnOk result.1 ((R.bound source.new + result.0) ≤ R.bound source.old) }
         ensures failures { FailsWhile self.old.progress (R.failures source.old)
             (R.failures source.new) result.1 }
-        // No list is kept after a message, after the end-of-stream mark and after a refusal.
+        // No buffer is kept after a message, after the end-of-stream mark and after a refusal.
         ensures moved { MatchResult result.1 (λ found. IfSome found
             (λ _. self.new.room ≡ no_capacity))
             (λ _. self.new.room ≡ no_capacity) }
@@ -204,15 +204,16 @@ impl Frames {
         }
     }
 
-    /// Takes a list, over whose bytes the next body is read. Its contents are never read, and no
-    /// memory is allocated and cleared up to its length.
+    /// Offers a buffer for the next body, so that no memory of its length is allocated and cleared.
+    /// Its contents are never read.
     ///
-    /// The list is dropped if bytes of a body already came, or if the present list is at least as
-    /// long. It is also dropped after the end-of-stream mark, and after a refusal.
+    /// One buffer is kept: this one, or the one that was kept before. The code drops this one if
+    /// bytes of a body already came, or if the other is at least as long; no clause says which.
+    /// None is kept after the end-of-stream mark, and after a refusal.
     pub fn reuse(&mut self, list: Vec<u8>)
         ensures progress { self.new.progress ≡ self.old.progress }
         ensures limits { self.new.limits ≡ self.old.limits }
-        // One list is kept for the next body: this one, or the one that was kept before.
+        // One buffer is kept for the next body: this one, or the one that was kept before.
         ensures kept { KeepsOne self.old.room.body self.new.room.body (vec_capacity list) }
         ensures metadata { self.new.room.metadata ≡ self.old.room.metadata }
         ensures let_go { DropsLists self.new.progress self.new.room }
@@ -239,8 +240,8 @@ impl Frames {
     /// Returns the number of bytes of the current message that came. It never fails and takes no
     /// memory.
     ///
-    /// The bytes of a list that was passed to `reuse` are not counted: they belong to no message,
-    /// and the next body is read over them. `reuse` keeps at most one list.
+    /// The bytes of a buffer that was passed to `reuse` are not counted: they belong to no message,
+    /// and the next body is read over them. `reuse` keeps at most one buffer.
     pub fn held(&self) -> usize
         ensures came { result ≡ held_of self.now.progress }
         // The mark and the size have 8 bytes, and the limits bound the metadata and the body.
@@ -257,7 +258,7 @@ impl Frames {
     pub fn close(&mut self) -> Result<(), Fault>
         ensures closed { Closes self.old.progress self.new.progress result }
         ensures limits { self.new.limits ≡ self.old.limits }
-        // No list is kept, whatever the result.
+        // No buffer is kept, whatever the result.
         ensures let_go { self.new.room ≡ no_capacity }
     {
         match self.phase {

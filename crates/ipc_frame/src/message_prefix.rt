@@ -4,7 +4,7 @@ use ipc_model::Fault;
 use std::marker::Model;
 
 // The first eight bytes of a message, as far as they came: its mark and the size of its metadata.
-// They are no list, so the mark, the size and the end mark take no memory.
+// They are an array and no `Vec`, so the mark, the size and the end mark take no memory.
 #[derive(Drop)]
 pub struct MessagePrefix {
     bytes: [u8; 8],

@@ -40,7 +40,7 @@ pub fn read_after<R: Source>(
     }
 }
 
-// Makes space after the contents of a full list, for some of the wanted bytes: its length or one
+// Makes space after the contents of a full buffer, for some of the wanted bytes: its length or one
 // piece, whichever is more.
 pub fn make_room(list: &mut Vec<u8>, wanted: usize) -> Result<(), AllocError>
     requires { 0 < wanted }
@@ -55,7 +55,7 @@ pub fn make_room(list: &mut Vec<u8>, wanted: usize) -> Result<(), AllocError>
     Ok(())
 }
 
-// Calls the source once, for at most the wanted bytes, and appends what comes to the list.
+// Calls the source once, for at most the wanted bytes, and appends what comes to the buffer.
 fn read_appending<R: Source>(
     source: &mut R,
     list: &mut Vec<u8>,

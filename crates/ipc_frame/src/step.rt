@@ -19,8 +19,8 @@ pub enum MessageStep {
     Whole(Frame),
 }
 
-// What the bytes that came complete. A complete message moves out with its lists, and nothing is
-// kept after it.
+// What the bytes that came complete. A complete message moves out with its buffers, and nothing
+// is kept after it.
 pub fn conclude(
     alloc: Global,
     limits: &Limits,

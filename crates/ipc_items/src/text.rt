@@ -86,7 +86,7 @@ impl AsStr for Text {
     }
 }
 
-/// Prints the text as it is.
+/// Prints the text as `str` does: a width fills it, and a precision cuts it.
 impl fmt::Display for Text {
     ghost output = { λ text. Some text };
 

@@ -24,7 +24,7 @@ use std::alloc::Global;
 #[derive(Debug, Drop)]
 pub struct BatchMessages {
     messages: Vec<Message>,
-    // The lists of the columns.
+    // The buffers of the columns.
     room: BufferPool,
 }
 
@@ -36,7 +36,7 @@ impl BatchMessages {
         self.messages.as_slice()
     }
 
-    /// Returns the memory of its lists, for use by the next batch.
+    /// Returns the memory of its buffers, for use by the next batch.
     pub(crate) fn into_pool(self) -> BufferPool {
         let BatchMessages { messages, mut room } = self;
         let mut messages = messages;

@@ -22,7 +22,8 @@ use ipc_model::{Items, Limits, Schema, Text, WriteFault};
 use std::alloc::Global;
 
 /// The messages of one batch, none of which is sent yet: those of the dictionaries that it needs,
-/// then its own, whose body is a list of segments (Arrow Columnar Format, "IPC Streaming Format").
+/// then its own, whose body is a sequence of segments (Arrow Columnar Format, "IPC Streaming
+/// Format").
 #[derive(Debug, Drop)]
 pub(crate) struct ColumnMessages<'a> {
     /// The messages of dictionaries.
@@ -34,8 +35,8 @@ pub(crate) struct ColumnMessages<'a> {
 }
 
 impl ColumnMessages<'_> {
-    // Adds the memory of its segments to lists for use by the next batch. Lists for which there is
-    // no room are dropped.
+    // Adds the memory of its segments to buffers for use by the next batch. Buffers for which there
+    // is no room are dropped.
     pub(crate) fn give_back(self, pool: &mut Vec<Vec<u8>>) {
         let ColumnMessages {
             dictionaries: _,
@@ -84,7 +85,7 @@ fn plan_columns(
 }
 
 // The messages of a batch that was read, with these pairs, and what it does with each dictionary.
-// Segments that are encoded anew are in the memory of the lists in `pool` if there are any.
+// Segments that are encoded anew are in the memory of the buffers in `pool` if there are any.
 pub(crate) fn column_messages<'a>(
     alloc: Global,
     limits: &Limits,

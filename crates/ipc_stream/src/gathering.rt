@@ -113,7 +113,7 @@ impl<'a> Gathered<'a> {
     }
 }
 
-// The bytes of messages, and then of one whose body is a list of segments.
+// The bytes of messages, and then of one whose body is a sequence of segments.
 pub(crate) fn gather<'a>(
     alloc: Global,
     messages: &'a [Message],

@@ -30,7 +30,7 @@ pub data Stage : Type 0 where
   refused : Stage
 
 -- the value of a decoder: its limits, what is in force, the stage of the stream, how many messages
--- have come, and the room of the lists that it keeps for the current message
+-- have come, and the room of the buffers that it keeps for the current message
 pub record Decoding : Type 0 where
   pub limits : Limits
   pub state : State
@@ -163,7 +163,7 @@ dictionary_bytes (Some o) = sum_by (λ d. d.bytes) (values_of o.dictionaries)
 abbrev pub held_of : Decoding → ℕ
 held_of d = count_up (dictionary_bytes d.state) (kept_bytes d.stage)
 
--- the decoder with its stage replaced, of which no list is kept
+-- the decoder with its stage replaced, of which no buffer is kept
 abbrev pub at_stage : Decoding → Stage → Decoding
 at_stage d stage = record {
   limits = d.limits;
@@ -173,7 +173,7 @@ at_stage d stage = record {
   room = no_capacity;
 }
 
--- no list is kept after the end and after a refusal
+-- no buffer is kept after the end and after a refusal
 abbrev pub DropsLists : Stage → Capacity → Type 0
 DropsLists (taking z) room = ⊤
 DropsLists stage room = room ≡ no_capacity

@@ -137,8 +137,8 @@ decoding_of framing stream = record {
   room = framing.room;
 }
 
--- the frames have the same limits. They take bytes while the stream is being read, and keep no list
--- afterwards
+-- the frames have the same limits. They take bytes while the stream is being read, and keep no
+-- buffer afterwards
 pub record IsSound (framing : Framing) (stream : StreamState) : Type 0 where
   pub same_limits : framing.limits ≡ stream.limits
   pub takes : stream.phase ≡ phase.Reading → (z : List ℕ) × (framing.progress ≡ frames.taking z)

@@ -14,13 +14,12 @@ use std::marker::Model;
 /// Format" and "Encapsulated message format").
 ///
 /// Bytes are pushed by `feed` or pulled by `feed_from`, and the two may be mixed. The decoder keeps
-/// all bytes of the current message that came, and none of them after it. The body of a record
-/// batch moves to the batch without a copy. The body of a dictionary batch is kept while its
-/// dictionary is in force.
+/// the bytes of the current message that came. The body of a record batch becomes that of the
+/// batch. The body of a dictionary batch is kept while its dictionary is in force.
 ///
-/// For any size of the pieces, metadata is read once when it is complete, and once more with the
-/// complete body. Lists grow as bytes come, never by what a message states. Pass a batch that is no
-/// longer needed to `reuse`.
+/// The code reads metadata once when it is complete, and once more with the complete body, for any
+/// size of the pieces. Buffers grow as bytes come, not by what a message states. Pass a batch that
+/// is no longer needed to `reuse`.
 ///
 /// After a refusal each call returns `Failed` (F35) and takes no bytes; earlier events remain
 /// valid. After the end-of-stream mark, or after a `close` that returned `Ok`, no bytes are taken
@@ -101,7 +100,7 @@ impl Decoder {
         ensures limits { self.new.limits ≡ self.old.limits }
         // A batch has a column for each field of the schema.
         ensures columns { IfOk result (λ found. IfSome found.1 (HasColumns self.new.state)) }
-        // No list is kept with an event and after a refusal.
+        // No buffer is kept with an event and after a refusal.
         ensures moved { MatchResult result (λ found. IfSome found.1
             (λ _. self.new.room ≡ no_capacity))
             (λ _. self.new.room ≡ no_capacity) }
@@ -160,7 +159,7 @@ impl Decoder {
             (R.failures source.new) result.1 }
         // A batch has a column for each field of the schema.
         ensures columns { IfOk result.1 (λ found. IfSome found (HasColumns self.new.state)) }
-        // No list is kept with an event and after a refusal.
+        // No buffer is kept with an event and after a refusal.
         ensures moved { MatchResult result.1 (λ found. IfSome found
             (λ _. self.new.room ≡ no_capacity))
             (λ _. self.new.room ≡ no_capacity) }
@@ -189,7 +188,7 @@ impl Decoder {
     /// dropped at the end of the stream, and after a refusal.
     pub fn reuse(&mut self, batch: Batch)
         ensures same { self.new ≡ record self.old { room = self.new.room } }
-        // One list is kept for the next body, and none after the end or a refusal.
+        // One buffer is kept for the next body, and none after the end or a refusal.
         ensures metadata { self.new.room.metadata ≡ self.old.room.metadata }
         ensures let_go { DropsLists self.new.stage self.new.room }
     {
@@ -286,7 +285,7 @@ impl Decoder {
     /// `feed`; `Failed` (F35) after a refusal.
     pub fn close(&mut self) -> Result<End, Fault>
         ensures closes { ClosesAt self.old self.old.stage self.new result }
-        // No list is kept, whatever the result.
+        // No buffer is kept, whatever the result.
         ensures let_go { self.new.room ≡ no_capacity }
     {
         match self.stream.phase {

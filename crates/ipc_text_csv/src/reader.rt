@@ -325,8 +325,8 @@ fn put_time(field: &Field, unit: TimeUnit, text: &[u8], place: &mut Value) -> bo
     put_own(field, read_time(unit, text).map(Value::Int), place)
 }
 
-// Reads the value of this field whose text this is, null aside, into the place of another, and says
-// whether there is one. What the place holds where there is none means nothing.
+// Parses a field that is not null into an existing value, whose memory is reused. Returns whether
+// the text is that of a value; if not, the value has no meaning.
 #[inline(always)]
 fn read_own(
     alloc: Global,
@@ -500,8 +500,8 @@ pub fn row_from_csv(
 /// - X5 if the number of fields is not the number of columns;
 /// - X4 with the first column whose field is not the text of a value that fits.
 ///
-/// `OutOfMemory` is returned if memory ran out. It takes memory only for a text or bytes longer
-/// than all earlier ones of their column.
+/// `OutOfMemory` is returned if memory ran out. The code takes memory only for a text or bytes
+/// longer than all earlier ones of their column; no clause says so.
 pub fn fill_row_from_csv(
     alloc: Global,
     dialect: Dialect<'_>,

@@ -62,7 +62,7 @@ fn zone_of(timezone: &Option<Text>) -> Option<&str>
 }
 
 // Writes the text of a date in days, as `put_temporal` does. Each unit has a function of its own
-// that isn't taken in: it puts aside few registers, and the arms of others carry nothing of it.
+// that isn't inlined: it saves few registers, and the other arms do not pay for it.
 #[inline(never)]
 fn put_days(text: &mut [u8], at: usize, number: i64) -> Option<usize>
     requires { at + 32 ≤ length text.old }

@@ -225,7 +225,7 @@ IsHint (usage.Help text) = ⊥
 IsHint (usage.Wrong text) = Hints (string_bytes text)
 IsHint usage.OutOfMemory = ⊤
 
--- the usage of words that are wrong, memory aside
+-- the usage of words that are wrong, unless memory ran out
 abbrev pub IsWrong : Usage → Type 0
 IsWrong (usage.Help text) = ⊥
 IsWrong (usage.Wrong text) = ⊤

@@ -126,7 +126,7 @@ const OPTION: &[u8] = b"error: unexpected argument '-";
 // The end of the message for any other unexpected word.
 const HINT: &str = "\nInput is read from standard input: arrowstream check < FILE\n";
 
-// The message for a dialect of CSV in which a value could not be told from null, or a field from
+// The message for a dialect of CSV in which a value could be taken for null, or a field from
 // two.
 const DELIMITER: &str = "\
 error: --delimiter takes one ASCII character; for a tab, write $'\\t'

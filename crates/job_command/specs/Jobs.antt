@@ -111,7 +111,7 @@ AnswersSchemaJob limits old new written_old written_new source_old source_new si
     × PrintTells source_old source_new sink_old sink_new p
 
 -- what a result states about a stream that is printed by these options. When W9 and F36 come, the
--- counts of failures of sink and source tell, as `print` states it
+-- counts of failures of sink and source are as `print` states them
 abbrev pub AnswersPrint : PrintOptions → Limits → Option (List ℕ) → Option (List ℕ)
     → Option (List ℕ) → Option (List ℕ) → ℕ → ℕ → ℕ → ℕ → Result ⊤ Stop → Type 0
 AnswersPrint options limits old new written_old written_new source_old source_new sink_old sink_new

@@ -1,6 +1,6 @@
 //! Bytes as hexadecimal digits at a place, sixteen bytes at a time.
 //!
-//! A digit is reckoned and not looked up, so that the digits of sixteen bytes are found at once.
+//! A digit is computed and not looked up, so that the digits of sixteen bytes are found at once.
 ghost use Rattle.std.specs.Prelude.{◌≡◌, ◌≤◌, ◌<◌, ◌+◌, ◌*◌, ◌++◌, ◌∷◌, [], length, take};
 ghost use Rattle.std.specs.Char.{digit_char};
 ghost use Rattle.hex.specs.Hex.{encode_lower};
