@@ -1,9 +1,9 @@
 -- Columns that are added one after another to a list of segments.
 use Rattle.std.proofs.Common.{◌≡◌, ◌∙◌, refl, sym, ap, ℕ, zero, suc, ◌+◌, ◌<◌, ◌≤◌, List, [], ◌∷◌, ◌++◌, length, take, get_or}
-use Rattle.std.proofs.Common.{append_assoc, arith, Some, slice_get, length-append, ℤ, pos, ◌+ℤ◌, subst, ◌-◌, ◌%◌, replicate, inl, inr}
+use Rattle.std.proofs.Common.{append_assoc, arith, Some, slice_get, length-append, ℤ, pos, subst, ◌-◌, ◌%◌, replicate, inl, inr}
 use Rattle.std.proofs.Common.{true}
-use Rattle.std.proofs.lemmas.Bool.{false≢true}
-use Rattle.std.proofs.lemmas.List.{take_more, append-nil, length-replicate}
+use Rattle.std.proofs.lemmas.Bool.{cases_lt, false≢true}
+use Rattle.std.proofs.lemmas.List.{append-nil, length-replicate, take_more}
 use Rattle.std.proofs.lemmas.Option.{get_or_from_slice_get}
 use Rattle.ipc_model.specs.Layouts.{layout}
 use Rattle.ipc_model.specs.declared.layout.Layout.{Layout}
@@ -14,85 +14,31 @@ use Rattle.ipc_model.specs.declared.schema.Field.TheFolds.{fold_out-Field}
 use Rattle.ipc_model.specs.declared.value.Value.{Value}
 use Rattle.ipc_column.specs.Nested.{Nested}
 use Rattle.ipc_column.specs.Shapes.{Shape, bare, field, field_children, field_layout, field_shape, field_step, shape_of}
-use Rattle.ipc_encode.specs.Buffers.{padded_bytes, padded_buffer, ranges_from, child_values, buffers_with, column_buffers, data_buffers}
-use Rattle.ipc_encode.specs.Buffers.{row_columns, nodes_of, written_values}
-use Rattle.ipc_encode.specs.Built.{ArePushesRefused, IsColumn, IsNode}
+use Rattle.ipc_encode.specs.Buffers.{padded_bytes, ranges_from, child_values, buffers_with, column_buffers, data_buffers}
+use Rattle.ipc_encode.specs.Buffers.{row_columns, row_nodes, row_buffers_with, nodes_of, written_values}
+use Rattle.ipc_encode.specs.Built.{ArePushesRefused, IsColumn}
 use Rattle.ipc_encode.specs.Buffers.{column_nulls}
 use Rattle.ipc_encode.specs.Columns.{validity_bytes}
 use Rattle.ipc_encode.specs.Faults.{write_fault}
 use Rattle.ipc_encode.specs.Limits.{HasLongData, HasLongItems, HasLongNode, HasExcessData, AreRowsRefused, IsWithin, SomeExcessData}
 use Rattle.ipc_encode.specs.Numbers.{Numbering}
 use Rattle.ipc_encode.specs.Segments.{AddsBuffers, IsBodyRefused, bytes_of_segments, segment_bytes, AddsColumns, AreRefusedAfter}
-use Rattle.ipc_encode.specs.Segments.{IsDataRefused}
+use Rattle.ipc_encode.specs.Segments.{ArePartsOf, AreSegmented, IsDataRefused, IsEmpty}
 use Rattle.ipc_encode.specs.WholeColumns.{AreFullColumns, IsFullColumn, is_taken_whole}
 use Rattle.ipc_encode.specs.Writing.{AllStored, AreStored}
 use Rattle.ipc_encode.specs.declared.fault.PushFault.{PushFault}
 use Rattle.ipc_encode.specs.declared.fault.PushFault.TheVariants as push
-use Rattle.ipc_encode.specs.declared.tree.Node.{Node}
+use Rattle.ipc_encode.specs.declared.column.ColumnBuilder.{ColumnBuilder}
 use Rattle.ipc_encode.specs.declared.segments.Segment.{Segment}
-use Rattle.ipc_encode.specs.declared.segments.SegmentedDraft.{SegmentedDraft}
+use Rattle.ipc_encode.specs.declared.segments.Draft.{Draft}
+use Rattle.ipc_encode.specs.declared.segments.SegmentedParts.{SegmentedParts}
+use Rattle.ipc_model.specs.declared.fault.WriteFault.{WriteFault}
+use Rattle.ipc_model.specs.declared.fault.WriteFault.TheVariants as write
 use Rattle.ipc_encode.proofs.Growing.{joined_append, ranges_append, parts_length, IsAt, bytes_next, few_next, first, first_within}
-use Rattle.ipc_encode.proofs.Growing.{long_node_at, nodes_next, short_next, some_at, few_leaf, short_leaf, held_few, held_short}
-use Rattle.ipc_encode.proofs.Held.{all_stored, rows_within}
+use Rattle.ipc_encode.proofs.Growing.{long_node_at, nodes_next, short_next, some_at, few_leaf, short_leaf}
+use Rattle.ipc_encode.proofs.Held.{rows_within}
+use Rattle.ipc_encode.proofs.Sizes.{column_short, held_stored}
 use Rattle.ipc_encode.proofs.Indexed.{buffers_size, buffers_with_next}
-use Rattle.ipc_encode.proofs.Ranges.{ranges_length}
-
--- ---- the ranges of buffers that follow others in a body
-
--- a range of buffers that begin `base` bytes later
-shifted_at : (bs : List (List ℕ)) (s base i : ℕ) (d : ℤ × ℤ) → i < length bs
-    → get_or (ranges_from (s + base) bs) i d ≡ ((get_or (ranges_from s bs) i d).0 +ℤ pos base, (get_or (ranges_from s bs) i d).1)
-shifted_at [] s base i d m = absurd (omega (arith, m))
-shifted_at (b ∷ bs) s base zero d m = refl
-shifted_at (b ∷ bs) s base (suc i) d m =
-    let e : s + base + length (padded_buffer b) ≡ s + length (padded_buffer b) + base = omega arith in
-    ap (λ (k : ℕ). get_or (ranges_from k bs) i d) e ∙ shifted_at bs (s + length (padded_buffer b)) base i d (omega (arith, m))
-
--- a range begins within the buffers
-start_at : (bs : List (List ℕ)) (s i : ℕ) (d : ℤ × ℤ) → i < length bs
-    → (n : ℕ) × ((get_or (ranges_from s bs) i d).0 ≡ pos n) × (n ≤ s + length (padded_bytes bs))
-start_at [] s i d m = absurd (omega (arith, m))
-start_at (b ∷ bs) s zero d m = (s, refl, omega arith)
-start_at (b ∷ bs) s (suc i) d m =
-    let size = length-append (padded_buffer b) (padded_bytes bs) in
-    let more = start_at bs (s + length (padded_buffer b)) i d (omega (arith, m)) in
-    let within = more.2 in
-    (more.0, more.1, omega (arith, size, within))
-
-pub range_start : (bs : List (List ℕ)) (ranges : List (ℤ × ℤ)) (i : ℕ) (range : ℤ × ℤ) → ranges ≡ ranges_from 0 bs
-    → i < length ranges → slice_get ranges i ≡ Some range → (n : ℕ) × (range.0 ≡ pos n) × (n ≤ length (padded_bytes bs))
-range_start bs ranges i range e m at =
-    let d : ℤ × ℤ = (pos 0, pos 0) in
-    let size = ap (λ (rs : List (ℤ × ℤ)). length rs) e ∙ ranges_length bs 0 in
-    let found : range ≡ get_or (ranges_from 0 bs) i d =
-    sym (get_or_from_slice_get ranges i range d at) ∙ ap (λ (rs : List (ℤ × ℤ)). get_or rs i d) e in
-    let start = start_at bs 0 i d (omega (arith, size, m)) in
-    let within = start.2 in
-    (start.0, ap (λ (r : ℤ × ℤ). r.0) found ∙ start.1, omega (arith, within))
-
--- one range more
-pub ranges_more : (bs : List (List ℕ)) (more old now new : List (ℤ × ℤ)) (i base : ℕ) (range moved : ℤ × ℤ)
-    → more ≡ ranges_from 0 bs → i < length more → slice_get more i ≡ Some range → moved ≡ (range.0 +ℤ pos base, range.1)
-    → now ≡ old ++ take i (ranges_from base bs) → new ≡ now ++ moved ∷ [] → new ≡ old ++ take (i + 1) (ranges_from base bs)
-ranges_more bs more old now new i base range moved e m at is before after =
-    let d : ℤ × ℤ = (pos 0, pos 0) in
-    let size = ap (λ (rs : List (ℤ × ℤ)). length rs) e ∙ ranges_length bs 0 in
-    let many = ranges_length bs base in
-    let found : get_or (ranges_from 0 bs) i d ≡ range =
-    ap (λ (rs : List (ℤ × ℤ)). get_or rs i d) (sym e) ∙ get_or_from_slice_get more i range d at in
-    let zero_first : 0 + base ≡ base = omega arith in
-    let moved_by : ◌≡◌ {A = ℤ × ℤ} ((get_or (ranges_from 0 bs) i d).0 +ℤ pos base, (get_or (ranges_from 0 bs) i d).1)
-    (range.0 +ℤ pos base, range.1) =
-    λ t. ((found t).0 +ℤ pos base, (found t).1) in
-    let next : get_or (ranges_from base bs) i d ≡ moved =
-    ap (λ (k : ℕ). get_or (ranges_from k bs) i d) (sym zero_first)
-    ∙ (shifted_at bs 0 base i d (omega (arith, size, m))
-    ∙ (moved_by ∙ sym is)) in
-    after ∙ (ap (λ (rs : List (ℤ × ℤ)). rs ++ moved ∷ []) before
-    ∙ (append_assoc old (take i (ranges_from base bs)) (moved ∷ [])
-    ∙ ap (λ (rs : List (ℤ × ℤ)). old ++ rs)
-    (ap (λ (r : ℤ × ℤ). take i (ranges_from base bs) ++ r ∷ []) (sym next)
-    ∙ sym (take_more (ranges_from base bs) i d (omega (arith, size, many, m))))))
 
 -- ---- buffers that are added one after another to a list of segments
 
@@ -108,8 +54,15 @@ pub joined_push : (xs new : List Segment) (x : Segment) → new ≡ xs ++ x ∷ 
 joined_push xs new x e = ap bytes_of_segments e ∙ (joined_both xs (x ∷ [])
     ∙ ap (λ (bs : List ℕ). bytes_of_segments xs ++ bs) (append-nil (segment_bytes x)))
 
+-- the bytes of the first segments and the next one
+pub joined_next : (segments : List Segment) (i : ℕ) (s : Segment) → i < length segments → s ≡ get_or segments i s
+    → bytes_of_segments (take (i + 1) segments) ≡ bytes_of_segments (take i segments) ++ segment_bytes s
+joined_next segments i s inside is =
+    joined_push (take i segments) (take (i + 1) segments) s
+    (take_more segments i s inside ∙ ap (λ (x : Segment). take i segments ++ x ∷ []) (sym is))
+
 -- no buffer more
-pub adds_none : (d : SegmentedDraft) → AddsBuffers d d []
+pub adds_none : (d : Draft) → AddsBuffers d d []
 adds_none d = record {
   buffers = sym (append-nil d.buffers.items);
   body = sym (append-nil (bytes_of_segments d.segments.items));
@@ -121,7 +74,7 @@ pub padded_both : (xs ys : List (List ℕ)) → length (padded_bytes (xs ++ ys))
 padded_both xs ys = ap (λ (bs : List ℕ). length bs) (joined_append xs ys) ∙ length-append (padded_bytes xs) (padded_bytes ys)
 
 -- some buffers and then others
-pub adds_both : (d e f : SegmentedDraft) (xs ys : List (List ℕ)) → AddsBuffers d e xs → AddsBuffers e f ys → AddsBuffers d f (xs ++ ys)
+pub adds_both : (d e f : Draft) (xs ys : List (List ℕ)) → AddsBuffers d e xs → AddsBuffers e f ys → AddsBuffers d f (xs ++ ys)
 adds_both d e f xs ys a b =
     let size = padded_both xs ys in
     let first = a.len in
@@ -138,7 +91,7 @@ adds_both d e f xs ys a b =
     }
 
 -- buffers may be written in another way
-pub adds_as : (d e : SegmentedDraft) (xs ys : List (List ℕ)) → xs ≡ ys → AddsBuffers d e xs → AddsBuffers d e ys
+pub adds_as : (d e : Draft) (xs ys : List (List ℕ)) → xs ≡ ys → AddsBuffers d e xs → AddsBuffers d e ys
 adds_as d e xs ys same a = subst (λ (bs : List (List ℕ)). AddsBuffers d e bs) same a
 
 -- the bytes of one buffer
@@ -197,7 +150,7 @@ refused_first limits len xs ys e h =
     refused_longer limits (len + length (padded_bytes xs)) (len + length (padded_bytes (xs ++ ys))) e (omega (arith, size)) h
 
 -- a later one of them is refused
-pub refused_later : (limits : Limits) (d mid : SegmentedDraft) (xs ys : List (List ℕ)) (e : PushFault) → AddsBuffers d mid xs
+pub refused_later : (limits : Limits) (d mid : Draft) (xs ys : List (List ℕ)) (e : PushFault) → AddsBuffers d mid xs
     → IsBodyRefused limits (mid.len + length (padded_bytes ys)) e → IsBodyRefused limits (d.len + length (padded_bytes (xs ++ ys))) e
 refused_later limits d mid xs ys e a h =
     let size = padded_both xs ys in
@@ -209,7 +162,7 @@ refused_later limits d mid xs ys e a h =
 -- ---- a column without children
 
 pub leaf_added : (limits : Limits) (known : Numbering) (lay : Layout) (vs : List Value) (bs : List (List ℕ)) (count none : ℕ)
-    (d e : SegmentedDraft)
+    (d e : Draft)
     → length vs ≡ count → column_nulls lay vs ≡ none → column_buffers lay (written_values known lay vs) ≡ bs
     → e.nodes.items ≡ d.nodes.items ++ (pos count, pos none) ∷ [] → AddsBuffers d e bs → count ≤ limits.slots
     → (HasExcessData lay vs → ⊥) → AreStored lay vs → e.len ≤ limits.body
@@ -250,13 +203,13 @@ leaf_refused limits len lay vs bs push.TooMany same h = absurd h
 leaf_refused limits len lay vs bs _ same h = h
 
 -- its bitmap, in the draft after its node
-pub begun : (d mid e : SegmentedDraft) (bs : List ℕ) (vs : List Value) → bs ≡ validity_bytes vs → AddsBuffers d mid []
+pub begun : (d mid e : Draft) (bs : List ℕ) (vs : List Value) → bs ≡ validity_bytes vs → AddsBuffers d mid []
     → AddsBuffers mid e (bs ∷ []) → AddsBuffers d e (validity_bytes vs ∷ [])
 begun d mid e bs vs same none one =
     adds_as d e (bs ∷ []) (validity_bytes vs ∷ []) (ap (λ (b : List ℕ). b ∷ []) same) (adds_both d mid e [] (bs ∷ []) none one)
 
 -- its bitmap is refused
-pub bitmap_refused : (limits : Limits) (d mid : SegmentedDraft) (lay : Layout) (vs : List Value) (bs : List ℕ) (fault : PushFault)
+pub bitmap_refused : (limits : Limits) (d mid : Draft) (lay : Layout) (vs : List Value) (bs : List ℕ) (fault : PushFault)
     → (lay ≡ l.Null → ⊥) → bs ≡ validity_bytes vs → AddsBuffers d mid []
     → IsBodyRefused limits (mid.len + length (padded_bytes (bs ∷ []))) fault
     → AreRefusedAfter limits d.len (field lay bare bare) (λ j. vs) fault
@@ -266,7 +219,7 @@ bitmap_refused limits d mid lay vs bs fault some same none h =
     (refused_first limits d.len (bs ∷ []) (data_buffers lay vs) fault (refused_later limits d mid [] (bs ∷ []) fault none h))
 
 -- its other buffers are refused
-pub data_refused : (limits : Limits) (d mid : SegmentedDraft) (lay : Layout) (vs : List Value) (fault : PushFault)
+pub data_refused : (limits : Limits) (d mid : Draft) (lay : Layout) (vs : List Value) (fault : PushFault)
     → (lay ≡ l.Null → ⊥) → AddsBuffers d mid (validity_bytes vs ∷ []) → IsDataRefused limits mid.len lay vs fault
     → AreRefusedAfter limits d.len (field lay bare bare) (λ j. vs) fault
 data_refused limits d mid lay vs push.TooLong some adds (inl long) = inl (inl long)
@@ -279,7 +232,7 @@ data_refused limits d mid lay vs _ some adds h = h
 -- ---- a column and those of its children
 
 -- a column, and then its children
-pub with_children : (limits : Limits) (known : Numbering) (lay : Layout) (c : Shape) (vs : List Value) (d mid e : SegmentedDraft)
+pub with_children : (limits : Limits) (known : Numbering) (lay : Layout) (c : Shape) (vs : List Value) (d mid e : Draft)
     → AddsColumns limits known (field lay bare bare) (λ j. vs) d mid → AddsColumns limits known c (child_values lay vs) mid e
     → AddsColumns limits known (field lay c bare) (λ j. vs) d e
 with_children limits known lay c vs d mid e own inner =
@@ -331,7 +284,7 @@ own_refused_after limits len lay c vs push.TooMany (inr (inr (inr none))) = absu
 own_refused_after limits len lay c vs _ h = h
 
 -- its children are refused
-pub children_refused : (limits : Limits) (known : Numbering) (lay : Layout) (c : Shape) (vs : List Value) (d mid : SegmentedDraft)
+pub children_refused : (limits : Limits) (known : Numbering) (lay : Layout) (c : Shape) (vs : List Value) (d mid : Draft)
     (fault : PushFault)
     → AddsColumns limits known (field lay bare bare) (λ j. vs) d mid → AreRefusedAfter limits mid.len c (child_values lay vs) fault
     → AreRefusedAfter limits d.len (field lay c bare) (λ j. vs) fault
@@ -346,21 +299,32 @@ children_refused limits known lay c vs d mid push.TooMany own (inl slots) = inl 
 children_refused limits known lay c vs d mid push.TooMany own (inr items) = inr (inr (inl items))
 children_refused limits known lay c vs d mid _ own h = h
 
--- ---- a column that is encoded in a node
+-- ---- a column that was built
 
-pub node_added : (limits : Limits) (known other : Numbering) (lay : Layout) (ch : Shape) (vs : List Value) (node : Node)
-    (d e : SegmentedDraft)
-    → IsNode (IsColumn known limits) lay ch node vs → e.nodes.items ≡ d.nodes.items ++ nodes_of (field lay ch bare) (λ j. vs)
-    → AddsBuffers d e (buffers_with other (field lay ch bare) (λ j. vs)) → e.len ≤ limits.body
-    → AddsColumns limits other (field lay ch bare) (λ j. vs) d e
-node_added limits known other lay ch vs node d e h nodes adds within = record {
-  nodes = nodes;
-  buffers = adds;
-  few = held_few known limits (field lay ch bare) (node ∷ []) (λ j. vs) (h, tt);
-  short = held_short known limits (field lay ch bare) (node ∷ []) (λ j. vs) (h, tt);
-  stores = all_stored known limits (field lay ch bare) (node ∷ []) (λ j. vs) (h, tt);
-  body = within;
-}
+pub built_added : (limits kept : Limits) (known other : Numbering) (lay : Layout) (vs : List Value) (column : ColumnBuilder) (d e : Draft)
+    → kept.slots ≤ limits.slots → IsColumn known kept lay vs column
+    → e.nodes.items ≡ d.nodes.items ++ (pos (length vs), pos (column_nulls lay vs)) ∷ []
+    → AddsBuffers d e (column_buffers lay (written_values other lay vs)) → e.len ≤ limits.body
+    → AddsColumns limits other (field lay bare bare) (λ j. vs) d e
+built_added limits kept known other lay vs column d e most h nodes adds within =
+    leaf_added limits other lay vs (column_buffers lay (written_values other lay vs)) (length vs) (column_nulls lay vs) d e refl refl refl
+    nodes adds few (λ long. column_short known kept lay vs column h long)
+    (subst (λ (x : Layout). AreStored x vs) h.laid (held_stored known vs column.data h.holds)) within
+  where
+    few : length vs ≤ limits.slots
+    few = elim (cases_lt kept.slots (length vs)) as (λ _. length vs ≤ limits.slots)
+        [ inl many ↦ absurd (h.few many) | inr fits ↦ omega (arith, fits, most) ]
+
+-- its buffers are refused
+pub built_refused : (limits : Limits) (other : Numbering) (len : ℕ) (lay : Layout) (vs : List Value) (fault : PushFault)
+    → IsBodyRefused limits (len + length (padded_bytes (column_buffers lay (written_values other lay vs)))) fault
+    → AreRefusedAfter limits len (field lay bare bare) (λ j. vs) fault
+built_refused limits other len lay vs push.TooLong h =
+    let size = buffers_size other (field lay bare bare) (λ j. vs) in
+    let own = ap (λ (bs : List (List ℕ)). length (padded_bytes bs)) (append-nil (column_buffers lay (written_values other lay vs))) in
+    inr (omega (arith, size, own, h))
+built_refused limits other len lay vs push.TooMany h = absurd h
+built_refused limits other len lay vs _ h = h
 
 -- why columns do not take values is why they are not added to a body
 pub pushes_refused : (limits : Limits) (len : ℕ) (shape : Shape) (given : ℕ → List Value) (fault : PushFault)
@@ -368,14 +332,6 @@ pub pushes_refused : (limits : Limits) (len : ℕ) (shape : Shape) (given : ℕ 
 pushes_refused limits len shape given push.TooLong (inl long) = inl long
 pushes_refused limits len shape given push.TooLong (inr body) = inr (omega (arith, body))
 pushes_refused limits len shape given _ h = h
-
--- the buffers of columns are refused
-pub buffers_refused : (limits : Limits) (known : Numbering) (len : ℕ) (shape : Shape) (given : ℕ → List Value) (fault : PushFault)
-    → IsBodyRefused limits (len + length (padded_bytes (buffers_with known shape given))) fault
-    → AreRefusedAfter limits len shape given fault
-buffers_refused limits known len shape given push.TooLong h = let size = buffers_size known shape given in inr (omega (arith, size, h))
-buffers_refused limits known len shape given push.TooMany h = absurd h
-buffers_refused limits known len shape given _ h = h
 
 -- ---- one field more
 
@@ -386,7 +342,7 @@ stored_next zero (field k d rest) given lay c at so one = rw (at.0, at.1) one
 stored_next (suc i) (field k d rest) given lay c at so one =
     (so.0, (so.1.0, stored_next i rest (λ j. given (suc j)) lay c at so.1.1 one))
 
-pub columns_none : (limits : Limits) (known : Numbering) (given : ℕ → List Value) (d : SegmentedDraft) → d.len ≤ limits.body
+pub columns_none : (limits : Limits) (known : Numbering) (given : ℕ → List Value) (d : Draft) → d.len ≤ limits.body
     → AddsColumns limits known bare given d d
 columns_none limits known given d within = record {
   nodes = sym (append-nil d.nodes.items);
@@ -398,7 +354,7 @@ columns_none limits known given d within = record {
 }
 
 pub columns_next : (limits : Limits) (known : Numbering) (i : ℕ) (shape : Shape) (given : ℕ → List Value) (lay : Layout) (c : Shape)
-    (d mid e : SegmentedDraft)
+    (d mid e : Draft)
     → IsAt i shape lay c → AddsColumns limits known (first i shape) given d mid
     → AddsColumns limits known (field lay c bare) (λ j. given i) mid e → AddsColumns limits known (first (suc i) shape) given d e
 columns_next limits known i shape given lay c d mid e at so one =
@@ -416,7 +372,7 @@ columns_next limits known i shape given lay c d mid e at so one =
 
 -- the next field is refused
 pub columns_refused : (limits : Limits) (known : Numbering) (i : ℕ) (shape : Shape) (given : ℕ → List Value) (lay : Layout) (c : Shape)
-    (d mid : SegmentedDraft) (fault : PushFault)
+    (d mid : Draft) (fault : PushFault)
     → IsAt i shape lay c → AddsColumns limits known (first i shape) given d mid
     → AreRefusedAfter limits mid.len (field lay c bare) (λ j. given i) fault → AreRefusedAfter limits d.len shape given fault
 columns_refused limits known i shape given lay c d mid push.TooLong at so (inl long) = inl
@@ -485,7 +441,7 @@ pub field_parts : (f : Field) → field_shape f ≡ (layout (out-Field f).kind (
 field_parts f = fold_out-Field (Layout × Shape) field_step f
 
 -- rows whose columns are added to an empty body are within the limits
-pub columns_within : (limits : Limits) (known : Numbering) (fields : List Field) (rows : List (List Value)) (d e : SegmentedDraft)
+pub columns_within : (limits : Limits) (known : Numbering) (fields : List Field) (rows : List (List Value)) (d e : Draft)
     → d.len ≡ 0 → length rows ≤ limits.slots → AddsColumns limits known (shape_of fields) (row_columns rows) d e
     → IsWithin limits fields rows
 columns_within limits known fields rows d e none few h =
@@ -503,3 +459,27 @@ rows_refused_after limits fields rows len push.TooLong none (inr more) = inr (om
 rows_refused_after limits fields rows len push.TooMany none h = inr h
 rows_refused_after limits fields rows len push.OutOfMemory none h = h
 rows_refused_after limits fields rows len _ none h = absurd h
+
+-- only memory refuses rows that are within the limits
+pub only_memory : (limits : Limits) (fields : List Field) (rows : List (List Value)) (fault : WriteFault) → IsWithin limits fields rows
+    → AreRowsRefused limits fields rows fault → fault ≡ write.OutOfMemory
+only_memory limits fields rows write.TooLong within h = absurd (within.short h)
+only_memory limits fields rows write.TooManyRows within h = absurd (within.few h)
+only_memory limits fields rows write.OutOfMemory within h = refl
+only_memory limits fields rows _ within h = absurd h
+
+-- the parts of a draft to which the columns of rows were added
+pub segmented : (limits : Limits) (known : Numbering) (fields : List Field) (rows : List (List Value)) (d e : Draft) (parts : SegmentedParts)
+    → IsEmpty d → AddsColumns limits known (shape_of fields) (row_columns rows) d e → ArePartsOf e parts
+    → AreSegmented known fields rows parts
+segmented limits known fields rows d e parts none adds are =
+    let bs = row_buffers_with known fields rows in
+    let size = adds.buffers.len in
+    let zero_len = none.len in
+    let whole = are.len in
+    record {
+      nodes = are.nodes ∙ (adds.nodes ∙ ap (λ (ns : List (ℤ × ℤ)). ns ++ row_nodes fields rows) none.nodes);
+      buffers = are.buffers ∙ (adds.buffers.buffers ∙ (λ i. none.buffers i ++ ranges_from (none.len i) bs));
+      body = are.body ∙ (adds.buffers.body ∙ ap (λ (xs : List ℕ). xs ++ padded_bytes bs) none.body);
+      len = omega (arith, size, zero_len, whole);
+    }

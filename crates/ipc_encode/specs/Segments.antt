@@ -10,7 +10,7 @@ use Rattle.ipc_encode.specs.declared.fault.PushFault.TheVariants as fault
 use Rattle.ipc_encode.specs.declared.segments.Segment.{Segment}
 use Rattle.ipc_encode.specs.declared.segments.Segment.TheVariants as segment
 use Rattle.ipc_encode.specs.declared.segments.SegmentedParts.{SegmentedParts}
-use Rattle.ipc_encode.specs.declared.segments.SegmentedDraft.{SegmentedDraft}
+use Rattle.ipc_encode.specs.declared.segments.Draft.{Draft}
 use Rattle.ipc_encode.specs.Buffers.{body_with, buffers_of, buffers_with, data_buffers, nodes_of}
 use Rattle.ipc_encode.specs.Buffers.{padded_bytes, ranges_from, row_buffers_with, row_nodes}
 use Rattle.ipc_encode.specs.Limits.{HasLongData, HasLongItems, HasLongNode, SomeColumn}
@@ -29,8 +29,22 @@ abbrev pub bytes_of_segments : List Segment → List ℕ
 bytes_of_segments [] = []
 bytes_of_segments (one ∷ more) = segment_bytes one ++ bytes_of_segments more
 
+-- the draft has no columns
+pub record IsEmpty (draft : Draft) : Type 0 where
+  pub nodes : draft.nodes.items ≡ []
+  pub buffers : draft.buffers.items ≡ []
+  pub body : bytes_of_segments draft.segments.items ≡ []
+  pub len : draft.len ≡ 0
+
+-- the parts are those of the draft
+pub record ArePartsOf (draft : Draft) (parts : SegmentedParts) : Type 0 where
+  pub nodes : parts.nodes ≡ draft.nodes.items
+  pub buffers : parts.buffers ≡ draft.buffers.items
+  pub body : bytes_of_segments parts.segments.items ≡ bytes_of_segments draft.segments.items
+  pub len : parts.len ≡ draft.len
+
 -- the draft has these buffers more, after those it had
-pub record AddsBuffers (old new : SegmentedDraft) (bs : List (List ℕ)) : Type 0 where
+pub record AddsBuffers (old new : Draft) (bs : List (List ℕ)) : Type 0 where
   pub buffers : new.buffers.items ≡ old.buffers.items ++ ranges_from old.len bs
   pub body : bytes_of_segments new.segments.items ≡ bytes_of_segments old.segments.items
       ++ padded_bytes bs
@@ -39,7 +53,7 @@ pub record AddsBuffers (old new : SegmentedDraft) (bs : List (List ℕ)) : Type 
 -- the draft has the nodes and the buffers of columns of this shape with these values more; they are
 -- within the limits, and their texts are UTF-8
 pub record AddsColumns (limits : Limits) (indices : Numbering) (shape : Shape)
-    (given : ℕ → List Value) (old new : SegmentedDraft) : Type 0 where
+    (given : ℕ → List Value) (old new : Draft) : Type 0 where
   pub nodes : new.nodes.items ≡ old.nodes.items ++ nodes_of shape given
   pub buffers : AddsBuffers old new (buffers_with indices shape given)
   pub few : ¬ HasLongNode limits.slots shape given

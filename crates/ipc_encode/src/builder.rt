@@ -18,17 +18,19 @@ ghost use Rattle.ipc_encode.specs.Faults.{write_fault};
 ghost use Rattle.ipc_encode.specs.Indices.{FindsRows};
 ghost use Rattle.ipc_encode.specs.Limits.{AreRowsRefused, AreColumnsTooLong, IsWithin};
 ghost use Rattle.ipc_encode.specs.Numbers.{Numbering, new_indices, index_or_zero};
-ghost use Rattle.ipc_encode.specs.Writing.{IsDrafted};
+ghost use Rattle.ipc_encode.specs.Segments.{AreSegmented, bytes_of_segments};
 
+use crate::built_columns::add_nodes;
 use crate::cut::cut_nodes;
 use crate::fault::PushFault;
 use crate::fitting::{column_count, remaining_all, shares};
 use crate::index::{IndexOf, Renumber, SameNumbers};
-use crate::parts::{BufferPool, Draft, Parts, add_nodes};
+use crate::parts::Parts;
+use crate::pool::BufferPool;
+use crate::segments::{Draft, SegmentedParts};
 use crate::tree::{Node, append_parts, new_nodes};
-use ipc_model::{Field, Items, Limits, Row, Value, WriteFault};
-use std::alloc::{AllocError, Global};
-use std::mem;
+use ipc_model::{Field, Limits, Row, Value, WriteFault};
+use std::alloc::Global;
 
 /// Builds a record batch from rows, one at a time (Message.fbs, RecordBatch).
 ///
@@ -44,8 +46,6 @@ pub struct Builder {
     bounds: Limits,
     is_shared: bool,
     failed: bool,
-    // What it holds has no meaning; the body takes its room.
-    body: Vec<u8>,
 }
 
 // Whether the buffers of the columns are within a body.
@@ -81,28 +81,6 @@ fn bounds_of(nodes: &[Node], limits: &Limits) -> (Limits, bool)
     }
 }
 
-// The nodes and the buffers of the columns. The body takes the room of a list.
-fn join<N: Renumber>(
-    alloc: Global,
-    nodes: &[Node],
-    mut body: Vec<u8>,
-    numbers: &N,
-) -> Result<Draft, AllocError>
-    ensures { (known : Numbering) (limits : Limits) (fields : List Field)
-        (rows : List (List Value))
-        → HoldColumns known limits (shape_of fields) nodes.now (row_columns rows)
-        → IfOk result (IsDrafted (new_indices (N.Renumber.number numbers.now) known) fields rows) }
-{
-    body.clear();
-    let mut draft = Draft {
-        nodes: Vec::with_capacity(alloc, nodes.len())?,
-        buffers: Vec::new(alloc),
-        body,
-    };
-    add_nodes(nodes, &mut draft, numbers)?;
-    Ok(draft)
-}
-
 impl Builder {
     /// Creates a builder without rows. The fields must be those of a schema that passes
     /// `Schema::check`.
@@ -114,25 +92,23 @@ impl Builder {
             (StoresRows known limits.now fields.now []) }
         ensures refused { IfErr result (AreRowsRefused limits.now fields.now []) }
     {
-        Builder::with_pool(alloc, fields, limits, BufferPool::new(alloc))
+        Builder::with_pool(alloc, &mut BufferPool::new(alloc), fields, limits)
     }
 
-    /// Creates a builder without rows in the memory of a batch that was finished before. None of
-    /// that batch's rows are in this one.
+    /// Creates a builder without rows in memory from a pool.
     ///
     /// The requirements and the errors are those of `Builder::new`.
     pub fn with_pool(
         alloc: Global,
+        pool: &mut BufferPool,
         fields: &[Field],
         limits: &Limits,
-        room: BufferPool,
     ) -> Result<Builder, WriteFault>
         ensures rows { (known : Numbering) → IfOk result
             (StoresRows known limits.now fields.now []) }
         ensures refused { IfErr result (AreRowsRefused limits.now fields.now []) }
     {
-        let BufferPool { nodes, body } = room;
-        let nodes = new_nodes(fields, nodes, alloc)?;
+        let nodes = new_nodes(fields, pool, alloc)?;
         check_len(&nodes, limits)?;
         let (bounds, is_shared) = bounds_of(&nodes, limits);
         Ok(Builder {
@@ -142,7 +118,6 @@ impl Builder {
             bounds,
             is_shared,
             failed: false,
-            body,
         })
     }
 
@@ -349,7 +324,7 @@ impl Builder {
     ///
     /// Errors: W11 `OutOfMemory` if memory for a buffer ran out; W10 `Failed` after an error of
     /// `push`.
-    pub fn finish<N: Renumber>(self, numbers: &N) -> Result<Parts, WriteFault>
+    pub fn finish<'a, N: Renumber>(self, numbers: &N) -> Result<SegmentedParts<'a>, WriteFault>
         // The parts give the rows back under each map in which the numbers find their values.
         ensures rows { (known : Numbering) (limits : Limits) (fields : List Field)
             (rows : List (List Value)) (m : Dictionaries)
@@ -361,36 +336,31 @@ impl Builder {
               length = pos (length rows);
               nodes = parts.nodes;
               buffers = parts.buffers;
-            }) parts.body.items rows) }
-        ensures laid_out { (known : Numbering) (limits : Limits) (fields : List Field)
+            }) (bytes_of_segments parts.segments.items) rows) }
+        ensures segmented { (known : Numbering) (limits : Limits) (fields : List Field)
             (rows : List (List Value)) → StoresRows known limits fields rows self
             → IfOk result
-            (AreLaidOut (new_indices (N.Renumber.number numbers.now) known) fields rows) }
+            (AreSegmented (new_indices (N.Renumber.number numbers.now) known) fields rows) }
         ensures body { (known : Numbering) (limits : Limits) (fields : List Field)
             (rows : List (List Value)) → StoresRows known limits fields rows self
-            → IfOk result (λ parts. length parts.body.items ≤ limits.body) }
+            → IfOk result (λ parts. parts.len ≤ limits.body) }
         ensures refused { (known : Numbering) (limits : Limits) (fields : List Field)
             (rows : List (List Value)) → StoresRows known limits fields rows self
             → IfErr result (λ fault. fault ≡ WriteFault.OutOfMemory) }
         ensures failed { HasFailed self → result ≡ Err WriteFault.Failed }
     {
         let Builder {
-            nodes,
+            mut nodes,
+            limits,
             failed,
-            body,
             ..
         } = self;
         if failed {
             return Err(WriteFault::Failed);
         }
-        let alloc = *nodes.allocator();
-        let draft = join(alloc, &nodes, body, numbers)?;
-        Ok(Parts {
-            nodes: Items::from_vec(draft.nodes),
-            buffers: Items::from_vec(draft.buffers),
-            body: draft.body,
-            room: BufferPool::of_nodes(alloc, nodes),
-        })
+        let mut draft = Draft::new(*nodes.allocator());
+        add_nodes(&mut draft, &mut nodes, numbers, &limits)?;
+        Ok(draft.finish())
     }
 }
 
@@ -449,5 +419,6 @@ pub fn encode<I: IndexOf>(
     for row in rows {
         builder.push(fields, row.as_slice(), indices)?;
     }
-    builder.finish(&SameNumbers)
+    let parts = builder.finish(&SameNumbers)?;
+    Ok(parts.joined(alloc)?)
 }

@@ -63,6 +63,8 @@ pub(crate) struct IndexData {
     pub(crate) id: i64,
     /// The index of each value. A null has none.
     pub(crate) indices: Vec<Option<u64>>,
+    /// Memory for the numbers that are written in place of the indices.
+    pub(crate) values: Vec<u8>,
 }
 
 /// A column with the values so far.

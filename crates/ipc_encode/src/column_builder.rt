@@ -1,7 +1,7 @@
 //! The buffers of one column, and the values that are added to it.
 ghost use Rattle.std.specs.Int.{bytes_low_first};
 ghost use Rattle.std.specs.Prelude.{◌≡◌, ◌≤◌, ◌<◌, ◌^◌, ◌++◌, List, [], ◌∷◌, length, IfOk, IfErr};
-ghost use Rattle.std.specs.Prelude.{OnOk, IsTrue};
+ghost use Rattle.std.specs.Prelude.{OnOk};
 ghost use Rattle.ipc_model.specs.Layouts.{number_bytes};
 ghost use Rattle.ipc_model.specs.Layouts as layouts;
 ghost use Rattle.ipc_model.specs.MaxLimits.{max_slots};
@@ -22,6 +22,7 @@ use crate::column::{ColumnBuilder, ColumnData, IndexData};
 use crate::counting::{check_amount, content, is_true, is_valid, items, null_slots, number_bits};
 use crate::fault::PushFault;
 use crate::index::IndexOf;
+use crate::pool::BufferPool;
 use ipc_model::{IntBits, Layout, Limits, Value};
 use std::alloc::{AllocError, Global};
 
@@ -200,30 +201,39 @@ impl IndexData {
     }
 }
 
+// The offsets of no slots: one zero.
+fn first_offset(mut offsets: Vec<u8>) -> Result<Vec<u8>, AllocError>
+    ensures { offsets.items ≡ [] → IfOk result (λ all. all.items ≡ bytes_low_first 0 4 0) }
+{
+    push_offset(&mut offsets, 0)?;
+    Ok(offsets)
+}
+
 impl ColumnData {
-    // Creates the data of a column of this layout. Its lists are empty.
-    fn new(alloc: Global, layout: Layout) -> ColumnData
-        ensures { data_layout result ≡ layout }
+    // Creates the data of a column of this layout without values, in memory from the pool.
+    fn new(alloc: Global, pool: &mut BufferPool, layout: Layout) -> Result<ColumnData, AllocError>
+        ensures layout { IfOk result (λ column. data_layout column ≡ layout) }
+        ensures holds { (known : Numbering) → IfOk result (HoldsValues known []) }
     {
-        match layout {
+        Ok(match layout {
             Layout::Null => ColumnData::Null,
-            Layout::Bits => ColumnData::Bits(Vec::new(alloc)),
+            Layout::Bits => ColumnData::Bits(pool.take(alloc)),
             Layout::Numbers { bits, signed } => ColumnData::Numbers {
                 bits,
                 signed,
-                values: Vec::new(alloc),
+                values: pool.take(alloc),
             },
             Layout::FixedBytes(width) => ColumnData::FixedBytes {
                 width,
-                values: Vec::new(alloc),
+                values: pool.take(alloc),
             },
             Layout::VariableBytes { utf8 } => ColumnData::VariableBytes {
                 utf8,
-                offsets: Vec::new(alloc),
-                values: Vec::new(alloc),
+                offsets: first_offset(pool.take(alloc))?,
+                values: pool.take(alloc),
             },
             Layout::Lists => ColumnData::Lists {
-                offsets: Vec::new(alloc),
+                offsets: first_offset(pool.take(alloc))?,
                 items: 0,
             },
             Layout::FixedLists(size) => ColumnData::FixedLists(size),
@@ -233,37 +243,9 @@ impl ColumnData {
                 signed,
                 id,
                 indices: Vec::new(alloc),
+                values: pool.take(alloc),
             }),
-        }
-    }
-
-    // Drops the values, and keeps the memory of the buffers. Offsets begin with 0.
-    fn clear(&mut self) -> Result<(), AllocError>
-        ensures layout { data_layout self.new ≡ data_layout self.old }
-        ensures holds { (known : Numbering) → OnOk result (HoldsValues known [] self.new) }
-    {
-        match self {
-            ColumnData::Null | ColumnData::FixedLists(_) | ColumnData::Structs => (),
-            ColumnData::Bits(values) => values.clear(),
-            ColumnData::Numbers { values, .. } => values.clear(),
-            ColumnData::FixedBytes { values, .. } => values.clear(),
-            ColumnData::VariableBytes {
-                offsets,
-                values,
-                ..
-            } => {
-                values.clear();
-                offsets.clear();
-                push_offset(offsets, 0)?;
-            }
-            ColumnData::Lists { offsets, items } => {
-                *items = 0;
-                offsets.clear();
-                push_offset(offsets, 0)?;
-            }
-            ColumnData::Indices(held) => held.indices.clear(),
-        }
-        Ok(())
+        })
     }
 
     /// Returns the layout of the column.
@@ -289,13 +271,6 @@ impl ColumnData {
                 id: held.id,
             },
         }
-    }
-
-    // Returns whether the column has this layout.
-    fn has_layout(&self, layout: Layout) -> bool
-        ensures { IsTrue result → data_layout self.now ≡ layout }
-    {
-        self.layout() == layout
     }
 
     /// Returns whether the column has a validity bitmap.
@@ -377,43 +352,20 @@ impl ColumnData {
 }
 
 impl ColumnBuilder {
-    /// Creates a column of this layout without values.
-    pub(crate) fn new(alloc: Global, layout: Layout) -> Result<ColumnBuilder, AllocError>
-        ensures { (known : Numbering) (limits : Limits)
-            → IfOk result (IsColumn known limits layout []) }
-    {
-        ColumnBuilder::empty(Vec::new(alloc), ColumnData::new(alloc, layout))
-    }
-
-    /// Creates a column of this layout without values, in the memory of this one if it has the
-    /// layout.
-    pub(crate) fn into_empty(
-        self,
-        layout: Layout,
+    /// Creates a column of this layout without values, in memory from the pool.
+    pub(crate) fn new(
         alloc: Global,
+        pool: &mut BufferPool,
+        layout: Layout,
     ) -> Result<ColumnBuilder, AllocError>
         ensures { (known : Numbering) (limits : Limits)
             → IfOk result (IsColumn known limits layout []) }
     {
-        let ColumnBuilder { validity, data, .. } = self;
-        if data.has_layout(layout) {
-            return ColumnBuilder::empty(validity, data);
-        }
-        ColumnBuilder::new(alloc, layout)
-    }
-
-    // Drops the values of a column, and keeps the memory of its lists.
-    fn empty(mut validity: Vec<u8>, mut data: ColumnData) -> Result<ColumnBuilder, AllocError>
-        ensures { (known : Numbering) (limits : Limits) → IfOk result
-            (IsColumn known limits (data_layout «data») []) }
-    {
-        validity.clear();
-        data.clear()?;
         Ok(ColumnBuilder {
             slots: 0,
             nulls: 0,
-            validity,
-            data,
+            validity: pool.take(alloc),
+            data: ColumnData::new(alloc, pool, layout)?,
         })
     }
 

@@ -1,6 +1,6 @@
 //! The buffers of a column, borrowed from the batch where they lie as they are written.
 ghost use Rattle.std.specs.Prelude.{◌≡◌, ◌≤◌, ◌<◌, ◌+◌, ◌*◌, ℕ, false, length, IfSome, IsTrue};
-ghost use Rattle.std.specs.Prelude.{slice_index, take, List, [], drop, replicate, IfOk};
+ghost use Rattle.std.specs.Prelude.{slice_index, take, List, drop, replicate, IfOk};
 ghost use Rattle.ipc_scalar.specs.Bytes.{num};
 ghost use Rattle.ipc_model.specs.declared.layout.Layout.TheVariants.{Bits, FixedBytes, Lists};
 ghost use Rattle.ipc_model.specs.declared.value.Value.{Value};
@@ -16,6 +16,7 @@ ghost use Rattle.ipc_encode.specs.Segments.{segment_bytes};
 ghost use Rattle.ipc_encode.specs.WholeColumns.{UseAllItems};
 
 use crate::bitmaps::{is_valid_in_bitmap, push_bitmap};
+use crate::pool::BufferPool;
 use crate::segments::Segment;
 use crate::slot_pushing::{push_bools, push_each_content, push_fixed_slots, push_numbers};
 use ipc_column::{Numbers, SlotView};
@@ -126,25 +127,11 @@ fn null_slots_are_zeros(marks: &[u8], bytes: &[u8], width: usize, count: usize) 
     true
 }
 
-/// Returns an empty list, in the memory of one from the pool if there is any.
-pub(crate) fn pooled_list(alloc: Global, pool: &mut Vec<Vec<u8>>) -> Vec<u8>
-    ensures { result.items ≡ [] }
-{
-    match pool.pop() {
-        Some(list) => {
-            let mut list = list;
-            list.clear();
-            list
-        }
-        None => Vec::new(alloc),
-    }
-}
-
 /// Returns the validity bitmap of `count` slots with `null_count` nulls: empty if none is null,
 /// borrowed if it fills its bytes, and otherwise copied, so that the unused bits are 0.
 pub(crate) fn marked_validity<'a>(
     alloc: Global,
-    pool: &mut Vec<Vec<u8>>,
+    pool: &mut BufferPool,
     marks: &'a [u8],
     count: usize,
     null_count: usize,
@@ -160,7 +147,7 @@ pub(crate) fn marked_validity<'a>(
     if count % 8 == 0 && !marks.is_empty() {
         return Ok(Segment::Borrowed(&marks[..count / 8]));
     }
-    let mut validity = pooled_list(alloc, pool);
+    let mut validity = pool.take(alloc);
     push_bitmap(&mut validity, marks, count)?;
     Ok(Segment::Owned(validity))
 }
@@ -168,7 +155,7 @@ pub(crate) fn marked_validity<'a>(
 /// Returns the bytes of numbers, of which `null_count` are null: borrowed if null slots are zeros.
 pub(crate) fn number_values<'a>(
     alloc: Global,
-    pool: &mut Vec<Vec<u8>>,
+    pool: &mut BufferPool,
     view: &SlotView<'a>,
     numbers: &Numbers<'a>,
     bytes: &'a [u8],
@@ -189,7 +176,7 @@ pub(crate) fn number_values<'a>(
     if null_slots_are_zeros(numbers.validity, bytes, width, count) {
         return Ok(Segment::Borrowed(&bytes[..width * count]));
     }
-    let mut values = pooled_list(alloc, pool);
+    let mut values = pool.take(alloc);
     push_numbers(&mut values, view, numbers)?;
     Ok(Segment::Owned(values))
 }
@@ -198,7 +185,7 @@ pub(crate) fn number_values<'a>(
 /// is.
 pub(crate) fn fixed_values<'a>(
     alloc: Global,
-    pool: &mut Vec<Vec<u8>>,
+    pool: &mut BufferPool,
     view: &SlotView<'a>,
     width: u32,
     null_count: usize,
@@ -212,7 +199,7 @@ pub(crate) fn fixed_values<'a>(
         let buffers = view.buffers();
         return Ok(Segment::Borrowed(&buffers.values[..width as usize * view.len()]));
     }
-    let mut values = pooled_list(alloc, pool);
+    let mut values = pool.take(alloc);
     push_fixed_slots(&mut values, view, width)?;
     Ok(Segment::Owned(values))
 }
@@ -220,14 +207,14 @@ pub(crate) fn fixed_values<'a>(
 /// Returns the packed bits of booleans, 0 for a null.
 pub(crate) fn bit_values<'a>(
     alloc: Global,
-    pool: &mut Vec<Vec<u8>>,
+    pool: &mut BufferPool,
     view: &SlotView<'a>,
 ) -> Result<Segment<'a>, AllocError>
     requires { view.now.column.layout ≡ Bits }
     ensures { IfOk result (λ segment. segment_bytes segment
         ≡ bitmap (flags True (slot_values view.now))) }
 {
-    let mut values = pooled_list(alloc, pool);
+    let mut values = pool.take(alloc);
     push_bools(&mut values, view)?;
     Ok(Segment::Owned(values))
 }
@@ -236,7 +223,7 @@ pub(crate) fn bit_values<'a>(
 /// empty, and otherwise copied.
 pub(crate) fn variable_binary_segments<'a>(
     alloc: Global,
-    pool: &mut Vec<Vec<u8>>,
+    pool: &mut BufferPool,
     view: &SlotView<'a>,
 ) -> Result<VariableBinarySegments<'a>, AllocError>
     ensures ends { IfOk result
@@ -247,8 +234,8 @@ pub(crate) fn variable_binary_segments<'a>(
     if let Some(run) = borrowed_contents(view) {
         return Ok(run);
     }
-    let mut values = pooled_list(alloc, pool);
-    let mut offsets = pooled_list(alloc, pool);
+    let mut values = pool.take(alloc);
+    let mut offsets = pool.take(alloc);
     push_each_content(&mut values, &mut offsets, view)?;
     Ok(VariableBinarySegments {
         ends: Segment::Owned(offsets),

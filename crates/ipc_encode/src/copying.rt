@@ -1,20 +1,22 @@
 //! Takes the values of a column of a batch that was read into a column without values.
 ghost use Rattle.std.specs.Prelude.{◌≡◌, ◌≤◌, ◌<◌, ℕ, List, [], length, map, Option, Some};
-ghost use Rattle.std.specs.Prelude.{slice_get, slice_index_or, IfErr, IfOk, IfSome, OnOk};
+ghost use Rattle.std.specs.Prelude.{slice_get, slice_index_or, Bool, IfErr, IfOk, IfSome, OnOk, ℤ};
+ghost use Rattle.ipc_model.specs.declared.schema.IntBits.{IntBits};
 ghost use Rattle.ipc_model.specs.declared.layout.Layout.{Layout};
 ghost use Rattle.ipc_model.specs.declared.layout.Layout.TheVariants.{Indices};
 ghost use Rattle.ipc_model.specs.declared.value.Value.{Value};
 ghost use Rattle.ipc_column.specs.Lent.{AreOfColumn};
 ghost use Rattle.ipc_column.specs.Nested.{slot_values};
 ghost use Rattle.ipc_column.specs.Shapes.{Shape, bare, field};
-ghost use Rattle.ipc_encode.specs.Built.{IsColumn, IsPushRefused, ArePushesRefused, IsNode};
+ghost use Rattle.ipc_encode.specs.Built.{HoldsValues, IsColumn, IsPushRefused, ArePushesRefused};
+ghost use Rattle.ipc_encode.specs.Built.{IsNode, data_layout};
 ghost use Rattle.ipc_encode.specs.Cells.{cells, nulls, cell};
 ghost use Rattle.ipc_encode.specs.Columns.{validity_bytes};
 ghost use Rattle.ipc_encode.specs.EntryIndices.{AreKept, column_index};
-ghost use Rattle.ipc_encode.specs.Numbers.{indices_of, index_or_zero};
+ghost use Rattle.ipc_encode.specs.Numbers.{Numbering, indices_of, index_or_zero};
 
 use crate::bitmaps::push_bit;
-use crate::column::{ColumnBuilder, ColumnData, IndexData};
+use crate::column::{ColumnBuilder, ColumnData};
 use crate::column_builder::known_index;
 use crate::fault::PushFault;
 use crate::index::IndexOf;
@@ -208,6 +210,20 @@ fn push_validities(
     Ok(())
 }
 
+impl ColumnData {
+    // Replaces the indices of a column of indices.
+    fn set_indices(&mut self, indices: Vec<Option<u64>>)
+        ensures layout { data_layout self.new ≡ data_layout self.old }
+        ensures holds { (known : Numbering) (bits : IntBits) (signed : Bool) (id : ℤ)
+            (values : List Value) → data_layout self.old ≡ Indices bits signed id
+            → indices.items ≡ indices_of (known id) values → HoldsValues known values self.new }
+    {
+        if let ColumnData::Indices(held) = self {
+            held.indices = indices;
+        }
+    }
+}
+
 impl ColumnBuilder {
     /// Takes the values of a column of a batch into a column of these indices, which has no values.
     /// The index of each value of a dictionary that was read is looked up once. The errors are
@@ -242,12 +258,7 @@ impl ColumnBuilder {
         self.nulls = 0;
         self.slots = count;
         self.nulls = null_count;
-        self.data = ColumnData::Indices(IndexData {
-            bits,
-            signed,
-            id,
-            indices: column_indices,
-        });
+        self.data.set_indices(column_indices);
         Ok(())
     }
 }

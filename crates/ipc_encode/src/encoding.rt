@@ -1,5 +1,5 @@
 //! Encodes a batch that was read, column by column, as parts whose body is a sequence of segments.
-ghost use Rattle.std.specs.Prelude.{◌≡◌, ◌<◌, ◌≤◌, ◌+◌, ◌^◌, ◌++◌, [], ◌∷◌, ℕ, List, length, ◌+ℤ◌};
+ghost use Rattle.std.specs.Prelude.{◌≡◌, ◌<◌, ◌≤◌, length};
 ghost use Rattle.std.specs.Prelude.{pos, slice_get, Some, IfErr, IfOk, OnOk};
 ghost use Rattle.std.specs.List.{AllByRecursion};
 ghost use Rattle.ipc_model.specs.Entries.{entries};
@@ -9,114 +9,32 @@ ghost use Rattle.ipc_column.specs.Dictionaries.{Dictionaries};
 ghost use Rattle.ipc_column.specs.Rows.{Rows};
 ghost use Rattle.ipc_column.specs.Shapes as shapes;
 ghost use Rattle.ipc_column.specs.Shapes.{bare, field, field_children, field_layout, shape_of};
-ghost use Rattle.ipc_encode.specs.Buffers.{row_columns, padded_bytes, ranges_from};
+ghost use Rattle.ipc_encode.specs.Buffers.{row_columns};
 ghost use Rattle.ipc_encode.specs.Cells.{cells};
 ghost use Rattle.ipc_encode.specs.Indices.{FindsRows};
 ghost use Rattle.ipc_encode.specs.Limits.{AreRowsRefused, IsWithin};
 ghost use Rattle.ipc_encode.specs.Numbers.{new_indices, index_or_zero};
-ghost use Rattle.ipc_encode.specs.Segments.{AddsBuffers, AddsColumns, AreRefusedAfter};
-ghost use Rattle.ipc_encode.specs.Segments.{AreSegmented, IsBodyRefused, bytes_of_segments};
+ghost use Rattle.ipc_encode.specs.Segments.{AddsColumns, AreRefusedAfter};
+ghost use Rattle.ipc_encode.specs.Segments.{AreSegmented, bytes_of_segments};
 
-use crate::column_segments::pooled_list;
+use crate::built_columns::add_node;
 use crate::copying::take_column;
 use crate::fault::PushFault;
 use crate::index::{IndexOf, Renumber};
-use crate::parts::{Draft, add_node};
-use crate::segments::{Segment, SegmentedDraft, SegmentedParts, append};
+use crate::pool::BufferPool;
+use crate::segments::{Draft, SegmentedParts};
 use crate::tree::new_node;
 use crate::whole_columns::{add_whole, has_field_layout};
 use ipc_column::Batch;
-use ipc_model::{Field, Items, Limits, WriteFault};
-use std::alloc::{AllocError, Global};
+use ipc_model::{Field, Limits, WriteFault};
+use std::alloc::Global;
 
-// Range `i` of a list of ranges.
-fn range_at(ranges: &[(i64, i64)], i: usize) -> (i64, i64)
-    requires { i < length ranges.now }
-    ensures { slice_get ranges.now i ≡ Some result }
-{
-    ranges[i]
-}
-
-// A range that begins `base` bytes later. `TooLong` if its offset does not fit 64 bits.
-#[tactic(auto, using(std::proofs::lemmas::Int::to_z_pos))]
-fn shift_range(range: (i64, i64), base: usize) -> Result<(i64, i64), PushFault>
-    requires { base < 2 ^ 63 }
-    ensures shifted { IfOk result (λ moved. moved ≡ (range.0 +ℤ pos base, range.1)) }
-    ensures refused { IfErr result (λ fault. (offset : ℕ) → range.0 ≡ pos offset
-        → ¬ (offset + base < 2 ^ 63)) }
-{
-    match range.0.checked_add(base as i64) {
-        Some(offset) => Ok((offset, range.1)),
-        None => Err(PushFault::TooLong),
-    }
-}
-
-// Appends a range to a list of ranges.
-fn push_range(ranges: &mut Vec<(i64, i64)>, range: (i64, i64)) -> Result<(), AllocError>
-    ensures { OnOk result (ranges.new.items ≡ ranges.old.items ++ range ∷ []) }
-{
-    ranges.push(range)?;
-    Ok(())
-}
-
-// Appends the ranges of buffers, each of which begins `base` bytes later.
-fn push_shifted(
-    ranges: &mut Vec<(i64, i64)>,
-    more: &[(i64, i64)],
-    base: usize,
-) -> Result<(), PushFault>
-    requires { base < 2 ^ 63 }
-    ensures shifted { (bs : List (List ℕ)) → more.now ≡ ranges_from 0 bs
-        → OnOk result (ranges.new.items ≡ ranges.old.items ++ ranges_from base bs) }
-    ensures memory { (bs : List (List ℕ)) → more.now ≡ ranges_from 0 bs
-        → base + length (padded_bytes bs) < 2 ^ 63
-        → IfErr result (λ fault. fault ≡ PushFault.OutOfMemory) }
-{
-    for i in 0..more.len() {
-        let range = range_at(more, i);
-        let moved = shift_range(range, base)?;
-        push_range(ranges, moved)?;
-    }
-    Ok(())
-}
-
-// Appends nodes.
-fn push_nodes(nodes: &mut Vec<(i64, i64)>, more: &[(i64, i64)]) -> Result<(), AllocError>
-    ensures { OnOk result (nodes.new.items ≡ nodes.old.items ++ more.now) }
-{
-    nodes.extend_from_slice(more)?;
-    Ok(())
-}
-
-// Adds the nodes and the buffers of columns that were encoded on their own.
-fn add_draft(draft: &mut SegmentedDraft<'_>, more: Draft, limits: &Limits) -> Result<(), PushFault>
-    ensures nodes { OnOk result
-        (draft.new.nodes.items ≡ draft.old.nodes.items ++ more.nodes.items) }
-    ensures adds { (bs : List (List ℕ)) → more.buffers.items ≡ ranges_from 0 bs
-        → more.body.items ≡ padded_bytes bs → OnOk result (AddsBuffers draft.old draft.new bs) }
-    ensures within { OnOk result (draft.new.len ≤ limits.now.body) }
-    ensures refused { (bs : List (List ℕ)) → more.buffers.items ≡ ranges_from 0 bs
-        → more.body.items ≡ padded_bytes bs
-        → IfErr result (IsBodyRefused limits.now (draft.old.len + length (padded_bytes bs))) }
-{
-    let Draft {
-        nodes,
-        buffers,
-        body,
-    } = more;
-    let base = draft.len;
-    append(draft, Segment::Owned(body), limits)?;
-    push_shifted(&mut draft.buffers, &buffers, base)?;
-    push_nodes(&mut draft.nodes, &nodes)?;
-    Ok(())
-}
-
-// Adds a column of any kind, with its descendants: its values are encoded in a node of their own,
-// and are null if the batch has no such column. The errors are those of `add_field`.
+// Adds a column of any kind, with its descendants: it is built anew from its values, which are null
+// if the batch has no such column. The errors are those of `add_field`.
 fn add_anew<I: IndexOf, N: Renumber>(
     alloc: Global,
-    pool: &mut Vec<Vec<u8>>,
-    draft: &mut SegmentedDraft<'_>,
+    pool: &mut BufferPool,
+    draft: &mut Draft<'_>,
     field: &Field,
     batch: &Batch,
     column: usize,
@@ -124,6 +42,7 @@ fn add_anew<I: IndexOf, N: Renumber>(
     indices: &I,
     numbers: &N,
 ) -> Result<(), PushFault>
+    requires { draft.old.len ≤ limits.now.body }
     ensures adds { OnOk result (AddsColumns limits.now
         (new_indices (N.Renumber.number numbers.now) (index_or_zero (I.IndexOf.index indices.now)))
         (shapes.field (field_layout field.now) (field_children field.now) bare)
@@ -132,16 +51,9 @@ fn add_anew<I: IndexOf, N: Renumber>(
         (shapes.field (field_layout field.now) (field_children field.now) bare)
         (λ j. cells column batch.now.rows)) }
 {
-    let mut node = new_node(field, None, alloc)?;
+    let mut node = new_node(field, pool, alloc)?;
     take_column(&mut node, batch, column, limits, indices)?;
-    let mut more = Draft {
-        nodes: Vec::new(alloc),
-        buffers: Vec::new(alloc),
-        body: pooled_list(alloc, pool),
-    };
-    add_node(&node, &mut more, numbers)?;
-    add_draft(draft, more, limits)?;
-    Ok(())
+    add_node(draft, &mut node, numbers, limits)
 }
 
 // Adds column `column` of a batch as that of a field. A column that has the layout of the field is
@@ -151,8 +63,8 @@ fn add_anew<I: IndexOf, N: Renumber>(
 // The errors are those of `add_own`, from the column or one below it.
 fn add_field<'a, I: IndexOf, N: Renumber>(
     alloc: Global,
-    pool: &mut Vec<Vec<u8>>,
-    draft: &mut SegmentedDraft<'a>,
+    pool: &mut BufferPool,
+    draft: &mut Draft<'a>,
     field: &Field,
     batch: &'a Batch,
     column: usize,
@@ -191,8 +103,8 @@ fn field_at(fields: &[Field], i: usize) -> &Field
 // Adds a column of a batch for each of the fields. The errors are those of `add_field`.
 fn add_fields<'a, I: IndexOf, N: Renumber>(
     alloc: Global,
-    pool: &mut Vec<Vec<u8>>,
-    draft: &mut SegmentedDraft<'a>,
+    pool: &mut BufferPool,
+    draft: &mut Draft<'a>,
     fields: &[Field],
     batch: &'a Batch,
     limits: &Limits,
@@ -229,8 +141,7 @@ fn add_fields<'a, I: IndexOf, N: Renumber>(
 /// indices and numbers. Numbers are borrowed if null slots are zeros, fixed-size binary values if
 /// none is null, and other binary values and texts with their offsets if these begin at 0 and null
 /// slots are empty. So are offsets of lists, and validity bitmaps of a multiple of 8 slots. Other
-/// buffers are copied, into the memory of the buffers in `pool` if there are any. These columns are
-/// encoded anew:
+/// buffers are copied, into memory from `pool` if it has any. These columns are encoded anew:
 ///
 /// - columns of a field with a dictionary;
 /// - lists and structs whose children have a dictionary, or slots that their parent does not refer
@@ -246,7 +157,7 @@ fn add_fields<'a, I: IndexOf, N: Renumber>(
 /// - W11 `OutOfMemory`: memory for a buffer ran out.
 pub fn encode_columns<'a, I: IndexOf, N: Renumber>(
     alloc: Global,
-    pool: &mut Vec<Vec<u8>>,
+    pool: &mut BufferPool,
     limits: &Limits,
     fields: &[Field],
     batch: &'a Batch,
@@ -277,19 +188,9 @@ pub fn encode_columns<'a, I: IndexOf, N: Renumber>(
     if batch.rows() > limits.slots as usize {
         return Err(WriteFault::TooManyRows);
     }
-    let mut draft = SegmentedDraft {
-        nodes: Vec::new(alloc),
-        buffers: Vec::new(alloc),
-        segments: Vec::new(alloc),
-        len: 0,
-    };
+    let mut draft = Draft::new(alloc);
     add_fields(
         alloc, pool, &mut draft, fields, batch, limits, indices, numbers,
     )?;
-    Ok(SegmentedParts {
-        nodes: Items::from_vec(draft.nodes),
-        buffers: Items::from_vec(draft.buffers),
-        segments: draft.segments,
-        len: draft.len,
-    })
+    Ok(draft.finish())
 }

@@ -4,6 +4,7 @@
 
 mod bitmaps;
 mod builder;
+mod built_columns;
 mod column;
 mod column_builder;
 mod column_segments;
@@ -17,6 +18,7 @@ mod fault;
 mod fitting;
 mod index;
 mod parts;
+mod pool;
 mod segments;
 mod slot_pushing;
 mod tree;
@@ -28,5 +30,6 @@ pub use conforming::check_rows;
 pub use encoding::encode_columns;
 pub use fault::PushFault;
 pub use index::{IndexOf, NoIndices, Renumber, SameNumbers};
-pub use parts::{BufferPool, Parts};
+pub use parts::Parts;
+pub use pool::BufferPool;
 pub use segments::{Segment, SegmentedParts};

@@ -2,12 +2,13 @@
 ghost use Rattle.std.specs.Prelude.{◌≡◌, ◌+◌, ◌-◌, ◌%◌, ◌≤◌, ◌<◌, ◌^◌, ◌↔◌, ◌++◌, [], ◌∷◌, pos};
 ghost use Rattle.std.specs.Prelude.{length, replicate, IfErr, IsTrue, OnOk};
 ghost use Rattle.ipc_encode.specs.Buffers.{padded_bytes};
-ghost use Rattle.ipc_encode.specs.Segments.{AddsBuffers, IsBodyRefused, bytes_of_segments};
+ghost use Rattle.ipc_encode.specs.Segments.{AddsBuffers, ArePartsOf, IsBodyRefused, IsEmpty};
+ghost use Rattle.ipc_encode.specs.Segments.{bytes_of_segments};
 ghost use Rattle.ipc_encode.specs.Segments.{segment_bytes};
 
 use crate::fault::PushFault;
 use ipc_model::{Items, Limits};
-use std::alloc::AllocError;
+use std::alloc::{AllocError, Global};
 
 /// Consecutive bytes of a body.
 #[derive(Debug, Drop)]
@@ -37,7 +38,7 @@ pub struct SegmentedParts<'a> {
 
 /// A record batch that is being written, with the body as segments.
 #[derive(Debug, Drop)]
-pub(crate) struct SegmentedDraft<'a> {
+pub(crate) struct Draft<'a> {
     /// The nodes of the columns so far.
     pub(crate) nodes: Vec<(i64, i64)>,
     /// The ranges of their buffers.
@@ -48,15 +49,57 @@ pub(crate) struct SegmentedDraft<'a> {
     pub(crate) len: usize,
 }
 
+// As many zeros as a segment of zeros can have.
+const ZEROS: [u8; 255] = [0; 255];
+
+// Returns this number of zeros.
+fn zeros(count: u8) -> &'static [u8]
+    ensures { result.now ≡ replicate count 0 }
+{
+    &ZEROS[..count as usize]
+}
+
+impl<'a> Draft<'a> {
+    /// Returns a draft without columns. It takes no memory.
+    pub(crate) fn new(alloc: Global) -> Draft<'a>
+        ensures { IsEmpty result }
+    {
+        Draft {
+            nodes: Vec::new(alloc),
+            buffers: Vec::new(alloc),
+            segments: Vec::new(alloc),
+            len: 0,
+        }
+    }
+
+    /// Returns the parts of the columns that were added.
+    pub(crate) fn finish(self) -> SegmentedParts<'a>
+        ensures { ArePartsOf self.entry result }
+    {
+        let Draft {
+            nodes,
+            buffers,
+            segments,
+            len,
+        } = self;
+        SegmentedParts {
+            nodes: Items::from_vec(nodes),
+            buffers: Items::from_vec(buffers),
+            segments,
+            len,
+        }
+    }
+}
+
 impl<'a> Segment<'a> {
-    /// Returns the number of bytes.
-    pub fn len(&self) -> usize
-        ensures { result ≡ length (segment_bytes self.now) }
+    /// Returns the bytes.
+    pub fn as_bytes(&self) -> &[u8]
+        ensures { result.now ≡ segment_bytes self.now }
     {
         match self {
-            Segment::Borrowed(bytes) => bytes.len(),
-            Segment::Owned(bytes) => bytes.len(),
-            Segment::Zeros(count) => *count as usize,
+            Segment::Borrowed(bytes) => bytes,
+            Segment::Owned(bytes) => bytes.as_slice(),
+            Segment::Zeros(count) => zeros(*count),
         }
     }
 }
@@ -71,18 +114,29 @@ fn push_segment<'a>(segments: &mut Vec<Segment<'a>>, segment: Segment<'a>) -> Re
     Ok(())
 }
 
-/// Appends two numbers to a list of pairs: the counts of a node, or the range of a buffer. Returns
-/// an error if memory for the list ran out.
-pub(crate) fn push_pair(
-    pairs: &mut Vec<(i64, i64)>,
-    first: usize,
-    second: usize,
-) -> Result<(), AllocError>
+// Appends two numbers to a list of pairs: the counts of a node, or the range of a buffer.
+fn push_pair(pairs: &mut Vec<(i64, i64)>, first: usize, second: usize) -> Result<(), AllocError>
     requires { (first < 2 ^ 63) × (second < 2 ^ 63) }
     ensures { OnOk result (pairs.new.items ≡ pairs.old.items ++ (pos first, pos second) ∷ []) }
 {
     pairs.push((first as i64, second as i64))?;
     Ok(())
+}
+
+/// Adds the node of a column with `count` slots and `null_count` nulls. Returns an error if memory for
+/// it ran out.
+pub(crate) fn add_counts(
+    draft: &mut Draft<'_>,
+    count: usize,
+    null_count: usize,
+) -> Result<(), AllocError>
+    requires few { count < 2 ^ 63 }
+    requires counted { null_count ≤ count }
+    ensures nodes { OnOk result (draft.new.nodes.items
+        ≡ draft.old.nodes.items ++ (pos count, pos null_count) ∷ []) }
+    ensures adds { OnOk result (AddsBuffers draft.old draft.new []) }
+{
+    push_pair(&mut draft.nodes, count, null_count)
 }
 
 // Whether a body of `len` bytes may have `more` bytes.
@@ -93,12 +147,8 @@ fn has_room(len: usize, more: usize, limits: &Limits) -> bool
     len <= most && more <= most - len
 }
 
-/// Appends a segment to the body. The errors are those of `add_buffer`.
-pub(crate) fn append<'a>(
-    draft: &mut SegmentedDraft<'a>,
-    segment: Segment<'a>,
-    limits: &Limits,
-) -> Result<(), PushFault>
+// Appends a segment to the body. The errors are those of `add_buffer`.
+fn append<'a>(draft: &mut Draft<'a>, segment: Segment<'a>, limits: &Limits) -> Result<(), PushFault>
     ensures nodes { OnOk result (draft.new.nodes.items ≡ draft.old.nodes.items) }
     ensures buffers { OnOk result (draft.new.buffers.items ≡ draft.old.buffers.items) }
     ensures body { OnOk result (bytes_of_segments draft.new.segments.items
@@ -110,7 +160,7 @@ pub(crate) fn append<'a>(
     ensures refused { IfErr result (IsBodyRefused limits.now
         (draft.old.len + length (segment_bytes segment.entry))) }
 {
-    let count = segment.len();
+    let count = segment.as_bytes().len();
     if !has_room(draft.len, count, limits) {
         return Err(PushFault::TooLong);
     }
@@ -121,11 +171,7 @@ pub(crate) fn append<'a>(
 
 // Ends the buffer that began at offset `start`: adds its range, and pads it with zeros to a
 // multiple of 8 bytes.
-fn end_buffer(
-    draft: &mut SegmentedDraft<'_>,
-    start: usize,
-    limits: &Limits,
-) -> Result<(), PushFault>
+fn end_buffer(draft: &mut Draft<'_>, start: usize, limits: &Limits) -> Result<(), PushFault>
     requires order { start ≤ draft.old.len }
     requires within { draft.old.len ≤ limits.now.body }
     ensures nodes { OnOk result (draft.new.nodes.items ≡ draft.old.nodes.items) }
@@ -149,7 +195,7 @@ fn end_buffer(
 /// Errors: `TooLong` if the body would have more than `limits.body` bytes; `OutOfMemory` if memory
 /// for a buffer ran out.
 pub(crate) fn add_buffer<'a>(
-    draft: &mut SegmentedDraft<'a>,
+    draft: &mut Draft<'a>,
     segment: Segment<'a>,
     limits: &Limits,
 ) -> Result<(), PushFault>
@@ -167,7 +213,7 @@ pub(crate) fn add_buffer<'a>(
 
 /// Adds a buffer of two segments, as `add_buffer` adds one of one segment.
 pub(crate) fn add_joined<'a>(
-    draft: &mut SegmentedDraft<'a>,
+    draft: &mut Draft<'a>,
     first: Segment<'a>,
     second: Segment<'a>,
     limits: &Limits,

@@ -13,7 +13,7 @@ ghost use Rattle.ipc_column.specs.Nested.{slot_values};
 ghost use Rattle.ipc_column.specs.Slots.{value_in_slot};
 ghost use Rattle.ipc_column.specs.Values.{is_valid};
 ghost use Rattle.ipc_encode.specs.Bitmaps.{bitmap};
-ghost use Rattle.ipc_encode.specs.Cells.{content, is_set, items, slot_bytes, slots, ends, flags};
+ghost use Rattle.ipc_encode.specs.Cells.{content, is_set, slot_bytes, slots, ends, flags};
 ghost use Rattle.ipc_encode.specs.Marks.{HasBits};
 ghost use Rattle.ipc_encode.specs.Pieces.{Fixed, True, Number, Bytes, Content};
 

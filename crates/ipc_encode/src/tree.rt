@@ -22,6 +22,7 @@ use crate::column::ColumnBuilder;
 use crate::counting::items;
 use crate::fault::PushFault;
 use crate::index::IndexOf;
+use crate::pool::BufferPool;
 use ipc_model::{Field, Layout, Limits, Value, layout_of};
 use std::alloc::{AllocError, Global};
 
@@ -42,39 +43,38 @@ impl Node {
     }
 }
 
-/// Returns a column of this field without values, with those of its children, in the memory of a
-/// node that held others. Returns an error if memory for a buffer ran out.
+/// Returns a column of this field without values, with those of its children, in memory from the
+/// pool. Returns an error if memory for a buffer ran out.
 #[cycle(new)]
-pub(crate) fn new_node(field: &Field, kept: Option<Node>, alloc: Global) -> Result<Node, AllocError>
+pub(crate) fn new_node(
+    field: &Field,
+    pool: &mut BufferPool,
+    alloc: Global,
+) -> Result<Node, AllocError>
     ensures { (known : Numbering) (limits : Limits)
         → IfOk result (λ node. IsNode (IsColumn known limits)
         (field_shape field.now).0 (field_shape field.now).1 node []) }
 {
-    let layout = layout_of(&field.kind, field.dictionary);
-    let (column, children) = match kept {
-        Some(Node { column, children }) => (column.into_empty(layout, alloc)?, children),
-        None => (ColumnBuilder::new(alloc, layout)?, Vec::new(alloc)),
-    };
-    let children = new_nodes(field.children.as_slice(), children, alloc)?;
+    let column = ColumnBuilder::new(alloc, pool, layout_of(&field.kind, field.dictionary))?;
+    let children = new_nodes(field.children.as_slice(), pool, alloc)?;
     Ok(Node { column, children })
 }
 
-/// Returns columns of these fields without values, in the memory of nodes that held others. Returns
-/// an error if memory for a buffer ran out.
+/// Returns columns of these fields without values, in memory from the pool. Returns an error if
+/// memory for a buffer ran out.
 #[cycle(new)]
 pub(crate) fn new_nodes(
     fields: &[Field],
-    kept: Vec<Node>,
+    pool: &mut BufferPool,
     alloc: Global,
 ) -> Result<Vec<Node>, AllocError>
     ensures { (known : Numbering) (limits : Limits)
         → IfOk result
         (λ nodes. HoldColumns known limits (shape_of fields.now) nodes.items (λ j. [])) }
 {
-    let mut kept = kept.into_iter();
     let mut nodes = Vec::with_capacity(alloc, fields.len())?;
     for field in fields {
-        nodes.push(new_node(field, kept.next(), alloc)?)?;
+        nodes.push(new_node(field, pool, alloc)?)?;
     }
     Ok(nodes)
 }

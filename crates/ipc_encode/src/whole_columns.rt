@@ -1,7 +1,7 @@
 //! Adds columns that were read with all their slots, where they have the layouts of a field and
 //! of its descendants.
 ghost use Rattle.std.specs.Prelude.{◌≡◌, ◌<◌, ℕ, Some, true, false, length, slice_get};
-ghost use Rattle.std.specs.Prelude.{slice_index_or, IsTrue, ◌≤◌, ◌+◌, ◌++◌, ◌^◌, ◌⊎◌, [], ◌∷◌, pos};
+ghost use Rattle.std.specs.Prelude.{slice_index_or, IsTrue, ◌≤◌, ◌+◌, ◌++◌, ◌⊎◌, [], ◌∷◌};
 ghost use Rattle.std.specs.Prelude.{replicate, IfErr, OnOk};
 ghost use Rattle.ipc_model.specs.Limits.{max_data};
 ghost use Rattle.ipc_model.specs.declared.layout.Layout.{Layout};
@@ -32,10 +32,11 @@ use crate::column_segments::{
     marked_validity, nulls_are_empty, number_values, offset_at, variable_binary_segments,
 };
 use crate::fault::PushFault;
-use crate::segments::{Segment, SegmentedDraft, add_buffer, add_joined, push_pair};
+use crate::pool::BufferPool;
+use crate::segments::{Draft, Segment, add_buffer, add_counts, add_joined};
 use ipc_column::{Numbers, SlotView};
 use ipc_model::{Field, Layout, Limits, layout_of};
-use std::alloc::{AllocError, Global};
+use std::alloc::Global;
 
 /// Returns true only if lists use all slots of their child, one list after another.
 pub(crate) fn lists_use_all_items(view: &SlotView<'_>) -> bool
@@ -169,25 +170,10 @@ fn have_field_layouts(fields: &[Field], view: &SlotView<'_>) -> bool
     true
 }
 
-// Adds the node of a column with `count` slots and `null_count` nulls.
-fn add_counts(
-    draft: &mut SegmentedDraft<'_>,
-    count: usize,
-    null_count: usize,
-) -> Result<(), AllocError>
-    requires few { count < 2 ^ 63 }
-    requires counted { null_count ≤ count }
-    ensures nodes { OnOk result (draft.new.nodes.items
-        ≡ draft.old.nodes.items ++ (pos count, pos null_count) ∷ []) }
-    ensures adds { OnOk result (AddsBuffers draft.old draft.new []) }
-{
-    push_pair(&mut draft.nodes, count, null_count)
-}
-
 // Adds the offsets and the data of binary values or texts. Returns `TooLong` if 32-bit offsets do
 // not reach the end of the data. The other errors are those of `add_buffer`.
 fn add_variable<'a>(
-    draft: &mut SegmentedDraft<'a>,
+    draft: &mut Draft<'a>,
     run: VariableBinarySegments<'a>,
     limits: &Limits,
 ) -> Result<(), PushFault>
@@ -202,7 +188,7 @@ fn add_variable<'a>(
         ((replicate 4 0 ++ segment_bytes run.entry.ends) ∷ segment_bytes run.entry.values ∷ [])))
         fault) }
 {
-    if run.values.len() > MAX_DATA {
+    if run.values.as_bytes().len() > MAX_DATA {
         return Err(PushFault::TooLong);
     }
     add_joined(draft, Segment::Zeros(4), run.ends, limits)?;
@@ -212,8 +198,8 @@ fn add_variable<'a>(
 // Adds the buffers of a column that follow its validity bitmap. The errors are those of `add_own`.
 fn add_data<'a>(
     alloc: Global,
-    pool: &mut Vec<Vec<u8>>,
-    draft: &mut SegmentedDraft<'a>,
+    pool: &mut BufferPool,
+    draft: &mut Draft<'a>,
     layout: Layout,
     view: &SlotView<'a>,
     null_count: usize,
@@ -264,8 +250,8 @@ fn add_data<'a>(
 /// more than `limits.body`; `OutOfMemory` if memory for a buffer ran out.
 pub(crate) fn add_own<'a>(
     alloc: Global,
-    pool: &mut Vec<Vec<u8>>,
-    draft: &mut SegmentedDraft<'a>,
+    pool: &mut BufferPool,
+    draft: &mut Draft<'a>,
     layout: Layout,
     view: &SlotView<'a>,
     limits: &Limits,
@@ -299,8 +285,8 @@ pub(crate) fn add_own<'a>(
 #[cycle(add_whole)]
 pub(crate) fn add_whole<'a>(
     alloc: Global,
-    pool: &mut Vec<Vec<u8>>,
-    draft: &mut SegmentedDraft<'a>,
+    pool: &mut BufferPool,
+    draft: &mut Draft<'a>,
     field: &Field,
     view: &SlotView<'a>,
     limits: &Limits,
@@ -323,8 +309,8 @@ pub(crate) fn add_whole<'a>(
 #[cycle(add_whole)]
 fn add_children<'a>(
     alloc: Global,
-    pool: &mut Vec<Vec<u8>>,
-    draft: &mut SegmentedDraft<'a>,
+    pool: &mut BufferPool,
+    draft: &mut Draft<'a>,
     fields: &[Field],
     view: &SlotView<'a>,
     limits: &Limits,

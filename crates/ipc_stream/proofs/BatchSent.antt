@@ -1,10 +1,9 @@
 -- The messages of a batch: those of the dictionaries that it needs, and its own.
 use Rattle.std.proofs.Common.{◌≡◌, ◌∙◌, refl, sym, ap, subst, ℕ, zero, suc, ◌<◌, ◌≤◌, Bool, true}
 use Rattle.std.proofs.Common.{false, cond, ℤ, List, [], ◌∷◌, ◌++◌, length, get_or}
-use Rattle.std.proofs.Common.{append_assoc, Option, Some, None, int_eq, arith}
+use Rattle.std.proofs.Common.{Option, Some, None, int_eq, arith}
 use Rattle.std.specs.List.{AllByRecursion, Contains}
 use Rattle.std.proofs.lemmas.Bool.Decides.{Decides-int_eq}
-use Rattle.std.proofs.lemmas.List.{append-nil}
 use Rattle.ipc_model.specs.Fits.{RowFits}
 use Rattle.ipc_model.specs.WellFormed.{WellFormed}
 use Rattle.ipc_model.specs.declared.limits.Limits.{Limits}
@@ -15,10 +14,9 @@ use Rattle.ipc_model.specs.declared.value.Value.{Value}
 use Rattle.ipc_column.specs.Dictionaries.{Dictionaries}
 use Rattle.ipc_column.specs.Rows.{HasCounts}
 use Rattle.ipc_column.specs.Shapes.{shape_of}
-use Rattle.ipc_encode.specs.declared.parts.Parts.{Parts}
 use Rattle.ipc_encode.specs.declared.segments.SegmentedParts.{SegmentedParts}
 use Rattle.ipc_encode.specs.Segments.{AreSegmented}
-use Rattle.ipc_encode.specs.Buffers.{AreLaidOut, row_columns, row_buffers_with}
+use Rattle.ipc_encode.specs.Buffers.{row_columns, row_buffers_with}
 use Rattle.ipc_encode.specs.ColumnSizes.{as_rows}
 use Rattle.ipc_encode.specs.Indices.{FindsRows}
 use Rattle.ipc_encode.specs.Numbers.{Numbering}
@@ -42,9 +40,9 @@ use Rattle.ipc_stream_read.specs.Stream.{InForce, IsMessage, Run, batch, values_
 use Rattle.ipc_stream_read.proofs.Runs.{run_one, run_then}
 use Rattle.ipc_stream.specs.declared.message.Message.{Message}
 use Rattle.ipc_stream.specs.Dictionaries.{DictionaryMessages, IsInForce, SendsBatch, DenotesBatches, sets_none, sets_more}
-use Rattle.ipc_stream.specs.Messages.{SetDictionaries, SetsDictionary, all_bytes, message_bytes}
+use Rattle.ipc_stream.specs.Messages.{SetDictionaries, SetsDictionary, all_bytes}
 use Rattle.ipc_stream.specs.OpenStreams.{CanBeSent}
-use Rattle.ipc_stream.specs.Parts.{DenotesRows, batch_head}
+use Rattle.ipc_stream.specs.Parts.{DenotesRows}
 use Rattle.ipc_stream.proofs.InForce.{sent_run}
 
 -- ---- lists
@@ -54,12 +52,6 @@ pub all_item : {X : Type 0} (P : X → Type 0) (xs : List X) (i : ℕ) (x : X) �
 all_item P [] i x inside is all = absurd (omega (arith, inside))
 all_item P (y ∷ xs) zero x inside is all = subst P (sym is) all.0
 all_item P (y ∷ xs) (suc i) x inside is all = all_item P xs i x (omega (arith, inside)) is all.1
-
--- the bytes of messages and of one more
-pub bytes_end : (ms : List Message) (m : Message) → all_bytes (ms ++ m ∷ []) ≡ all_bytes ms ++ message_bytes m
-bytes_end [] m = append-nil (message_bytes m)
-bytes_end (x ∷ ms) m = ap (λ (z : List ℕ). message_bytes x ++ z) (bytes_end ms m)
-    ∙ sym (append_assoc (message_bytes x) (all_bytes ms) (message_bytes m))
 
 -- one dictionary's message more
 pub set_push : (limits : Limits) (s : Schema) (sends : List (ℤ × List (List Value))) (ms : List Message)
@@ -247,15 +239,6 @@ module _ (limits : Limits) (s : Schema) (b : BatchRows) (kept : List KeptEntry) 
       }
 
 -- ---- parts
-
--- parts that are laid out have a node and the buffers of each field
-pub laid_counts : (indices : Numbering) (fields : List Field) (rows : List (List Value)) (count : ℕ) (parts : Parts)
-    → AreLaidOut indices fields rows parts → HasCounts fields (batch_head count parts)
-laid_counts indices fields rows count parts laid = record {
-  nodes = ap length laid.nodes ∙ nodes_length (shape_of fields) (row_columns rows);
-  buffers = ap length laid.buffers ∙ ranges_length (row_buffers_with indices fields rows) 0
-      ∙ buffers_length indices (shape_of fields) (row_columns rows);
-}
 
 -- so have parts whose body is a list of segments
 pub segmented_counts : (indices : Numbering) (fields : List Field) (rows : List (List Value)) (z : ℤ) (parts : SegmentedParts)

@@ -6,13 +6,14 @@ use Rattle.ipc_encode.specs.Segments.{bytes_of_segments, segment_bytes}
 use Rattle.ipc_stream.specs.declared.message.Message.{Message}
 use Rattle.ipc_stream.specs.declared.gathering.Gathered.{Gathered}
 use Rattle.ipc_stream.specs.Messages.{all_bytes, gathered_bytes}
-use Rattle.ipc_stream.proofs.SentBytes.{first_and_next, joined_append, joined_next}
+use Rattle.ipc_encode.proofs.SegmentColumns.{joined_both, joined_next}
+use Rattle.ipc_stream.proofs.SentBytes.{first_and_next}
 
 -- one segment more, behind which nothing is joined
 pub joined_ended : (segments now : List Segment) (s : Segment) (bytes joined : List ℕ) → now ≡ segments ++ s ∷ [] → segment_bytes s ≡ bytes
     → joined ≡ [] → bytes_of_segments now ++ joined ≡ bytes_of_segments segments ++ bytes
 joined_ended segments now s bytes joined is same none =
-    (λ i. bytes_of_segments (is i) ++ none i) ∙ append-nil (bytes_of_segments (segments ++ s ∷ [])) ∙ joined_append segments (s ∷ [])
+    (λ i. bytes_of_segments (is i) ++ none i) ∙ append-nil (bytes_of_segments (segments ++ s ∷ [])) ∙ joined_both segments (s ∷ [])
     ∙ ap (λ (z : List ℕ). bytes_of_segments segments ++ z) (append-nil (segment_bytes s) ∙ same)
 
 -- the bytes of segments behind which nothing is joined

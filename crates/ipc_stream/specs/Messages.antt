@@ -4,6 +4,7 @@ use Rattle.ipc_model.specs.declared.limits.Limits.{Limits}
 use Rattle.ipc_model.specs.declared.schema.Schema.{Schema}
 use Rattle.ipc_model.specs.declared.value.Value.{Value}
 use Rattle.ipc_encode.specs.Segments.{bytes_of_segments}
+use Rattle.ipc_stream.specs.declared.batch_messages.BatchMessages.{BatchMessages}
 use Rattle.ipc_stream.specs.declared.gathering.Gathered.{Gathered}
 use Rattle.ipc_stream.specs.declared.message.Message.{Message}
 use Rattle.ipc_stream.specs.Dictionaries.{IsDictionaryMessage}
@@ -16,6 +17,11 @@ message_bytes message = message.front.items ++ message.body.items
 abbrev pub all_bytes : List Message → List ℕ
 all_bytes [] = []
 all_bytes (message ∷ more) = message_bytes message ++ all_bytes more
+
+-- the bytes of the messages of a batch: those of its dictionaries, and its own
+abbrev pub batch_bytes : BatchMessages → List ℕ
+batch_bytes messages = all_bytes messages.dictionaries.items
+    ++ (messages.front.items ++ bytes_of_segments messages.segments.items)
 
 -- the bytes of the segments that are complete, and those that are joined after them
 abbrev pub gathered_bytes : Gathered → List ℕ

@@ -7,43 +7,40 @@ ghost use Rattle.ipc_dict_read.specs.ValuesColumns.{dictionary_columns};
 ghost use Rattle.ipc_dict.specs.SchemaIds.{ids_of, tally_ids};
 ghost use Rattle.ipc_dict.specs.Sending.{AreAddressed, sent_after};
 ghost use Rattle.ipc_stream.specs.Dictionaries.{SendsBatch};
-ghost use Rattle.ipc_stream.specs.Messages.{AddsDictionary, SetDictionaries, all_bytes};
+ghost use Rattle.ipc_stream.specs.Messages.{AddsDictionary, SetDictionaries, batch_bytes};
 ghost use Rattle.ipc_stream.specs.OpenStreams.{CanBeSent, IsGoingOn, Leads};
 ghost use Rattle.ipc_stream.specs.PendingBatches.{HoldsBatch};
 
 use crate::message::Message;
-use crate::messages::{dictionary_message, parts_message};
+use crate::messages::{batch_front, dictionary_message};
 use crate::pending_batch::PendingBatch;
 use ipc_dict::{Dictionaries, Kept, Plan};
-use ipc_encode::BufferPool;
+use ipc_encode::{Segment, SegmentedParts};
 use ipc_model::{Items, Limits, Row, WriteFault};
 use std::alloc::Global;
 
 /// The messages of one batch, none of which is sent yet: those of the dictionaries that it needs,
-/// then its own (Arrow Columnar Format, "IPC Streaming Format").
+/// then its own, whose body is a sequence of segments (Arrow Columnar Format, "IPC Streaming
+/// Format").
 #[derive(Debug, Drop)]
-pub struct BatchMessages {
-    messages: Vec<Message>,
-    // The buffers of the columns.
-    room: BufferPool,
+pub(crate) struct BatchMessages<'a> {
+    /// The messages of dictionaries.
+    pub(crate) dictionaries: Vec<Message>,
+    /// The bytes of the batch's message before its body.
+    pub(crate) front: Vec<u8>,
+    /// The body of the batch's message.
+    pub(crate) segments: Vec<Segment<'a>>,
 }
 
-impl BatchMessages {
-    /// Returns the messages in the order in which they are sent.
-    pub fn as_slice(&self) -> &[Message]
-        ensures { result.now ≡ self.now.messages.items }
-    {
-        self.messages.as_slice()
-    }
-
-    /// Returns the memory of its buffers, for use by the next batch.
-    pub(crate) fn into_pool(self) -> BufferPool {
-        let BatchMessages { messages, mut room } = self;
-        let mut messages = messages;
-        if let Some(last) = messages.pop() {
-            room.keep_body(last.body);
-        }
-        room
+impl<'a> BatchMessages<'a> {
+    // Returns the segments of the body.
+    pub(crate) fn into_segments(self) -> Vec<Segment<'a>> {
+        let BatchMessages {
+            dictionaries: _,
+            front: _,
+            segments,
+        } = self;
+        segments
     }
 }
 
@@ -93,7 +90,7 @@ pub(crate) fn dictionary_messages(
         → AllByRecursion (CanBeSent limits.now s) sends.now
         → IfErr result (λ fault. fault ≡ WriteFault.OutOfMemory) }
 {
-    let mut messages = Vec::with_capacity(alloc, sends.len() + 1)?;
+    let mut messages = Vec::with_capacity(alloc, sends.len())?;
     for send in sends {
         add_dictionary(alloc, limits, columns, send, &mut messages)?;
     }
@@ -102,23 +99,24 @@ pub(crate) fn dictionary_messages(
 
 // The messages of the pending batch, and what it does with each dictionary. Its rows, its
 // pairs and its dictionaries are within the limits.
-pub fn pending_messages(
+pub(crate) fn pending_messages<'a>(
     alloc: Global,
     limits: &Limits,
     columns: &Dictionaries,
     kept: &Kept,
     pending: PendingBatch,
-) -> Result<(BatchMessages, Plan), WriteFault>
+) -> Result<(BatchMessages<'a>, Plan), WriteFault>
     ensures messages { (s : Schema) (b : BatchRows) → IsGoingOn limits.now s columns.now kept.now
         → HoldsBatch limits.now s b pending
-        → IfOk result (λ r. SendsBatch limits.now s kept.now b (all_bytes r.0.messages.items)) }
+        → IfOk result (λ r. SendsBatch limits.now s kept.now b
+        (batch_bytes r.0)) }
     ensures sent { (s : Schema) (b : BatchRows) → IsGoingOn limits.now s columns.now kept.now
         → HoldsBatch limits.now s b pending
         → IfOk result (λ r. Leads kept.now (sent_after s.fields b.rows kept.now) r.1) }
     ensures only { (s : Schema) (b : BatchRows) → IsGoingOn limits.now s columns.now kept.now
         → HoldsBatch limits.now s b pending
         → IfErr result (λ fault. fault ≡ WriteFault.OutOfMemory) }
-    ensures some { IfOk result (λ r. 0 < length r.0.messages.items) }
+    ensures some { IfOk result (λ r. 0 < length r.0.front.items) }
     ensures ids { IfOk result (λ r. tally_ids r.1.entries ≡ ids_of pending.tally.fields) }
     ensures addressed { IfOk result (λ r. AreAddressed pending.tally.fields r.1.entries) }
 {
@@ -130,8 +128,18 @@ pub fn pending_messages(
     let count = builder.row_count();
     let plan = tally.settle(alloc, kept)?;
     let parts = builder.finish(&plan)?;
-    let mut messages = dictionary_messages(alloc, limits, columns, plan.sends())?;
-    let (message, room) = parts_message(alloc, limits, &pairs, count, parts)?;
-    messages.push(message)?;
-    Ok((BatchMessages { messages, room }, plan))
+    let SegmentedParts {
+        nodes,
+        buffers,
+        segments,
+        len,
+    } = parts;
+    let front = batch_front(alloc, limits, &pairs, count, nodes, buffers, len)?;
+    let dictionaries = dictionary_messages(alloc, limits, columns, plan.sends())?;
+    let messages = BatchMessages {
+        dictionaries,
+        front,
+        segments,
+    };
+    Ok((messages, plan))
 }

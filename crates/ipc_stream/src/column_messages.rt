@@ -1,56 +1,23 @@
 //! Makes the messages of a batch that was read from its columns.
-ghost use Rattle.std.specs.Prelude.{◌≡◌, ◌<◌, ◌++◌, ℕ, List, length, IfErr, IfOk, MatchResult};
+ghost use Rattle.std.specs.Prelude.{◌≡◌, ◌<◌, ℕ, List, length, IfErr, IfOk, MatchResult};
 ghost use Rattle.std.specs.List.{AllByRecursion};
 ghost use Rattle.ipc_model.specs.Fits.{RowFits};
 ghost use Rattle.ipc_dict.specs.Planning.{AllSettled, FindsAll};
 ghost use Rattle.ipc_dict.specs.SchemaIds.{ids_of, tally_ids};
 ghost use Rattle.ipc_dict.specs.Sending.{AreAddressed, sent_after, tally_of_rows};
-ghost use Rattle.ipc_encode.specs.Segments.{bytes_of_segments};
 ghost use Rattle.ipc_stream.specs.Dictionaries.{AreDictionariesWithin, SendsBatch};
-ghost use Rattle.ipc_stream.specs.Messages.{all_bytes};
+ghost use Rattle.ipc_stream.specs.Messages.{batch_bytes};
 ghost use Rattle.ipc_stream.specs.OpenStreams.{IsGoingOn, Leads};
 ghost use Rattle.ipc_stream.specs.PendingBatches.{with_rows};
 ghost use Rattle.ipc_stream.specs.Writing.{AcceptsBatch, RefusesBatch};
 
-use crate::batch_messages::dictionary_messages;
-use crate::message::Message;
+use crate::batch_messages::{BatchMessages, dictionary_messages};
 use crate::messages::batch_front;
 use ipc_column::Batch;
 use ipc_dict::{Dictionaries, Kept, Plan, Seed, has_short_messages};
-use ipc_encode::{SameNumbers, Segment, SegmentedParts, check_rows, encode_columns};
+use ipc_encode::{BufferPool, SameNumbers, SegmentedParts, check_rows, encode_columns};
 use ipc_model::{Items, Limits, Schema, Text, WriteFault};
 use std::alloc::Global;
-
-/// The messages of one batch, none of which is sent yet: those of the dictionaries that it needs,
-/// then its own, whose body is a sequence of segments (Arrow Columnar Format, "IPC Streaming
-/// Format").
-#[derive(Debug, Drop)]
-pub(crate) struct ColumnMessages<'a> {
-    /// The messages of dictionaries.
-    pub(crate) dictionaries: Vec<Message>,
-    /// The bytes of the batch's message before its body.
-    pub(crate) front: Vec<u8>,
-    /// The body of the batch's message.
-    pub(crate) segments: Vec<Segment<'a>>,
-}
-
-impl ColumnMessages<'_> {
-    // Adds the memory of its segments to buffers for use by the next batch. Buffers for which there
-    // is no room are dropped.
-    pub(crate) fn give_back(self, pool: &mut Vec<Vec<u8>>) {
-        let ColumnMessages {
-            dictionaries: _,
-            front: _,
-            segments,
-        } = self;
-        pool.clear();
-        for segment in segments {
-            if let Segment::Owned(bytes) = segment {
-                let _ = pool.push(bytes);
-            }
-        }
-    }
-}
 
 // Checks that the rows of a batch fit the schema, and plans what it does with each dictionary.
 fn plan_columns(
@@ -85,7 +52,7 @@ fn plan_columns(
 }
 
 // The messages of a batch that was read, with these pairs, and what it does with each dictionary.
-// Segments that are encoded anew are in the memory of the buffers in `pool` if there are any.
+// Segments that are encoded anew are in memory from `pool` if it has any.
 pub(crate) fn column_messages<'a>(
     alloc: Global,
     limits: &Limits,
@@ -93,15 +60,14 @@ pub(crate) fn column_messages<'a>(
     columns: &Dictionaries,
     kept: &Kept,
     seed: Seed,
-    pool: &mut Vec<Vec<u8>>,
+    pool: &mut BufferPool,
     batch: &'a Batch,
     pairs: &Items<(Text, Text)>,
-) -> Result<(ColumnMessages<'a>, Plan), WriteFault>
+) -> Result<(BatchMessages<'a>, Plan), WriteFault>
     requires { IsGoingOn limits.now schema.now columns.now kept.now }
     ensures messages { IfOk result (λ r. SendsBatch limits.now schema.now kept.now
         (with_rows pairs.now batch.now.rows)
-        (all_bytes r.0.dictionaries.items ++ (r.0.front.items
-        ++ bytes_of_segments r.0.segments.items))) }
+        (batch_bytes r.0)) }
     ensures sent { IfOk result
         (λ r. Leads kept.now (sent_after schema.now.fields batch.now.rows kept.now) r.1) }
     ensures judged { MatchResult result
@@ -123,7 +89,7 @@ pub(crate) fn column_messages<'a>(
     } = parts;
     let front = batch_front(alloc, limits, pairs, batch.rows(), nodes, buffers, len)?;
     let dictionaries = dictionary_messages(alloc, limits, columns, plan.sends())?;
-    let messages = ColumnMessages {
+    let messages = BatchMessages {
         dictionaries,
         front,
         segments,

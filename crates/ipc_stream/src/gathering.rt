@@ -1,8 +1,9 @@
 //! Gathers the bytes of messages before they are sent, so that a sink takes them in few calls.
-ghost use Rattle.std.specs.Prelude.{◌≡◌, ◌++◌, [], replicate, IfOk, OnOk};
-ghost use Rattle.ipc_encode.specs.Segments.{bytes_of_segments, segment_bytes};
-ghost use Rattle.ipc_stream.specs.Messages.{all_bytes, gathered_bytes, message_bytes};
+ghost use Rattle.std.specs.Prelude.{◌≡◌, ◌++◌, [], IfOk, OnOk};
+ghost use Rattle.ipc_encode.specs.Segments.{bytes_of_segments};
+ghost use Rattle.ipc_stream.specs.Messages.{all_bytes, batch_bytes, gathered_bytes};
 
+use crate::batch_messages::BatchMessages;
 use crate::message::Message;
 use ipc_encode::Segment;
 use std::alloc::{AllocError, Global};
@@ -10,27 +11,6 @@ use std::mem;
 
 // Runs of fewer bytes are joined, up to this number of bytes. Longer ones go out where they lie.
 const SHORT: usize = 1 << 16;
-
-// As many zeros as a segment of zeros can have.
-const ZEROS: [u8; 255] = [0; 255];
-
-// Returns this number of zeros.
-fn zeros(count: u8) -> &'static [u8]
-    ensures { result.now ≡ replicate count 0 }
-{
-    &ZEROS[..count as usize]
-}
-
-// The bytes of a segment.
-pub(crate) fn bytes_in<'b>(segment: &'b Segment<'_>) -> &'b [u8]
-    ensures { result.now ≡ segment_bytes segment.now }
-{
-    match segment {
-        Segment::Borrowed(bytes) => bytes,
-        Segment::Owned(bytes) => bytes.as_slice(),
-        Segment::Zeros(count) => zeros(*count),
-    }
-}
 
 /// The bytes of messages in their order: long runs are borrowed, and short ones between them
 /// joined.
@@ -107,26 +87,23 @@ impl<'a> Gathered<'a> {
             (gathered_bytes self.new ≡ gathered_bytes self.old ++ bytes_of_segments segments.now) }
     {
         for segment in segments {
-            self.add(bytes_in(segment))?;
+            self.add(segment.as_bytes())?;
         }
         Ok(())
     }
 }
 
-// The bytes of messages, and then of one whose body is a sequence of segments.
+// The bytes of the messages of a batch.
 pub(crate) fn gather<'a>(
     alloc: Global,
-    messages: &'a [Message],
-    front: &'a [u8],
-    segments: &'a [Segment<'_>],
+    messages: &'a BatchMessages<'_>,
 ) -> Result<Vec<Segment<'a>>, AllocError>
-    ensures { IfOk result (λ all. bytes_of_segments all.items
-        ≡ all_bytes messages.now ++ (front.now ++ bytes_of_segments segments.now)) }
+    ensures { IfOk result (λ all. bytes_of_segments all.items ≡ batch_bytes messages.now) }
 {
     let mut gathered = Gathered::new(alloc);
-    gathered.add_messages(messages)?;
-    gathered.add(front)?;
-    gathered.add_segments(segments)?;
+    gathered.add_messages(&messages.dictionaries)?;
+    gathered.add(&messages.front)?;
+    gathered.add_segments(&messages.segments)?;
     gathered.end_joined()?;
     Ok(gathered.segments)
 }

@@ -21,7 +21,6 @@ use ipc_encode::BufferPool;
 use ipc_model::{BatchRows, Items, Limits, Schema, Text, Value, WriteFault};
 use std::alloc::Global;
 use std::marker::Model;
-use std::mem;
 
 /// A stream whose schema was sent: the state from which its next messages are made (Arrow Columnar
 /// Format, "IPC Streaming Format").
@@ -33,10 +32,8 @@ pub(crate) struct OpenStream {
     columns: Dictionaries,
     // What was sent of each dictionary.
     kept: Kept,
-    // The buffers of the last batch whose rows were sent, which the next one fills anew.
-    row_buffers: BufferPool,
-    // The buffers of the last batch whose columns were sent, which the next one fills anew.
-    column_buffers: Vec<Vec<u8>>,
+    // The memory of the last batch, for the next one.
+    pool: BufferPool,
     // What the values of its dictionaries are hashed with.
     seed: Seed,
     alloc: Global,
@@ -106,8 +103,7 @@ impl OpenStream {
             schema,
             columns,
             kept,
-            row_buffers: BufferPool::new(alloc),
-            column_buffers: Vec::new(alloc),
+            pool: BufferPool::new(alloc),
             seed,
             alloc,
         };
@@ -129,9 +125,15 @@ impl OpenStream {
         if !has_short_messages(self.alloc, &self.limits, &self.schema, &self.columns)? {
             return Err(WriteFault::TooLong);
         }
-        let buffers = mem::replace(&mut self.row_buffers, BufferPool::new(self.alloc));
         let (alloc, limits) = (self.alloc, &self.limits);
-        PendingBatch::new(alloc, limits, &self.schema, pairs, buffers, self.seed)
+        PendingBatch::new(
+            alloc,
+            limits,
+            &self.schema,
+            pairs,
+            &mut self.pool,
+            self.seed,
+        )
     }
 
     // Takes one row more into a batch of this stream's. Nothing is sent.
@@ -186,9 +188,9 @@ impl OpenStream {
             &self.kept,
             pending,
         )?;
-        send_messages(self.alloc, sink, messages.as_slice(), &[], &[])?;
+        send_messages(self.alloc, sink, &messages)?;
         plan.commit(&mut self.kept);
-        self.row_buffers = messages.into_pool();
+        self.pool.keep(messages.into_segments());
         Ok(())
     }
 
@@ -245,19 +247,13 @@ impl OpenStream {
             &self.columns,
             &self.kept,
             self.seed,
-            &mut self.column_buffers,
+            &mut self.pool,
             batch,
             pairs,
         )?;
-        send_messages(
-            self.alloc,
-            sink,
-            messages.dictionaries.as_slice(),
-            messages.front.as_slice(),
-            messages.segments.as_slice(),
-        )?;
+        send_messages(self.alloc, sink, &messages)?;
         plan.commit(&mut self.kept);
-        messages.give_back(&mut self.column_buffers);
+        self.pool.keep(messages.into_segments());
         Ok(())
     }
 }

@@ -16,9 +16,9 @@ ghost use Rattle.ipc_stream.specs.PendingBatches.{HasTaken, HoldsBatch, RefusesP
 ghost use Rattle.ipc_stream.specs.PendingBatches.{StaysInStream};
 ghost use Rattle.ipc_stream.specs.PendingBatches.{no_rows, with_row, with_rows};
 
-use crate::messages::parts_message;
+use crate::messages::batch_front;
 use ipc_dict::{Seed, Tally};
-use ipc_encode::{BufferPool, Builder, NoIndices, PushFault, encode};
+use ipc_encode::{BufferPool, Builder, NoIndices, Parts, PushFault, encode};
 use ipc_model::{Field, Items, Limits, Row, Schema, Text, Value, WriteFault, conforms};
 use std::alloc::Global;
 
@@ -33,7 +33,7 @@ pub struct PendingBatch {
     pub(crate) pairs: Items<(Text, Text)>,
 }
 
-// Checks that a batch with these pairs and no rows is within the limits. It builds the message and
+// Checks that a batch with these pairs and no rows is within the limits. It builds the metadata and
 // drops it, so a batch that is too long for any rows is refused here.
 fn check_pairs(
     alloc: Global,
@@ -47,19 +47,24 @@ fn check_pairs(
         (RefusesPending limits.now schema.now (no_rows pairs.now) false) }
 {
     let parts = encode(alloc, limits, schema.fields.as_slice(), &[], &NoIndices)?;
-    parts_message(alloc, limits, pairs, 0, parts)?;
+    let Parts {
+        nodes,
+        buffers,
+        body,
+    } = parts;
+    batch_front(alloc, limits, pairs, 0, nodes, buffers, body.len())?;
     Ok(())
 }
 
 impl PendingBatch {
-    // No rows, with these pairs, in the room of a batch that was sent. The metadata of each
-    // dictionary's message is within the limits.
+    // No rows, with these pairs, in memory from the pool. The metadata of each dictionary's message
+    // is within the limits.
     pub(crate) fn new(
         alloc: Global,
         limits: &Limits,
         schema: &Schema,
         pairs: Items<(Text, Text)>,
-        room: BufferPool,
+        pool: &mut BufferPool,
         seed: Seed,
     ) -> Result<PendingBatch, WriteFault>
         requires well_formed { WellFormed limits.now schema.now }
@@ -71,7 +76,7 @@ impl PendingBatch {
         check_pairs(alloc, limits, schema, &pairs)?;
         let tally = Tally::new(alloc, limits, schema, seed)?;
         Ok(PendingBatch {
-            builder: Builder::with_pool(alloc, schema.fields.as_slice(), limits, room)?,
+            builder: Builder::with_pool(alloc, pool, schema.fields.as_slice(), limits)?,
             tally,
             pairs,
         })

@@ -1,9 +1,10 @@
 //! Rows taken one at a time, byte for byte and up to a limit, of lists and structs too.
 use crate::lists::over;
-use ipc_encode::{BufferPool, Builder, NoIndices, Parts, Renumber, SameNumbers};
+use ipc_encode::{
+    BufferPool, Builder, NoIndices, Renumber, SameNumbers, Segment, SegmentedParts,
+};
 use ipc_model::{DataType, DateUnit, Field, IntBits, Items, Limits, Row, Value, WriteFault};
 use std::alloc::{AllocError, Global};
-use std::mem;
 use std::test::Fail;
 
 // The columns of a batch.
@@ -73,11 +74,11 @@ fn builder_of(
     alloc: Global,
     kind: Kind,
     limits: &Limits,
-    room: BufferPool,
+    pool: &mut BufferPool,
 ) -> Result<Builder, WriteFault> {
     let mut fields = Vec::new(alloc);
     add_fields(alloc, &mut fields, kind)?;
-    Builder::with_pool(alloc, &fields, limits, room)
+    Builder::with_pool(alloc, pool, &fields, limits)
 }
 
 // Appends a value to the innermost list or struct that is open.
@@ -227,30 +228,42 @@ const COLUMNS: [Written; 5] = [
     },
 ];
 
-fn are_parts(parts: &Parts, wanted: &Written) -> bool {
-    parts.nodes.as_slice() == wanted.nodes
-        && parts.buffers.as_slice() == wanted.buffers
-        && parts.body.as_slice() == wanted.body
+// Whether the bytes of segments, one after another, are this body.
+fn are_joined(segments: &[Segment<'_>], body: &[u8]) -> bool {
+    let mut rest = body;
+    for segment in segments {
+        let bytes = segment.as_bytes();
+        if !rest.starts_with(bytes) {
+            return false;
+        }
+        rest = &rest[bytes.len()..];
+    }
+    rest.is_empty()
 }
 
-// Whether columns are written so, in the room that an earlier builder leaves.
-fn are_written(alloc: Global, room: &mut BufferPool, wanted: &Written) -> Result<bool, WriteFault> {
-    let left = mem::replace(room, BufferPool::new(alloc));
-    let mut builder = builder_of(alloc, wanted.kind, &Limits::standard(), left)?;
+fn are_parts(parts: &SegmentedParts<'_>, wanted: &Written) -> bool {
+    parts.nodes.as_slice() == wanted.nodes
+        && parts.buffers.as_slice() == wanted.buffers
+        && are_joined(&parts.segments, wanted.body)
+}
+
+// Whether columns are written so, in the memory that an earlier batch leaves.
+fn are_written(alloc: Global, pool: &mut BufferPool, wanted: &Written) -> Result<bool, WriteFault> {
+    let mut builder = builder_of(alloc, wanted.kind, &Limits::standard(), pool)?;
     push_all(alloc, &mut builder, wanted.kind, wanted.rows)?;
     let parts = builder.finish(&SameNumbers)?;
     let are_parts = are_parts(&parts, wanted);
-    *room = parts.room;
+    pool.keep(parts.segments);
     Ok(are_parts)
 }
 
-// The rows are written alike in the room that is left by a builder of other fields, or of the same
+// The rows are written alike in the memory that is left by a batch of other fields, or of the same
 // ones.
 #[test]
 fn grows_columns_row_by_row(rt: HostRuntime) -> Result<(), Fail> {
-    let mut room = BufferPool::new(rt.alloc());
+    let mut pool = BufferPool::new(rt.alloc());
     for number in 0..2 * COLUMNS.len() {
-        let are_written = are_written(rt.alloc(), &mut room, &COLUMNS[number / 2])?;
+        let are_written = are_written(rt.alloc(), &mut pool, &COLUMNS[number / 2])?;
         assert!(rt; are_written, "columns {number}");
     }
     assert!(rt; SameNumbers.to(1, 7) == 7);
@@ -365,7 +378,7 @@ fn limits_of(body: u64, slots: u64) -> Option<Limits> {
 
 fn is_built(builder: Builder, body: &[u8]) -> bool {
     let parts = builder.finish(&SameNumbers);
-    matches!(&parts, Ok(parts) if parts.body.as_slice() == body)
+    matches!(&parts, Ok(parts) if are_joined(&parts.segments, body))
 }
 
 // Whether a builder takes as many of the rows as are wanted.
@@ -375,7 +388,7 @@ fn takes(alloc: Global, builder: &mut Builder, limited: &Limited) -> bool {
 }
 
 fn is_limited(alloc: Global, limited: &Limited, limits: &Limits) -> bool {
-    match builder_of(alloc, limited.kind, limits, BufferPool::new(alloc)) {
+    match builder_of(alloc, limited.kind, limits, &mut BufferPool::new(alloc)) {
         Ok(mut builder) => {
             takes(alloc, &mut builder, limited)
                 && match limited.built {

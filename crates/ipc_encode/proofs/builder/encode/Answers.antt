@@ -7,6 +7,7 @@ use Rattle.ipc_encode.specs.Faults.{write_fault}
 use Rattle.ipc_encode.specs.Limits.{AreRowsRefused}
 use Rattle.ipc_encode.specs.Numbers.{index_or_zero}
 use Rattle.ipc_encode.proofs.Growing.{refused_more}
+use Rattle.ipc_encode.proofs.Indexed.{body_within}
 use Rattle.ipc_encode.proofs.builder.encode.Goals as goal
 
 -- the rows so far and the next
@@ -50,6 +51,18 @@ loop-row-preserved g c =
     subst (λ (rs : List (List Value)). StoresRows known limits fields rs c.push.new.self) next
     (c.in_ok-push.ensures.pushed limits fields (take i rows) c.loop-row.invariant)
 
+pub returns-in_err-parts-clause-refused : goal.returns-in_err-parts-clause-refused
+returns-in_err-parts-clause-refused g c =
+    let known = index_or_zero (g.I.IndexOf.index c.args.indices.now) in
+    let limits = c.args.limits.now in
+    let fields = c.args.fields.now in
+    let rows = c.args.rows.now in
+    let all = take_all c.loop-row.row-index rows (omega (arith, c.loop-row-test.false)) in
+    let memory = c.in_err-parts.ensures.refused known limits fields rows
+    (subst (λ (rs : List (List Value)). StoresRows known limits fields rs c.loop-row.builder) all c.loop-row.invariant) in
+    let p = err_from_is_err_and c.from_residual-in_err-parts.result c.from_residual-in_err-parts.ensures.1 in
+    rw (p.1, p.2, memory) tt
+
 pub returns-clause-rows : goal.returns-clause-rows
 returns-clause-rows g c = λ m fine conform finds.
     let known = index_or_zero (g.I.IndexOf.index c.args.indices.now) in
@@ -57,8 +70,9 @@ returns-clause-rows g c = λ m fine conform finds.
     let fields = c.args.fields.now in
     let rows = c.args.rows.now in
     let all = take_all c.loop-row.row-index rows (omega (arith, c.loop-row-test.false)) in
-    c.finish.ensures.rows known limits fields rows m
-    (subst (λ (rs : List (List Value)). StoresRows known limits fields rs c.loop-row.builder) all c.loop-row.invariant) fine conform finds
+    rw (c.in_ok-joined.ensures.nodes, c.in_ok-joined.ensures.buffers, c.in_ok-joined.ensures.body)
+    (c.in_ok-parts.ensures.rows known limits fields rows m
+    (subst (λ (rs : List (List Value)). StoresRows known limits fields rs c.loop-row.builder) all c.loop-row.invariant) fine conform finds)
 
 pub returns-clause-laid_out : goal.returns-clause-laid_out
 returns-clause-laid_out g c =
@@ -67,8 +81,13 @@ returns-clause-laid_out g c =
     let fields = c.args.fields.now in
     let rows = c.args.rows.now in
     let all = take_all c.loop-row.row-index rows (omega (arith, c.loop-row-test.false)) in
-    c.finish.ensures.laid_out known limits fields rows
-    (subst (λ (rs : List (List Value)). StoresRows known limits fields rs c.loop-row.builder) all c.loop-row.invariant)
+    let parts = c.in_ok-parts.ensures.segmented known limits fields rows
+    (subst (λ (rs : List (List Value)). StoresRows known limits fields rs c.loop-row.builder) all c.loop-row.invariant) in
+    record {
+      nodes = c.in_ok-joined.ensures.nodes ∙ parts.nodes;
+      buffers = c.in_ok-joined.ensures.buffers ∙ parts.buffers;
+      body = c.in_ok-joined.ensures.body ∙ parts.body;
+    }
 
 pub returns-clause-body : goal.returns-clause-body
 returns-clause-body g c =
@@ -77,5 +96,6 @@ returns-clause-body g c =
     let fields = c.args.fields.now in
     let rows = c.args.rows.now in
     let all = take_all c.loop-row.row-index rows (omega (arith, c.loop-row-test.false)) in
-    c.finish.ensures.body known limits fields rows
-    (subst (λ (rs : List (List Value)). StoresRows known limits fields rs c.loop-row.builder) all c.loop-row.invariant)
+    let held = subst (λ (rs : List (List Value)). StoresRows known limits fields rs c.loop-row.builder) all c.loop-row.invariant in
+    body_within limits known fields rows _ (c.in_ok-joined.ensures.body ∙ (c.in_ok-parts.ensures.segmented known limits fields rows held).body)
+    held.within

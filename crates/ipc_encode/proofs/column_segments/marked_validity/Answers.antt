@@ -24,5 +24,5 @@ returns-then-not-is_empty c = λ values size none marks.
 
 pub returns : goal.returns
 returns c = λ values size none marks.
-    c.in_ok-push_bitmap.ensures values size marks c.pooled_list-validity.ensures
+    c.in_ok-push_bitmap.ensures values size marks c.take-validity.ensures
     ∙ sym (some_null values (λ o. c.if-null_count-eq0.false (sym none ∙ o)))

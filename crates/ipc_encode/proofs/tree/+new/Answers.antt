@@ -8,7 +8,6 @@ use Rattle.ipc_column.specs.Shapes.{Shape, field_shape, field_step, shape_of}
 use Rattle.ipc_encode.specs.Built.{IsColumn, HoldColumns}
 use Rattle.ipc_encode.proofs.Steps.{laid_as}
 use Rattle.ipc_encode.proofs.Growing.{node_is, node_more, below_nothing}
-use Rattle.ipc_encode.proofs.tree.+new.Goals.{new_node-in-Some+in_ok-into_empty-in-Some, new_node-in-None+in_ok-new-in-None}
 use Rattle.ipc_encode.proofs.tree.+new.Goals as goal
 
 -- the layout and the children of a field
@@ -18,13 +17,9 @@ step f = fold_out-Field (Layout × Shape) field_step f
 pub new_node-returns : goal.new_node-returns
 new_node-returns t c = λ known limits.
     let shape = step c.args.field.now in
-    let laid : c.layout_of-layout.result ≡ (field_shape c.args.field.now).0 =
-    c.layout_of-layout.ensures ∙ sym (ap (λ (s : Layout × Shape). s.0) shape) in
-    let column : IsColumn known limits (field_shape c.args.field.now).0 [] c.match-kept.column.0 = elim c.match-kept.branch [
-      | new_node-in-Some+in_ok-into_empty-in-Some w ↦ rw w.column-is
-          (laid_as known limits _ _ [] laid (w.in_ok-into_empty-in-Some.ensures known limits))
-      | new_node-in-None+in_ok-new-in-None w ↦ rw w.column-is (laid_as known limits _ _ [] laid (w.in_ok-new-in-None.ensures known limits))
-    ] in
+    let laid : c.layout_of.result ≡ (field_shape c.args.field.now).0 =
+    c.layout_of.ensures ∙ sym (ap (λ (s : Layout × Shape). s.0) shape) in
+    let column = laid_as known limits _ _ [] laid (c.in_ok-column.ensures known limits) in
     let inner : shape_of c.as_slice.result.now ≡ (field_shape c.args.field.now).1 =
     ap (λ (fs : List Field). shape_of fs) c.as_slice.ensures ∙ sym (ap (λ (s : Layout × Shape). s.1) shape) in
     let children = subst (λ (s : Shape). HoldColumns known limits s c.in_ok-children.children.items (λ j. [])) inner

@@ -1,4 +1,4 @@
-use Rattle.std.proofs.Common.{◌≡◌, ◌∙◌, sym, ap, subst, List, length, ℤ, ℕ, Option, Result, Err, inl, inr, true≢false}
+use Rattle.std.proofs.Common.{◌≡◌, ◌∙◌, ◌++◌, sym, ap, subst, List, length, ℤ, ℕ, pos, Option, Result, Err, inl, inr, true≢false}
 use Rattle.std.specs.List.{AllByRecursion}
 use Rattle.std.specs.Prelude.{◌⊎◌}
 use Rattle.std.proofs.lemmas.Result.{err_from_is_err_and}
@@ -21,11 +21,12 @@ use Rattle.ipc_dict.specs.SchemaIds.{kept_ids, tally_ids}
 use Rattle.ipc_dict.specs.Sending.{tally_of_rows}
 use Rattle.ipc_dict.proofs.Sending.{sent_is, tallied_ids}
 use Rattle.ipc_stream.specs.OpenStreams.{CanBeSent, IsGoingOn}
-use Rattle.ipc_stream.specs.Dictionaries.{SendsBatch}
-use Rattle.ipc_stream.specs.Messages.{SetDictionaries, all_bytes, message_bytes}
-use Rattle.ipc_stream.specs.Parts.{RefusesPairs, DenotesRows, batch_head}
+use Rattle.ipc_stream.specs.Messages.{SetDictionaries}
+use Rattle.ipc_stream.specs.Parts.{RefusesPairs, DenotesRows}
 use Rattle.ipc_stream.specs.Writing.{AcceptsBatch}
-use Rattle.ipc_stream.proofs.BatchSent.{batch_sent, bytes_end, laid_counts, plan_can, short_tallied}
+use Rattle.ipc_encode.specs.Segments.{bytes_of_segments}
+use Rattle.ipc_stream.proofs.BatchSent.{batch_sent, plan_can, short_tallied}
+use Rattle.ipc_stream.proofs.ColumnRefusals.{segmented_counts}
 use Rattle.ipc_stream.proofs.PlanFinds.{plan_finds}
 use Rattle.ipc_stream.proofs.HeldRows.{accepted_pairs}
 use Rattle.ipc_stream.proofs.batch_messages.pending_messages.Goals as goal
@@ -58,26 +59,26 @@ cans limits s b columns kept sends es os going accepted is same =
     (plan_can limits s b.rows going.well_formed accepted.fit os accepted.within.dictionaries.lengths
     (short_tallied limits s.fields b.rows accepted.within.dictionaries.short_messages))
 
-pub returns-in_err-messages-clause-only : goal.returns-in_err-messages-clause-only
-returns-in_err-messages-clause-only c = λ s b going h.
+pub returns-in_err-dictionaries-clause-only : goal.returns-in_err-dictionaries-clause-only
+returns-in_err-dictionaries-clause-only c = λ s b going h.
     let same = c.in_ok-plan.ensures.entries ∙ h.tally.counted in
     let can = cans c.args.limits.now s b c.args.columns.now c.args.kept.now c.sends.result.now c.in_ok-plan.plan.entries
     c.in_ok-plan.plan.numbers going h.accepted c.sends.ensures same in
-    let p = err_from_is_err_and c.from_residual-in_err-messages.result c.from_residual-in_err-messages.ensures.1 in
-    rw (p.1, p.2) (c.in_err-messages.ensures.only s going.columns_are can)
+    let p = err_from_is_err_and c.from_residual-in_err-dictionaries.result c.from_residual-in_err-dictionaries.ensures.1 in
+    rw (p.1, p.2) (c.in_err-dictionaries.ensures.only s going.columns_are can)
 
-pub returns-in_err-message-clause-only : goal.returns-in_err-message-clause-only
-returns-in_err-message-clause-only c = λ s b going h.
+pub returns-in_err-front-clause-only : goal.returns-in_err-front-clause-only
+returns-in_err-front-clause-only c = λ s b going h.
     let limits = c.args.limits.now in
     let known = index_or_zero (place_of_value (tally_of_rows s.fields b.rows)) in
-    let laid = c.in_ok-parts.ensures.laid_out known limits s.fields b.rows h.rows in
-    let counts = laid_counts _ s.fields b.rows c.row_count-count.result c.in_ok-parts.parts laid in
-    let fault = c.in_err-message.field-0.0 in
-    let index_or_zero = c.in_err-message.ensures.judged s counts (c.in_ok-parts.ensures.body known limits s.fields b.rows h.rows) in
+    let counts = segmented_counts _ s.fields b.rows (pos c.row_count-count.result) c.in_ok-parts.parts
+    (c.in_ok-parts.ensures.segmented known limits s.fields b.rows h.rows) in
+    let fault = c.in_err-front.field-0.0 in
+    let judged = c.in_err-front.ensures.judged s counts (c.in_ok-parts.ensures.body known limits s.fields b.rows h.rows) in
     let refused : Result Unit WriteFault = Err fault in
-    let p = err_from_is_err_and c.from_residual-in_err-message.result c.from_residual-in_err-message.ensures.1 in
+    let p = err_from_is_err_and c.from_residual-in_err-front.result c.from_residual-in_err-front.ensures.1 in
     rw (p.1, p.2) (accepted_pairs limits s b refused h.accepted
-    (subst (λ (ps : List (List ℕ × List ℕ)). RefusesPairs limits s ps fault) h.pairs index_or_zero))
+    (subst (λ (ps : List (List ℕ × List ℕ)). RefusesPairs limits s ps fault) h.pairs judged))
 
 pub returns-clause-messages : goal.returns-clause-messages
 returns-clause-messages c = λ s b going h.
@@ -92,24 +93,26 @@ returns-clause-messages c = λ s b going h.
     same in
     let settled = subst (λ (xs : List TallyEntry). AllSettled c.args.kept.now xs os) pending c.in_ok-plan.ensures.settled in
     let finds = subst (λ (xs : List TallyEntry). FindsNoted c.args.kept.now xs os) pending (c.in_ok-plan.ensures.finds_noted ids) in
-    let set = subst (λ (sends : List (ℤ × List (List Value))). SetDictionaries limits s sends c.in_ok-messages.messages.items)
-    (c.sends.ensures ∙ ap (λ xs. sends_of xs os) same) (c.in_ok-messages.ensures.set s going.columns_are can) in
+    let set = subst (λ (sends : List (ℤ × List (List Value))). SetDictionaries limits s sends c.in_ok-dictionaries.dictionaries.items)
+    (c.sends.ensures ∙ ap (λ xs. sends_of xs os) same) (c.in_ok-dictionaries.ensures.set s going.columns_are can) in
+    let parts = c.in_ok-parts.parts in
+    let body = bytes_of_segments parts.segments.items in
+    let own = c.in_ok-front.front.items ++ body in
+    let laid = c.in_ok-parts.ensures.segmented known limits s.fields b.rows h.rows in
+    let size : length body ≡ parts.len = ap length laid.body ∙ sym laid.len in
     let count : c.row_count-count.result ≡ length b.rows = c.row_count-count.ensures known limits s.fields b.rows h.rows in
     let numbered = new_indices (number (tally_of_rows s.fields b.rows) os) known in
     let tells : (ds : Dictionaries) → FindsRows ds numbered s.fields b.rows
-    → DenotesRows limits ds s b (message_bytes c.in_ok-message.message) = λ ds found.
+    → DenotesRows limits ds s b own = λ ds found.
     let here = subst (λ (xs : List TallyEntry). FindsRows ds (new_indices (number xs os) known) s.fields b.rows) (sym same) found in
     let rows = c.in_ok-parts.ensures.rows known limits s.fields b.rows ds h.rows going.well_formed.each h.accepted.fit here in
-    let counted = subst (λ (n : ℕ). Rows limits ds s.fields (batch_head n c.in_ok-parts.parts) c.in_ok-parts.parts.body.items b.rows)
-    (sym count) rows in
-    subst (λ (ps : List (List ℕ × List ℕ)). DenotesRows limits ds s (record { pairs = ps; rows = b.rows })
-    (message_bytes c.in_ok-message.message)) h.pairs
-    (c.in_ok-message.ensures.message ds s b.rows counted) in
-    let sent = batch_sent limits s b c.args.kept.now os numbered c.in_ok-messages.messages.items (message_bytes c.in_ok-message.message)
+    let counted = subst (λ (n : ℕ). Rows limits ds s.fields
+    (record { length = pos n; nodes = parts.nodes; buffers = parts.buffers }) body b.rows) (sym count) rows in
+    subst (λ (ps : List (List ℕ × List ℕ)). DenotesRows limits ds s (record { pairs = ps; rows = b.rows }) own) h.pairs
+    (c.in_ok-front.ensures.message ds s b.rows body size counted) in
+    batch_sent limits s b c.args.kept.now os numbered c.in_ok-dictionaries.dictionaries.items own
     h.accepted.within.dictionaries.counted going.counted going.ids settled
-    (λ ds values counts. plan_finds limits s b.rows c.args.kept.now os ds going.well_formed values counts finds) set tells in
-    subst (λ (x : List ℕ). SendsBatch limits s c.args.kept.now b x)
-    (sym (ap all_bytes c.in_ok-push.ensures.items ∙ bytes_end c.in_ok-messages.messages.items c.in_ok-message.message)) sent
+    (λ ds values counts. plan_finds limits s b.rows c.args.kept.now os ds going.well_formed values counts finds) set tells
 
 pub returns-clause-sent : goal.returns-clause-sent
 returns-clause-sent c = λ s b going h.

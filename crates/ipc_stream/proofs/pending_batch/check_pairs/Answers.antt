@@ -13,8 +13,8 @@ use Rattle.ipc_stream.proofs.HeldRows.{refused_pairs}
 use Rattle.ipc_stream.proofs.pending_batch.check_pairs.Goals as goal
 use Rattle.ipc_encode.proofs.Agreeing.{no_indices}
 
-pub returns-in_err-parts_message : goal.returns-in_err-parts_message
-returns-in_err-parts_message c =
+pub returns-in_err-batch_front : goal.returns-in_err-batch_front
+returns-in_err-batch_front c =
     let fine = subst (λ (fields : List Field). AllByRecursion (IsFieldWellFormed c.args.limits.now) (entries fields))
     (sym c.as_slice.ensures)
     c.requires.each in
@@ -23,10 +23,10 @@ returns-in_err-parts_message c =
     c.as_slice.ensures
     (c.in_ok-parts.ensures.rows [] fine tt (covered (FindsIndex [] no_indices) c.args.limits.now c.as_slice.result.now [] fine
     (λ d v named pair. absurd (omega (arith, pair.1))))) in
-    let p = err_from_is_err_and c.from_residual-in_err-parts_message.result c.from_residual-in_err-parts_message.ensures.1 in
+    let p = err_from_is_err_and c.from_residual-in_err-batch_front.result c.from_residual-in_err-batch_front.ensures.1 in
     record {
       judged = rw (p.1, p.2) (refused_pairs c.args.limits.now c.args.schema.now c.args.pairs.now _
-          (c.in_err-parts_message.ensures.judged c.args.schema.now (record { nodes = found.nodes; buffers = found.buffers })
+          (c.in_err-batch_front.ensures.judged c.args.schema.now (record { nodes = found.nodes; buffers = found.buffers })
           c.in_ok-parts.ensures.body));
     }
 
@@ -42,7 +42,7 @@ returns c =
     (λ d v named pair. absurd (omega (arith, pair.1))))) in
     record {
       judged = (
-        c.in_ok-parts_message.ensures.judged c.args.schema.now (record { nodes = found.nodes; buffers = found.buffers })
+        c.in_ok-batch_front.ensures.judged c.args.schema.now (record { nodes = found.nodes; buffers = found.buffers })
             c.in_ok-parts.ensures.body,
         subst (λ (fields : List Field). IsWithin c.args.limits.now fields []) c.as_slice.ensures c.in_ok-parts.ensures.within,
       );

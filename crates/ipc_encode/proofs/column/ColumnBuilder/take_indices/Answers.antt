@@ -33,11 +33,12 @@ returns-clause-taken g c = λ h.
     let mine : c.in_ok-column_indices.column_indices.items ≡ indices_of (known id) vs = c.in_ok-column_indices.ensures in
     let nulls = c.count_nulls-null_count.ensures.nulls (known id) vs (c.deref.ensures.value ∙ mine) in
     record {
-      laid = ap (λ (z : ℤ). Indices c.args.bits c.args.signed z) (to_z-of_z w64 c.args.id c.ranges.id);
+      laid = c.set_indices.ensures.layout ∙ h.laid;
       slots_are = sym size;
       nulls_are = nulls;
       few = λ many. omega (arith, size, many, c.if-count-limits.false);
       short = tt;
       validity_are = c.in_ok-push_validities.ensures (known id) vs (c.deref-2.ensures.value ∙ mine) (sym nulls) h.validity_are;
-      holds = mine;
+      holds = c.set_indices.ensures.holds known c.args.bits c.args.signed id vs
+          (h.laid ∙ sym (ap (λ (z : ℤ). Indices c.args.bits c.args.signed z) (to_z-of_z w64 c.args.id c.ranges.id))) mine;
     }

@@ -1,31 +1,9 @@
-use Rattle.std.proofs.Common.{◌≡◌, ◌∙◌, ◌++◌, sym, ap, subst, arith, length, ℕ, List}
-use Rattle.std.proofs.lemmas.List.{length-append}
+use Rattle.std.proofs.Common.{◌∙◌, sym}
 use Rattle.std.proofs.lemmas.Result.{err_from_is_err_and}
-use Rattle.ipc_encode.specs.declared.segments.Segment.{Segment}
-use Rattle.ipc_encode.specs.Segments.{bytes_of_segments}
-use Rattle.ipc_stream.specs.declared.message.Message.{Message}
 use Rattle.ipc_stream.specs.Dictionaries.{SendsBatch}
-use Rattle.ipc_stream.specs.Messages.{all_bytes}
 use Rattle.ipc_stream.specs.PendingBatches.{with_rows}
 use Rattle.ipc_stream.proofs.SentBytes.{all_sent, not_all_sent}
 use Rattle.ipc_stream.proofs.open_stream.OpenStream.send_columns.Goals as goal
-
--- the bytes of equal lists
-bytes : (ms ns : List Message) (f g : List ℕ) (ss ts : List Segment) → ms ≡ ns → f ≡ g → ss ≡ ts
-    → all_bytes ms ++ (f ++ bytes_of_segments ss) ≡ all_bytes ns ++ (g ++ bytes_of_segments ts)
-bytes ms ns f g ss ts p q r = λ i. all_bytes (p i) ++ (q i ++ bytes_of_segments (r i))
-
-pub send_messages-requires : goal.send_messages-requires
-send_messages-requires g c =
-    let front = c.as_slice-2.result.now in
-    let body = bytes_of_segments c.as_slice-3.result.now in
-    omega (
-      arith,
-      c.in_ok-messages.ensures.some,
-      ap (λ (xs : List ℕ). length xs) c.as_slice-2.ensures.value,
-      length-append front body,
-      length-append (all_bytes c.as_slice.result.now) (front ++ body),
-    )
 
 pub returns-in_err-send_messages-clause-sends : goal.returns-in_err-send_messages-clause-sends
 returns-in_err-send_messages-clause-sends g c = rw (← c.self.view_is) (
@@ -34,16 +12,13 @@ returns-in_err-send_messages-clause-sends g c = rw (← c.self.view_is) (
     let p = err_from_is_err_and c.from_residual-in_err-send_messages.result c.from_residual-in_err-send_messages.ensures.1 in
     rw (p.1, p.2) (not_all_sent IsWhole (g.W.Sink.written c.args.sink.now) (g.W.Sink.written c.send_messages.new.sink)
     (g.W.Sink.failures c.args.sink.now) (g.W.Sink.failures c.send_messages.new.sink) _ c.in_err-send_messages.field-0.0
-    (subst IsWhole (sym (bytes _ _ _ _ _ _ c.as_slice.ensures.value c.as_slice-2.ensures.value c.as_slice-3.ensures.value))
-    c.in_ok-messages.ensures.messages) c.in_err-send_messages.ensures.sends))
+    c.in_ok-messages.ensures.messages c.in_err-send_messages.ensures.sends))
 
 pub returns-clause-sends : goal.returns-clause-sends
 returns-clause-sends g c = rw (← c.self.view_is) (
     let IsWhole = SendsBatch c.self.inside.limits c.self.inside.schema c.self.inside.kept
     (with_rows c.args.pairs.now c.args.batch.now.rows) in
-    all_sent IsWhole _ _ _ _ _
-    (subst IsWhole (sym (bytes _ _ _ _ _ _ c.as_slice.ensures.value c.as_slice-2.ensures.value c.as_slice-3.ensures.value))
-    c.in_ok-messages.ensures.messages) c.in_ok-send_messages.ensures.sends)
+    all_sent IsWhole _ _ _ _ _ c.in_ok-messages.ensures.messages c.in_ok-send_messages.ensures.sends)
 
 pub returns-clause-counted : goal.returns-clause-counted
 returns-clause-counted g c =

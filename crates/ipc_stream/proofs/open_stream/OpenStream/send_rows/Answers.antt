@@ -1,5 +1,4 @@
-use Rattle.std.proofs.Common.{◌≡◌, ◌∙◌, ◌++◌, [], sym, ap, subst, arith, length, List}
-use Rattle.std.proofs.lemmas.List.{append-nil, length-append}
+use Rattle.std.proofs.Common.{◌≡◌, ◌∙◌, sym, ap, subst, List}
 use Rattle.std.proofs.lemmas.Result.{err_from_is_err_and}
 use Rattle.ipc_model.specs.declared.schema.Field.{Field}
 use Rattle.ipc_dict.specs.declared.entry.TallyEntry.{TallyEntry}
@@ -7,20 +6,8 @@ use Rattle.ipc_dict.specs.SchemaIds.{ids_of}
 use Rattle.ipc_dict.specs.Sending.{AreAddressed}
 use Rattle.ipc_stream.specs.Dictionaries.{SendsBatch}
 use Rattle.ipc_stream.specs.OpenStreams.{OpenStreamState}
-use Rattle.ipc_stream.specs.Messages.{all_bytes}
-use Rattle.ipc_stream.specs.declared.message.Message.{Message}
-use Rattle.ipc_stream.proofs.SentBytes.{all_sent, not_all_sent, some_bytes}
+use Rattle.ipc_stream.proofs.SentBytes.{all_sent, not_all_sent}
 use Rattle.ipc_stream.proofs.open_stream.OpenStream.send_rows.Goals as goal
-
--- the bytes of all messages, behind which nothing is sent
-messages_alone : (ms ns : List Message) → ms ≡ ns → all_bytes ms ++ [] ≡ all_bytes ns
-messages_alone ms ns same = append-nil (all_bytes ms) ∙ ap all_bytes same
-
-pub send_messages-requires : goal.send_messages-requires
-send_messages-requires g c =
-    let some = some_bytes c.as_slice.result.now
-    (omega (arith, c.in_ok-messages.ensures.some, ap (λ (ms : List Message). length ms) c.as_slice.ensures)) in
-    omega (arith, some, length-append (all_bytes c.as_slice.result.now) [])
 
 pub returns-in_err-send_messages-clause-sends : goal.returns-in_err-send_messages-clause-sends
 returns-in_err-send_messages-clause-sends g c = rw (← c.self.view_is) (λ b h.
@@ -28,14 +15,13 @@ returns-in_err-send_messages-clause-sends g c = rw (← c.self.view_is) (λ b h.
     let p = err_from_is_err_and c.from_residual-in_err-send_messages.result c.from_residual-in_err-send_messages.ensures.1 in
     rw (p.1, p.2) (not_all_sent IsWhole (g.W.Sink.written c.args.sink.now) (g.W.Sink.written c.send_messages.new.sink)
     (g.W.Sink.failures c.args.sink.now) (g.W.Sink.failures c.send_messages.new.sink) _ c.in_err-send_messages.field-0.0
-    (subst IsWhole (sym (messages_alone _ _ c.as_slice.ensures))
-    (c.in_ok-messages.ensures.messages c.self.inside.schema b c.self.invariant h)) c.in_err-send_messages.ensures.sends))
+    (c.in_ok-messages.ensures.messages c.self.inside.schema b c.self.invariant h) c.in_err-send_messages.ensures.sends))
 
 pub returns-clause-sends : goal.returns-clause-sends
 returns-clause-sends g c = rw (← c.self.view_is) (λ b h.
     let IsWhole = SendsBatch c.self.inside.limits c.self.inside.schema c.self.inside.kept b in
-    all_sent IsWhole _ _ _ _ _ (subst IsWhole (sym (messages_alone _ _ c.as_slice.ensures))
-    (c.in_ok-messages.ensures.messages c.self.inside.schema b c.self.invariant h)) c.in_ok-send_messages.ensures.sends)
+    all_sent IsWhole _ _ _ _ _ (c.in_ok-messages.ensures.messages c.self.inside.schema b c.self.invariant h)
+    c.in_ok-send_messages.ensures.sends)
 
 -- index types of the same fields can address the same values
 addressed_in : (fields others : List Field) (es : List TallyEntry) → fields ≡ others → AreAddressed fields es → AreAddressed others es

@@ -1,7 +1,7 @@
 use Rattle.std.proofs.Common.{add-one, w64, to_z, of_z}
 use Rattle.ipc_encode.specs.Numbers.{new_index}
 use Rattle.ipc_encode.proofs.Indexed.{slots_more}
-use Rattle.ipc_encode.proofs.parts.push_indices.Goals as goal
+use Rattle.ipc_encode.proofs.built_columns.push_indices.Goals as goal
 
 pub loop-index-preserved : goal.loop-index-preserved
 loop-index-preserved g c =

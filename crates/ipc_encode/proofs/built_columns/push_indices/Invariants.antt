@@ -2,7 +2,7 @@ use Rattle.std.proofs.Common.{◌≡◌, ◌++◌, map, take}
 use Rattle.ipc_encode.specs.Cells.{slots}
 use Rattle.ipc_encode.specs.Numbers.{as_number, new_index}
 use Rattle.ipc_encode.specs.Pieces.{Number}
-use Rattle.ipc_encode.proofs.parts.push_indices.Given as goal
+use Rattle.ipc_encode.proofs.built_columns.push_indices.Given as goal
 
 abbrev pub invariant-loop-index : goal.invariant-loop-index
 invariant-loop-index g l = l.bytes.items ≡ l.fn.bytes.items
