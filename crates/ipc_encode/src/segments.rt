@@ -123,8 +123,8 @@ fn push_pair(pairs: &mut Vec<(i64, i64)>, first: usize, second: usize) -> Result
     Ok(())
 }
 
-/// Adds the node of a column with `count` slots and `null_count` nulls. Returns an error if memory for
-/// it ran out.
+/// Adds the node of a column with `count` slots and `null_count` nulls. Returns an error if memory
+/// for it ran out.
 pub(crate) fn add_counts(
     draft: &mut Draft<'_>,
     count: usize,

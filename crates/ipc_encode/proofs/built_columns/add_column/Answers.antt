@@ -52,8 +52,8 @@ returns-in_err-add_data-clause-refused g c = λ known kept layout values h.
     let fault = c.in_err-add_data.field-0.0 in
     let p = err_from_is_err_and c.from_residual-in_err-add_data.result c.from_residual-in_err-add_data.ensures.1 in
     let first = adds_both d mid e [] (valid ∷ []) c.in_ok-add_counts.ensures.adds c.in_ok-add_buffer.ensures.adds in
-    let report = subst (λ (l : Layout). IsBodyRefused limits (e.len + length (padded_bytes (data_buffers l (written_values other l values))))
-    fault) h.laid (c.in_err-add_data.ensures.refused known values h.holds) in
+    let report = subst (λ (l : Layout). IsBodyRefused limits (e.len + length (padded_bytes (data_buffers l
+    (written_values other l values)))) fault) h.laid (c.in_err-add_data.ensures.refused known values h.holds) in
     rw (p.1, p.2) (built_refused limits other d.len layout values fault
     (subst (λ (bs : List (List ℕ)). IsBodyRefused limits (d.len + length (padded_bytes bs)) fault) is
     (refused_later limits d e (valid ∷ []) own fault first report)))

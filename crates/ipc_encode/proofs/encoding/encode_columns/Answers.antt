@@ -17,8 +17,8 @@ returns-in_err-add_fields-clause-refused g c =
 
 pub returns-clause-within : goal.returns-clause-within
 returns-clause-within g c =
-    columns_within c.args.limits.now _ c.args.fields.now c.args.batch.now.rows c.new-draft.result c.add_fields.new.draft c.new-draft.ensures.len
-    (omega (arith, c.rows.ensures, c.if-rows-limits.false)) c.in_ok-add_fields.ensures.adds
+    columns_within c.args.limits.now _ c.args.fields.now c.args.batch.now.rows c.new-draft.result c.add_fields.new.draft
+    c.new-draft.ensures.len (omega (arith, c.rows.ensures, c.if-rows-limits.false)) c.in_ok-add_fields.ensures.adds
 
 pub returns-clause-body : goal.returns-clause-body
 returns-clause-body g c =
@@ -26,9 +26,9 @@ returns-clause-body g c =
 
 pub returns-clause-segmented : goal.returns-clause-segmented
 returns-clause-segmented g c =
-    segmented c.args.limits.now (new_indices (g.N.Renumber.number c.args.numbers.now) (index_or_zero (g.I.IndexOf.index c.args.indices.now)))
-    c.args.fields.now c.args.batch.now.rows c.new-draft.result c.add_fields.new.draft c.finish.result c.new-draft.ensures
-    c.in_ok-add_fields.ensures.adds c.finish.ensures
+    let known = new_indices (g.N.Renumber.number c.args.numbers.now) (index_or_zero (g.I.IndexOf.index c.args.indices.now)) in
+    segmented c.args.limits.now known c.args.fields.now c.args.batch.now.rows c.new-draft.result c.add_fields.new.draft
+    c.finish.result c.new-draft.ensures c.in_ok-add_fields.ensures.adds c.finish.ensures
 
 pub returns-clause-rows : goal.returns-clause-rows
 returns-clause-rows g c = λ m fine fits finds.
@@ -39,6 +39,7 @@ returns-clause-rows g c = λ m fine fits finds.
     let adds = c.in_ok-add_fields.ensures.adds in
     let within = columns_within c.args.limits.now known fields rows c.new-draft.result draft c.new-draft.ensures.len
     (omega (arith, c.rows.ensures, c.if-rows-limits.false)) adds in
-    let parts = segmented c.args.limits.now known fields rows c.new-draft.result draft c.finish.result c.new-draft.ensures adds c.finish.ensures in
+    let parts = segmented c.args.limits.now known fields rows c.new-draft.result draft c.finish.result c.new-draft.ensures adds
+    c.finish.ensures in
     rows_of_parts m known fields rows c.finish.result.nodes c.finish.result.buffers (bytes_of_segments c.finish.result.segments.items)
     fine fits within adds.stores finds parts.nodes parts.buffers parts.body
