@@ -97,5 +97,5 @@ returns-clause-body g c =
     let rows = c.args.rows.now in
     let all = take_all c.loop-row.row-index rows (omega (arith, c.loop-row-test.false)) in
     let held = subst (λ (rs : List (List Value)). StoresRows known limits fields rs c.loop-row.builder) all c.loop-row.invariant in
-    body_within limits known fields rows _ (c.in_ok-joined.ensures.body ∙ (c.in_ok-parts.ensures.segmented known limits fields rows held).body)
-    held.within
+    body_within limits known fields rows _
+    (c.in_ok-joined.ensures.body ∙ (c.in_ok-parts.ensures.segmented known limits fields rows held).body) held.within

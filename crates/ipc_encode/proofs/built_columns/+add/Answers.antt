@@ -9,7 +9,8 @@ use Rattle.ipc_encode.specs.declared.tree.Node.TheOpen.{Node-F}
 use Rattle.ipc_encode.specs.declared.tree.Node.TheViews.{out-roll-Node}
 use Rattle.ipc_column.specs.Shapes.{Shape}
 use Rattle.ipc_encode.proofs.Growing.{at_node, first_all}
-use Rattle.ipc_encode.proofs.SegmentColumns.{children_refused, columns_next, columns_none, columns_refused, own_refused_after, with_children}
+use Rattle.ipc_encode.proofs.SegmentColumns.{children_refused, columns_next, columns_none, columns_refused, own_refused_after}
+use Rattle.ipc_encode.proofs.SegmentColumns.{with_children}
 use Rattle.ipc_encode.proofs.built_columns.+add.Goals as goal
 
 pub add_node-returns-in_err-add_column-clause-refused : goal.add_node-returns-in_err-add_column-clause-refused
