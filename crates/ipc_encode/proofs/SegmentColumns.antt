@@ -469,8 +469,8 @@ only_memory limits fields rows write.OutOfMemory within h = refl
 only_memory limits fields rows _ within h = absurd h
 
 -- the parts of a draft to which the columns of rows were added
-pub segmented : (limits : Limits) (known : Numbering) (fields : List Field) (rows : List (List Value)) (d e : Draft) (parts : SegmentedParts)
-    → IsEmpty d → AddsColumns limits known (shape_of fields) (row_columns rows) d e → ArePartsOf e parts
+pub segmented : (limits : Limits) (known : Numbering) (fields : List Field) (rows : List (List Value)) (d e : Draft)
+    (parts : SegmentedParts) → IsEmpty d → AddsColumns limits known (shape_of fields) (row_columns rows) d e → ArePartsOf e parts
     → AreSegmented known fields rows parts
 segmented limits known fields rows d e parts none adds are =
     let bs = row_buffers_with known fields rows in

@@ -40,8 +40,8 @@ returns-clause-rows g c = λ known limits fields rows m h fine fits finds.
     (sym c.deref_mut.ensures.value) h.columns_are in
     let few = subst (λ (l : Limits). c.args.self.bounds.slots ≤ l.slots) (sym h.limits_are) h.bounded.few in
     let adds = c.in_ok-add_nodes.ensures.adds known c.args.self.bounds (shape_of fields) (row_columns rows) few held in
-    let parts = segmented c.args.self.limits other fields rows c.new-draft.result c.add_nodes.new.draft c.finish.result c.new-draft.ensures adds
-    c.finish.ensures in
+    let parts = segmented c.args.self.limits other fields rows c.new-draft.result c.add_nodes.new.draft c.finish.result
+    c.new-draft.ensures adds c.finish.ensures in
     rows_of_parts m other fields rows c.finish.result.nodes c.finish.result.buffers (bytes_of_segments c.finish.result.segments.items)
     fine fits h.within adds.stores finds parts.nodes parts.buffers parts.body
 
