@@ -25,8 +25,7 @@ use Rattle.ipc_stream.specs.Messages.{SetDictionaries}
 use Rattle.ipc_stream.specs.Parts.{RefusesPairs, DenotesRows}
 use Rattle.ipc_stream.specs.Writing.{AcceptsBatch}
 use Rattle.ipc_encode.specs.Segments.{bytes_of_segments}
-use Rattle.ipc_stream.proofs.BatchSent.{batch_sent, plan_can, short_tallied}
-use Rattle.ipc_stream.proofs.ColumnRefusals.{segmented_counts}
+use Rattle.ipc_stream.proofs.BatchSent.{batch_sent, plan_can, segmented_counts, short_tallied}
 use Rattle.ipc_stream.proofs.PlanFinds.{plan_finds}
 use Rattle.ipc_stream.proofs.HeldRows.{accepted_pairs}
 use Rattle.ipc_stream.proofs.batch_messages.pending_messages.Goals as goal

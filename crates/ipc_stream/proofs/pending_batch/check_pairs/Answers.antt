@@ -1,4 +1,4 @@
-use Rattle.std.proofs.Common.{sym, subst, ℕ, ◌≤◌, [], List, arith}
+use Rattle.std.proofs.Common.{sym, subst, [], List, arith}
 use Rattle.std.proofs.lemmas.Result.{err_from_is_err_and}
 use Rattle.ipc_model.specs.declared.schema.Field.{Field}
 use Rattle.ipc_model.specs.Entries.{entries}
@@ -27,7 +27,7 @@ returns-in_err-batch_front c =
     record {
       judged = rw (p.1, p.2) (refused_pairs c.args.limits.now c.args.schema.now c.args.pairs.now _
           (c.in_err-batch_front.ensures.judged c.args.schema.now (record { nodes = found.nodes; buffers = found.buffers })
-          (subst (λ (n : ℕ). n ≤ c.args.limits.now.body) (sym c.len.ensures) c.in_ok-parts.ensures.body)));
+          (omega (arith, c.len.ensures, c.in_ok-parts.parts.body.ok, c.in_ok-parts.ensures.body))));
     }
 
 pub returns : goal.returns
@@ -43,7 +43,7 @@ returns c =
     record {
       judged = (
         c.in_ok-batch_front.ensures.judged c.args.schema.now (record { nodes = found.nodes; buffers = found.buffers })
-            (subst (λ (n : ℕ). n ≤ c.args.limits.now.body) (sym c.len.ensures) c.in_ok-parts.ensures.body),
+            (omega (arith, c.len.ensures, c.in_ok-parts.parts.body.ok, c.in_ok-parts.ensures.body)),
         subst (λ (fields : List Field). IsWithin c.args.limits.now fields []) c.as_slice.ensures c.in_ok-parts.ensures.within,
       );
     }
