@@ -6,6 +6,7 @@ pub mod Parted
 pub mod Stepped
 pub mod Fed
 pub mod Pulls
+pub mod Grown
 pub mod Held
 pub mod Written
 pub mod Wider

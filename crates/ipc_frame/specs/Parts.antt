@@ -1,7 +1,7 @@
 -- The bytes of one message that have come so far, in its three parts (Arrow Columnar Format,
 -- "Encapsulated message format").
-use Rattle.std.specs.Prelude.{◌≡◌, ℕ, ◌-◌, ◌<◌, ◌≤◌, List, [], ◌++◌, length, take, Result, Ok, Err}
-use Rattle.std.specs.Prelude.{vec_capacity, ⊤}
+use Rattle.std.specs.Prelude.{◌≡◌, ℕ, ◌+◌, ◌-◌, ◌*◌, ◌<◌, ◌≤◌, max, List, [], ◌++◌, length, take}
+use Rattle.std.specs.Prelude.{Result, Ok, Err, vec_capacity, ⊤}
 use Rattle.ipc_meta.specs.declared.head.Head.{Head}
 use Rattle.ipc_meta.specs.Heads.{HeadOf}
 use Rattle.ipc_model.specs.Answers.{UnlessOutOfMemory}
@@ -32,6 +32,12 @@ no_capacity = record { metadata = 0; body = 0 }
 -- the room of the buffers of a message
 abbrev pub capacity_of : PartialMessage → Capacity
 capacity_of p = record { metadata = vec_capacity p.meta; body = vec_capacity p.body.list }
+
+-- each buffer has room for at most twice the `count` bytes of the message that have come, and 64
+-- KiB, or for what it had room for before
+pub record GrowsWithBytes (old new : Capacity) (count : ℕ) : Type 0 where
+  pub metadata : new.metadata ≤ max old.metadata (2 * count + 65536)
+  pub body : new.body ≤ max old.body (2 * count + 65536)
 
 -- how many bytes are needed before the next decision
 abbrev pub bytes_needed : PartialMessage → Expectation → ℕ

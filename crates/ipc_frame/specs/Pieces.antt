@@ -1,12 +1,12 @@
 -- Messages that arrive in pieces, call by call (Arrow Columnar Format, "Encapsulated message
 -- format" and "IPC Streaming Format").
-use Rattle.std.specs.Prelude.{◌≡◌, ◌≢◌, ℕ, ◌≤◌, List, [], ◌++◌, length, take, Option, Some, None}
-use Rattle.std.specs.Prelude.{Result, Ok, Err, ⊤}
+use Rattle.std.specs.Prelude.{◌≡◌, ◌≢◌, ℕ, ◌+◌, ◌<◌, ◌≤◌, List, [], ◌++◌, length, take, Option}
+use Rattle.std.specs.Prelude.{Some, None, Result, Ok, Err, ⊤}
 use Rattle.ipc_model.specs.Answers.{UnlessOutOfMemory}
 use Rattle.ipc_model.specs.declared.fault.Fault.{Fault}
 use Rattle.ipc_model.specs.declared.fault.Fault.TheVariants.{Failed, Truncated}
 use Rattle.ipc_model.specs.declared.limits.Limits.{Limits}
-use Rattle.ipc_frame.specs.Frames.{IsSized, Pending}
+use Rattle.ipc_frame.specs.Frames.{Begins, IsSized, Pending}
 use Rattle.ipc_frame.specs.Sees.{IsFrame}
 use Rattle.ipc_frame.specs.Decisions.{RefusesNow}
 use Rattle.ipc_frame.specs.Parts.{Capacity, received_bytes, no_capacity, capacity_of, Undecided}
@@ -97,6 +97,17 @@ Closes (taking z) new (Ok x) = (z ≡ []) × (new ≡ ended)
 Closes (taking z) new (Err fault) = (z ≢ []) × (fault ≡ Truncated) × (new ≡ refused)
 Closes ended new r = (new ≡ ended) × (r ≡ Ok tt)
 Closes refused new r = (new ≡ refused) × (r ≡ Err Failed)
+
+-- bytes of the body have come: z is longer than the first eight bytes and the metadata
+abbrev pub HasBody : Limits → List ℕ → Type 0
+HasBody limits z = (n : ℕ) × Begins limits z n × (8 + n < length z)
+
+-- a buffer that is offered takes the place of the present one, if messages are awaited, no byte of
+-- a body has come, and it has room for more bytes
+abbrev pub TakesBuffer : Limits → Progress → ℕ → ℕ → Type 0
+TakesBuffer limits (taking z) present offered = (HasBody limits z → ⊥) × (present < offered)
+TakesBuffer limits ended present offered = ⊥
+TakesBuffer limits refused present offered = ⊥
 
 -- no buffer is kept after the end or a refusal
 abbrev pub DropsLists : Progress → Capacity → Type 0

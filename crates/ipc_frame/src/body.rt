@@ -1,6 +1,7 @@
 ghost use Rattle.std.specs.Prelude.{◌≤◌, vec_len};
 
-use crate::pull::{MAX_CLEARED, make_room, read_after};
+use crate::pull::read_after;
+use crate::room::{MAX_CLEARED, append, check_capacity, make_room};
 use ipc_device::Source;
 use ipc_model::Fault;
 use std::alloc::{AllocError, Global};
@@ -15,8 +16,8 @@ pub struct Body {
 }
 
 impl Body {
-    ghost use Rattle.std.specs.Prelude.{◌≡◌, ◌<◌, ◌≤◌, ◌+◌, ◌^◌, ◌++◌, [], length, IfErr, IfOk};
-    ghost use Rattle.std.specs.Prelude.{OnErr, OnOk, vec_capacity};
+    ghost use Rattle.std.specs.Prelude.{◌≡◌, ◌<◌, ◌≤◌, ◌+◌, ◌*◌, ◌^◌, ◌++◌, [], length, max, IfErr};
+    ghost use Rattle.std.specs.Prelude.{IfOk, OnErr, OnOk, vec_capacity};
     ghost use Rattle.std.specs.Io.KnownBytes.{Keeps};
     ghost use Rattle.ipc_frame.specs.Bodies.{KeepsOne, body_bytes};
     ghost use Rattle.ipc_frame.specs.Failures.{FailsAs, IsOutside};
@@ -43,10 +44,12 @@ impl Body {
 
     // Appends bytes to those that came.
     pub fn extend(&mut self, bytes: &[u8]) -> Result<(), AllocError>
-        ensures { OnOk result (body_bytes self.new ≡ body_bytes self.old ++ bytes.now) }
+        ensures came { OnOk result (body_bytes self.new ≡ body_bytes self.old ++ bytes.now) }
+        ensures few { OnOk result (vec_capacity self.new.list
+            ≤ max (vec_capacity self.old.list) (2 * length (body_bytes self.new) + MAX_CLEARED)) }
     {
         self.list.truncate(self.len);
-        self.list.extend_from_slice(bytes)?;
+        append(&mut self.list, bytes)?;
         self.len = self.list.len();
         Ok(())
     }
@@ -57,16 +60,17 @@ impl Body {
         requires { 0 < wanted }
         ensures place { OnOk result (self.new.len < vec_len self.new.list) }
         ensures came { body_bytes self.new ≡ body_bytes self.old }
+        ensures few { OnOk result (vec_capacity self.new.list
+            ≤ max (vec_capacity self.old.list) (2 * self.old.len + MAX_CLEARED)) }
     {
         if self.len < self.list.len() {
             return Ok(());
         }
         make_room(&mut self.list, wanted)?;
-        let room = (self.list.capacity() - self.len)
-            .min(MAX_CLEARED)
-            .min(wanted);
+        let capacity = self.list.capacity();
+        let room = (capacity - self.len).min(MAX_CLEARED).min(wanted);
         self.list.resize(self.len + room, 0)?;
-        Ok(())
+        check_capacity(&self.list, capacity)
     }
 
     // Calls the source once, for at most the wanted bytes, and appends what comes.
@@ -78,6 +82,8 @@ impl Body {
         ensures lost { OnErr result (Keeps (R.remaining source.old) (R.remaining source.new)) }
         ensures only { IfErr result IsOutside }
         ensures failures { FailsAs (R.failures source.old) (R.failures source.new) result }
+        ensures few { OnOk result (vec_capacity self.new.list
+            ≤ max (vec_capacity self.old.list) (2 * length (body_bytes self.new) + MAX_CLEARED)) }
     {
         self.make_place(wanted)?;
         let room = (self.list.len() - self.len).min(wanted);
@@ -86,13 +92,14 @@ impl Body {
         Ok(count)
     }
 
-    // Takes a buffer to read over, where no byte came and it is longer than the one that is there.
+    // Takes a buffer to read over, if no byte came and it has more room than the one that is there.
     pub fn reuse(&mut self, list: Vec<u8>)
         ensures came { body_bytes self.new ≡ body_bytes self.old }
-        ensures kept { KeepsOne (vec_capacity self.old.list) (vec_capacity self.new.list)
-            (vec_capacity list) }
+        ensures kept { KeepsOne
+            ((body_bytes self.old ≡ []) × (vec_capacity self.old.list < vec_capacity list))
+            (vec_capacity self.old.list) (vec_capacity self.new.list) (vec_capacity list) }
     {
-        if self.len == 0 && self.list.len() < list.len() {
+        if self.len == 0 && self.list.capacity() < list.capacity() {
             self.list = list;
         }
     }

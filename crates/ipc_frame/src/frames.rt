@@ -59,15 +59,15 @@ fn finish_step(
 /// Splits a stream, whose bytes arrive in pieces of any length, into its messages (Arrow Columnar
 /// Format, "Encapsulated message format" and "IPC Streaming Format").
 ///
-/// Bytes are pushed by `feed` or pulled by `feed_from`, and the two may be mixed. It keeps the
-/// bytes of the current message that came. A buffer that was passed to `reuse` may have further
-/// bytes after them, which are never read. The code reads metadata once when it is complete, and
-/// once more with the complete body, whose buffer becomes that of the message.
+/// Bytes are pushed by `feed` or pulled by `feed_from`, and the two may be mixed. The bytes of the
+/// current message that came are kept in two buffers: one for its metadata and one for its body,
+/// which become those of the message.
 ///
-/// Buffers grow as bytes come, not by what a message states: the code takes at most twice the bytes
-/// that came, and 64 KiB, or the buffer that was passed to `reuse`. The first eight bytes of a
-/// message take no memory. Between two messages only a buffer that was passed to `reuse` is kept.
-/// No buffer is kept after the end-of-stream mark, after a refusal, or after `close`.
+/// The buffers grow as bytes come, whatever lengths the message states. After each call, each of
+/// them has room for at most twice the bytes of the message that came, and 64 KiB, or for what it
+/// had room for before. The first eight bytes of a message take no memory. Between two messages
+/// only a buffer that was passed to `reuse` is kept. No buffer is kept after the end-of-stream
+/// mark, after a refusal, or after `close`.
 ///
 /// After a refusal each call returns F35 (`Failed`) and takes no bytes.
 #[derive(Drop)]
@@ -97,10 +97,10 @@ impl Frames {
     ghost use Rattle.std.specs.Prelude.{◌≡◌, ◌≤◌, ◌+◌, [], IfErr, IfSome, MatchResult, OnOk};
     ghost use Rattle.std.specs.Prelude.{vec_capacity};
     ghost use Rattle.ipc_frame.specs.Bodies.{KeepsOne};
-    ghost use Rattle.ipc_frame.specs.Parts.{no_capacity};
+    ghost use Rattle.ipc_frame.specs.Parts.{GrowsWithBytes, no_capacity};
     ghost use Rattle.ipc_frame.specs.Pulled.{FailsWhile, TakesFromSource};
-    ghost use Rattle.ipc_frame.specs.Pieces.{Closes, Feeds, DropsLists, TakesMemory, Wants};
-    ghost use Rattle.ipc_frame.specs.Pieces.{held_of, taking};
+    ghost use Rattle.ipc_frame.specs.Pieces.{Closes, Feeds, DropsLists, TakesBuffer, TakesMemory};
+    ghost use Rattle.ipc_frame.specs.Pieces.{Wants, held_of, taking};
 
     /// Starts at the beginning of a stream. All that it accepts, in each call, is within `limits`.
     pub fn new(alloc: Global, limits: Limits) -> Frames
@@ -140,6 +140,8 @@ impl Frames {
             (λ _. self.new.room ≡ no_capacity))
             (λ _. self.new.room ≡ no_capacity) }
         ensures let_go { DropsLists self.new.progress self.new.room }
+        // Buffers grow as bytes come, whatever the message states.
+        ensures grown { GrowsWithBytes self.old.room self.new.room (held_of self.new.progress) }
         // Memory runs out only after the first eight bytes of a message, and not at the mark.
         ensures memory { IfErr result (λ fault. fault ≡ Fault.OutOfMemory
             → TakesMemory self.old.limits self.old.progress piece.now) }
@@ -183,6 +185,8 @@ impl Frames {
             (λ _. self.new.room ≡ no_capacity))
             (λ _. self.new.room ≡ no_capacity) }
         ensures let_go { DropsLists self.new.progress self.new.room }
+        // Buffers grow as bytes come, whatever the message states.
+        ensures grown { GrowsWithBytes self.old.room self.new.room (held_of self.new.progress) }
         // Memory runs out only after the first eight bytes of a message, and not at the mark.
         ensures memory { IfErr result.1 (λ fault. fault ≡ Fault.OutOfMemory
             → TakesMemory self.old.limits self.old.progress []) }
@@ -207,14 +211,15 @@ impl Frames {
     /// Offers a buffer for the next body, so that no memory of its length is allocated and cleared.
     /// Its contents are never read.
     ///
-    /// One buffer is kept: this one, or the one that was kept before. The code drops this one if
-    /// bytes of a body already came, or if the other is at least as long; no clause says which.
-    /// None is kept after the end-of-stream mark, and after a refusal.
+    /// One buffer is kept: the one with more room, this one or the one that was kept before. This
+    /// one is dropped if bytes of a body already came. None is kept after the end-of-stream mark,
+    /// and after a refusal.
     pub fn reuse(&mut self, list: Vec<u8>)
         ensures progress { self.new.progress ≡ self.old.progress }
         ensures limits { self.new.limits ≡ self.old.limits }
         // One buffer is kept for the next body: this one, or the one that was kept before.
-        ensures kept { KeepsOne self.old.room.body self.new.room.body (vec_capacity list) }
+        ensures kept { KeepsOne (TakesBuffer self.old.limits self.old.progress self.old.room.body
+            (vec_capacity list)) self.old.room.body self.new.room.body (vec_capacity list) }
         ensures metadata { self.new.room.metadata ≡ self.old.room.metadata }
         ensures let_go { DropsLists self.new.progress self.new.room }
     {
@@ -240,8 +245,8 @@ impl Frames {
     /// Returns the number of bytes of the current message that came. It never fails and takes no
     /// memory.
     ///
-    /// The bytes of a buffer that was passed to `reuse` are not counted: they belong to no message,
-    /// and the next body is read over them. `reuse` keeps at most one buffer.
+    /// The room of the buffers is not counted: neither room for later bytes, nor a buffer that was
+    /// passed to `reuse`, over whose bytes the next body is read.
     pub fn held(&self) -> usize
         ensures came { result ≡ held_of self.now.progress }
         // The mark and the size have 8 bytes, and the limits bound the metadata and the body.

@@ -10,6 +10,7 @@ pub mod laws;
 mod message_prefix;
 mod partial_message;
 mod pull;
+mod room;
 mod step;
 mod write;
 

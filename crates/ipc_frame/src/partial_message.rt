@@ -1,10 +1,11 @@
 ghost use Rattle.std.specs.Prelude.{◌≡◌, ◌≤◌, ◌++◌, [], length, OnErr, OnOk};
 ghost use Rattle.ipc_frame.specs.Bodies.{body_bytes};
 ghost use Rattle.ipc_frame.specs.Parts.{FitsExpectation, HasSize, received_bytes, no_capacity};
-ghost use Rattle.ipc_frame.specs.Parts.{capacity_of, bytes_needed};
+ghost use Rattle.ipc_frame.specs.Parts.{GrowsWithBytes, capacity_of, bytes_needed};
 
 use crate::body::Body;
 use crate::message_prefix::MessagePrefix;
+use crate::room::append;
 use ipc_model::Limits;
 use std::alloc::{AllocError, Global};
 
@@ -68,13 +69,15 @@ pub fn extend(
     ensures fits { OnOk result (FitsExpectation limits.now parts.new expectation) }
     ensures bytes { OnOk result (received_bytes parts.new ≡ received_bytes parts.old ++ bytes.now) }
     ensures memory { OnErr result (HasSize expectation) }
+    ensures room { OnOk result (GrowsWithBytes (capacity_of parts.old) (capacity_of parts.new)
+        (length (received_bytes parts.new))) }
 {
     match expectation {
         Expectation::Continuation | Expectation::Size => {
             parts.start.extend(bytes);
             Ok(())
         }
-        Expectation::Metadata(_) => parts.meta.extend_from_slice(bytes),
+        Expectation::Metadata(_) => append(&mut parts.meta, bytes),
         Expectation::Body(_) => parts.body.extend(bytes),
     }
 }

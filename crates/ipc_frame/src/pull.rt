@@ -3,17 +3,15 @@ ghost use Rattle.std.specs.Prelude.{IfOk, IfErr, OnOk, OnErr};
 ghost use Rattle.std.specs.Io.KnownBytes.{Keeps};
 ghost use Rattle.ipc_frame.specs.Failures.{FailsAs, IsOutside};
 ghost use Rattle.ipc_frame.specs.Parts.{FitsExpectation, HasSize, Undecided, received_bytes};
-ghost use Rattle.ipc_frame.specs.Parts.{bytes_needed};
+ghost use Rattle.ipc_frame.specs.Parts.{GrowsWithBytes, bytes_needed, capacity_of};
 ghost use Rattle.ipc_frame.specs.Pulled.{Behind, Comes, ReadsOn};
 
 use crate::partial_message::{Expectation, PartialMessage, bytes_needed};
+use crate::room::{MAX_CLEARED, check_capacity, make_room};
 use crate::step::{MessageStep, conclude};
 use ipc_device::Source;
 use ipc_model::{Fault, Limits};
-use std::alloc::{AllocError, Global};
-
-// For how many bytes room is made and cleared at most at once, where few came.
-pub const MAX_CLEARED: usize = 65_536;
+use std::alloc::Global;
 
 // Calls the source once, for at most `room` bytes, which overwrite those after the first `start`
 // bytes.
@@ -40,21 +38,6 @@ pub fn read_after<R: Source>(
     }
 }
 
-// Makes space after the contents of a full buffer, for some of the wanted bytes: its length or one
-// piece, whichever is more.
-pub fn make_room(list: &mut Vec<u8>, wanted: usize) -> Result<(), AllocError>
-    requires { 0 < wanted }
-    ensures room { OnOk result (vec_len list.new < vec_capacity list.new) }
-    ensures items { list.new.items ≡ list.old.items }
-    ensures few { OnOk result (vec_capacity list.new
-        ≤ max (vec_capacity list.old) (2 * vec_len list.old + MAX_CLEARED)) }
-{
-    if list.len() == list.capacity() {
-        list.reserve_exact(wanted.min(list.len().max(MAX_CLEARED)))?;
-    }
-    Ok(())
-}
-
 // Calls the source once, for at most the wanted bytes, and appends what comes to the buffer.
 fn read_appending<R: Source>(
     source: &mut R,
@@ -68,11 +51,15 @@ fn read_appending<R: Source>(
     ensures lost { OnErr result (Keeps (R.remaining source.old) (R.remaining source.new)) }
     ensures only { IfErr result IsOutside }
     ensures failures { FailsAs (R.failures source.old) (R.failures source.new) result }
+    ensures few { OnOk result (vec_capacity list.new
+        ≤ max (vec_capacity list.old) (2 * vec_len list.new + MAX_CLEARED)) }
 {
     make_room(list, wanted)?;
     let start = list.len();
-    let room = (list.capacity() - start).min(MAX_CLEARED).min(wanted);
+    let capacity = list.capacity();
+    let room = (capacity - start).min(MAX_CLEARED).min(wanted);
     list.resize(start + room, 0)?;
+    check_capacity(list, capacity)?;
     let count = read_after(source, list, start, room)?;
     list.truncate(start + count);
     Ok(count)
@@ -95,6 +82,8 @@ fn read_part<R: Source>(
     ensures only { IfErr result IsOutside }
     ensures failures { FailsAs (R.failures source.old) (R.failures source.new) result }
     ensures memory { IfErr result (λ fault. fault ≡ Fault.OutOfMemory → HasSize expectation) }
+    ensures room { OnOk result (GrowsWithBytes (capacity_of parts.old) (capacity_of parts.new)
+        (length (received_bytes parts.new))) }
 {
     let wants = bytes_needed(limits, parts, expectation);
     match expectation {
@@ -120,6 +109,8 @@ pub fn read_on<R: Source>(
     ensures fewer { OnOk result.1 ((R.bound source.new + result.0) ≤ R.bound source.old) }
     ensures failures { FailsAs (R.failures source.old) (R.failures source.new) result.1 }
     ensures memory { IfErr result.1 (λ fault. fault ≡ Fault.OutOfMemory → HasSize expectation) }
+    ensures room { OnOk result.1 (GrowsWithBytes (capacity_of parts.old) (capacity_of parts.new)
+        (length (received_bytes parts.new))) }
 {
     match read_part(limits, source, parts, expectation) {
         Ok(count) => (count, conclude(alloc, limits, parts, expectation)),

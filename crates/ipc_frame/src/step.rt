@@ -1,6 +1,7 @@
-ghost use Rattle.std.specs.Prelude.{◌≡◌, ◌++◌, IfErr};
+ghost use Rattle.std.specs.Prelude.{◌≡◌, ◌++◌, length, IfErr, OnOk};
 ghost use Rattle.ipc_frame.specs.Frames.{IsSized};
-ghost use Rattle.ipc_frame.specs.Parts.{FitsExpectation, HasSize, Undecided, received_bytes};
+ghost use Rattle.ipc_frame.specs.Parts.{FitsExpectation, GrowsWithBytes, HasSize, Undecided};
+ghost use Rattle.ipc_frame.specs.Parts.{capacity_of, received_bytes};
 ghost use Rattle.ipc_frame.specs.Steps.{Concludes, FeedsOn};
 
 use crate::body::Body;
@@ -30,6 +31,8 @@ pub fn conclude(
     requires { FitsExpectation limits.now parts.old expectation }
     ensures concludes { Concludes limits.now (received_bytes parts.old) parts.new result }
     ensures memory { IfErr result (λ fault. fault ≡ Fault.OutOfMemory → HasSize expectation) }
+    ensures room { OnOk result (GrowsWithBytes (capacity_of parts.old) (capacity_of parts.new)
+        (length (received_bytes parts.new))) }
 {
     match decide(alloc, limits, parts, expectation)? {
         Decision::More(expectation) => Ok(MessageStep::More(expectation)),
@@ -60,6 +63,8 @@ pub fn feed_on(
         result.1 }
     ensures memory { IfErr result.1 (λ fault. fault ≡ Fault.OutOfMemory
         → IsSized limits.now (received_bytes parts.old ++ piece.now)) }
+    ensures room { OnOk result.1 (GrowsWithBytes (capacity_of parts.old) (capacity_of parts.new)
+        (length (received_bytes parts.new))) }
 {
     let mut expectation = expectation;
     let mut taken = 0;

@@ -1,3 +1,4 @@
+pub mod Rooms
 pub mod Runs
 pub mod Dictionaries
 pub mod Scoped

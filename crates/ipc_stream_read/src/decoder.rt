@@ -17,9 +17,10 @@ use std::marker::Model;
 /// the bytes of the current message that came. The body of a record batch becomes that of the
 /// batch. The body of a dictionary batch is kept while its dictionary is in force.
 ///
-/// The code reads metadata once when it is complete, and once more with the complete body, for any
-/// size of the pieces. Buffers grow as bytes come, not by what a message states. Pass a batch that
-/// is no longer needed to `reuse`.
+/// Buffers grow as bytes come, whatever lengths a message states. After each call, the buffers for
+/// the metadata and for the body each have room for at most twice the bytes of the message that
+/// came, and 64 KiB, or for what they had room for before. Pass a batch that is no longer needed to
+/// `reuse`.
 ///
 /// After a refusal each call returns `Failed` (F35) and takes no bytes; earlier events remain
 /// valid. After the end-of-stream mark, or after a `close` that returned `Ok`, no bytes are taken
@@ -50,7 +51,7 @@ impl Model for Decoder {
 impl Decoder {
     ghost use Rattle.std.specs.Prelude.{◌≡◌, ◌≤◌, ◌+◌, [], None, IfOk, IfSome, MatchResult, OnOk};
     ghost use Rattle.std.specs.Prelude.{option_copied};
-    ghost use Rattle.ipc_frame.specs.Parts.{no_capacity};
+    ghost use Rattle.ipc_frame.specs.Parts.{GrowsWithBytes, no_capacity};
     ghost use Rattle.ipc_stream_read.specs.Decoding.{ClosesAt, Draws, FailsWhile, Feeds};
     ghost use Rattle.ipc_stream_read.specs.Decoding.{HasColumns, DropsLists, Wants, held_of};
     ghost use Rattle.ipc_stream_read.specs.Decoding.{kept_bytes, schema_of, taking};
@@ -104,6 +105,8 @@ impl Decoder {
         ensures moved { MatchResult result (λ found. IfSome found.1
             (λ _. self.new.room ≡ no_capacity))
             (λ _. self.new.room ≡ no_capacity) }
+        // Buffers grow as bytes come, whatever the message states.
+        ensures grown { GrowsWithBytes self.old.room self.new.room (kept_bytes self.new.stage) }
     {
         let mut taken = 0;
         loop {
@@ -125,6 +128,7 @@ impl Decoder {
         ensures moved { MatchResult result (λ fed. ForReported fed.1
             (λ _. self.new.room ≡ no_capacity))
             (λ _. self.new.room ≡ no_capacity) }
+        ensures grown { GrowsWithBytes self.old.room self.new.room (kept_bytes self.new.stage) }
     {
         match self.stream.phase {
             StreamPhase::Refused => Err(Fault::Failed),
@@ -163,6 +167,8 @@ impl Decoder {
         ensures moved { MatchResult result.1 (λ found. IfSome found
             (λ _. self.new.room ≡ no_capacity))
             (λ _. self.new.room ≡ no_capacity) }
+        // Buffers grow as bytes come, whatever the message states.
+        ensures grown { GrowsWithBytes self.old.room self.new.room (kept_bytes self.new.stage) }
     {
         match self.stream.phase {
             StreamPhase::Refused => (0, Err(Fault::Failed)),

@@ -3,11 +3,12 @@
 
 use crate::scripts::{Step, played, stream_of};
 use crate::tables::{A, B, Column, NUMBERS, empty};
+use ipc_device::Retry;
 use ipc_model::{Limits, Table, WriteFault};
 use ipc_stream::{Device, Limited, Sink, Source, write_table};
 use std::alloc::{AllocError, Global};
 use std::io;
-use std::io::{Read, Write};
+use std::io::{ErrorKind, Read, Write};
 use std::test::Fail;
 
 // A column, and the steps of a writer.
@@ -283,5 +284,80 @@ fn readers_and_writers_of_std(rt: HostRuntime) -> Result<(), Fail> {
     for writer in WRITERS {
         assert!(rt; device_has(rt.alloc(), writer, &whole)?);
     }
+    Ok(())
+}
+
+// A reader and writer of std that fails with this kind of error at its first calls. A read of it is
+// at its end.
+#[derive(Drop)]
+struct Moody {
+    kind: ErrorKind,
+    failures: u32,
+}
+
+impl Moody {
+    fn answer(&mut self) -> io::Result<()> {
+        if self.failures == 0 {
+            return Ok(());
+        }
+        self.failures -= 1;
+        Err(io::Error::from(self.kind))
+    }
+}
+
+impl Read for Moody {
+    fn read(&mut self, _into: &mut [u8]) -> io::Result<usize> {
+        self.answer()?;
+        Ok(0)
+    }
+}
+
+impl Write for Moody {
+    fn write(&mut self, bytes: &[u8]) -> io::Result<usize> {
+        self.answer()?;
+        Ok(bytes.len())
+    }
+
+    fn flush(&mut self) -> io::Result<()> {
+        self.answer()
+    }
+}
+
+fn failure<T: Drop>(answer: io::Result<T>) -> Option<ErrorKind> {
+    match answer {
+        Ok(_) => None,
+        Err(error) => Some(error.kind()),
+    }
+}
+
+// The errors of a read, a write and a flush, where each reader and writer fails so often at first.
+fn failures_of(kind: ErrorKind, failures: u32) -> [Option<ErrorKind>; 3] {
+    let mut bytes = [0; 4];
+    [
+        failure(Retry::new(Moody { kind, failures }).read(&mut bytes)),
+        failure(Retry::new(Moody { kind, failures }).write(&bytes)),
+        failure(Retry::new(Moody { kind, failures }).flush()),
+    ]
+}
+
+// A call that a signal interrupts is repeated, and any other error is returned at once.
+#[test]
+fn interrupted_calls(rt: HostRuntime) -> Result<(), Fail> {
+    assert!(rt; failures_of(ErrorKind::Interrupted, 5) == [None; 3]);
+    for kind in [ErrorKind::Other, ErrorKind::WouldBlock, ErrorKind::BrokenPipe] {
+        assert!(rt; failures_of(kind, 1) == [Some(kind); 3]);
+    }
+    Ok(())
+}
+
+// A reader at its end has not failed.
+#[test]
+fn reader_at_its_end(rt: HostRuntime) -> Result<(), Fail> {
+    let mut device = Device::new(Moody {
+        kind: ErrorKind::Other,
+        failures: 0,
+    });
+    let mut bytes = [0; 4];
+    assert!(rt; device.read(&mut bytes) == Ok(0) && device.read(&mut bytes) == Ok(0));
     Ok(())
 }

@@ -4,6 +4,7 @@ use Rattle.ipc_model.specs.declared.fault.Fault.TheVariants.{OutOfMemory}
 use Rattle.ipc_frame.specs.Parts.{HasSize, received_bytes}
 use Rattle.ipc_frame.specs.Pieces.{IsSound}
 use Rattle.ipc_frame.proofs.Fed.{finished_err}
+use Rattle.ipc_frame.proofs.Grown.{grows_finished}
 use Rattle.ipc_frame.proofs.Sized.{sized_alone, sized_at}
 use Rattle.ipc_frame.proofs.Pulls.{sound_read, takes_finished}
 use Rattle.ipc_frame.proofs.frames.Frames.feed_from.Goals as goal
@@ -29,3 +30,9 @@ returns-in-Reading-clause-memory g c =
     (λ fault memory is. sized_alone _ (sized (memory is) undecided.fits))
     (finished_err (λ fault. fault ≡ OutOfMemory → HasSize c.in-Reading.expectation) _ _ _ c.read_on-count.result.1 _
     c.finish_step-result.ensures c.read_on-count.ensures.memory))
+
+pub returns-in-Reading-clause-grown : goal.returns-in-Reading-clause-grown
+returns-in-Reading-clause-grown g c =
+    rw (← c.self.view_is)
+    (grows_finished c.self.inside.limits _ c.read_on-count.new.parts _ _ c.read_on-count.result.1 c.finish_step-result.result
+    c.read_on-count.ensures.room (invariant_of-self g c) c.finish_step-result.ensures)

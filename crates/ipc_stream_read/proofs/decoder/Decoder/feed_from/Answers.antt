@@ -1,5 +1,7 @@
-use Rattle.std.proofs.Common.{refl, ap, ◌∙◌, Ok}
+use Rattle.std.proofs.Common.{refl, ap, subst, ◌∙◌, Ok}
+use Rattle.ipc_frame.proofs.Grown.{grows_none, grows_same}
 use Rattle.ipc_stream_read.proofs.Decoders.{draws_none, draws_refused, draws_frame, draws_frame_refused}
+use Rattle.ipc_stream_read.proofs.Rooms.{LeavesNone, grows_here}
 use Rattle.ipc_stream_read.proofs.decoder.Decoder.feed_from.Goals as goal
 use Rattle.ipc_stream_read.proofs.decoder.Decoder.feed_from.Goals.{in-Ok, in-Err-accept}
 
@@ -26,3 +28,23 @@ returns-after-accept-clause-drawn g c = elim c.match-accept.branch [
       w.in-Err-accept.ensures.brings
       w.in-Err-accept.ensures.moves w.in-Err-accept.ensures.memory)
 ]
+
+pub returns-in-Refused-clause-grown : goal.returns-in-Refused-clause-grown
+returns-in-Refused-clause-grown g c = grows_same _ _
+
+pub returns-in-Ended-clause-grown : goal.returns-in-Ended-clause-grown
+returns-in-Ended-clause-grown g c = grows_same _ _
+
+pub returns-in-Err-clause-grown : goal.returns-in-Err-clause-grown
+returns-in-Err-clause-grown g c =
+    grows_none _ _ _ (subst (LeavesNone c.feed_from-count.new.self.room) c.in-Err.is c.feed_from-count.ensures.moved)
+
+pub returns-in-Ok-None-clause-grown : goal.returns-in-Ok-None-clause-grown
+returns-in-Ok-None-clause-grown g c =
+    rw (← c.self.view_is)
+    (grows_here c.self.inside.frames c.feed_from-count.new.self c.self.inside.stream c.in-Reading.is c.feed_from-count.ensures.grown)
+
+pub returns-after-accept-clause-grown : goal.returns-after-accept-clause-grown
+returns-after-accept-clause-grown g c =
+    grows_none _ _ _ (subst (LeavesNone c.feed_from-count.new.self.room) (c.in-Ok-Some.is ∙ ap Ok c.in-Ok-Some.field-0-is)
+    c.feed_from-count.ensures.moved)
