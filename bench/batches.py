@@ -1,5 +1,6 @@
 #!/usr/bin/env python3
-"""Measures a stream of many batches of one row of four numbers: the processor's seconds of each job.
+"""Measures a stream of many batches of one row of four numbers: the seconds of a processor that each
+job takes.
 
     bench/batches.py [BATCHES] [PROGRAM]    # a million and the built program by default
 """
