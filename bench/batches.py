@@ -1,6 +1,6 @@
 #!/usr/bin/env python3
-"""Measures a stream of many batches of one row of four numbers: the seconds of a processor that each
-job takes.
+"""Measures the jobs on a stream of many batches of one row of four numbers: the seconds of a
+processor that each takes.
 
     bench/batches.py [BATCHES] [PROGRAM]    # a million and the built program by default
 """
