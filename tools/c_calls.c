@@ -177,6 +177,7 @@ static void read_column(arrowstream_batch *batch, uint64_t *path, size_t steps, 
 
 static void read_batch(arrowstream_batch *batch, answer *all) {
     uint64_t path[MOST_STEPS];
+    size_t wanted = 0;
     arrowstream_column column = {.size = sizeof column};
     copied pairs = text_of(NULL, NULL, batch, arrowstream_batch_pairs, ARROWSTREAM_OK);
     mix(all, pairs.bytes, pairs.count);
@@ -185,6 +186,8 @@ static void read_batch(arrowstream_batch *batch, answer *all) {
         read_column(batch, path, 1, all);
     is_done(arrowstream_batch_column(batch, path, 1, &column), ARROWSTREAM_ABSENT);
     is_done(arrowstream_batch_column(batch, NULL, 0, &column), ARROWSTREAM_ABSENT);
+    is_done(arrowstream_batch_buffer(batch, NULL, 0, ARROWSTREAM_BUFFER_VALUES, NULL, 0, &wanted),
+            ARROWSTREAM_ABSENT);
     column.size--;
     is_done(arrowstream_batch_column(batch, NULL, 0, &column), ARROWSTREAM_MISUSE);
     all->rows += arrowstream_batch_rows(batch);
@@ -272,6 +275,7 @@ static uint32_t read_stream(const uint8_t *bytes, size_t count, size_t piece, in
         uint64_t path[MOST_STEPS];
         schema = text_of(reader, arrowstream_reader_schema, NULL, NULL, ARROWSTREAM_OK);
         read_field(reader, path, 0, &all);
+        read_field_text(reader, NULL, 0, ARROWSTREAM_FIELD_FORMAT, 0, ARROWSTREAM_OK, &all);
     }
     arrowstream_reader_free(reader);
     if (last) {

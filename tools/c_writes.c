@@ -58,7 +58,7 @@ static const char schema[] = "{\"fields\":["
     FIELD("g", "\"struct\"", "true", "1", "null") ","
     FIELD("member", "\"int\",32", "true", "0", "null") "],\"metadata\":[]}";
 
-/* A call by its letter, what it is given, and what it answers. */
+/* A call by its letter, what it is given, and what it answers. An empty text is given as NULL. */
 typedef struct {
     char call;
     uint32_t status;
@@ -80,9 +80,13 @@ static const step steps[] = {
     {'D', ARROWSTREAM_MISUSE, 0, NULL, NULL},
     {'S', ARROWSTREAM_TEXT + 6, 0, "{\"fields\":[]", "X6 BadSchemaJson"},
     {'S', ARROWSTREAM_TEXT + 6, 0, "\xff", "X6 BadSchemaJson"},
+    {'S', ARROWSTREAM_TEXT + 6, 0, "", "X6 BadSchemaJson"},
     {'S', ARROWSTREAM_OK, 0, schema, NULL},
     {'S', ARROWSTREAM_MISUSE, 0, schema, NULL},
     {'e', ARROWSTREAM_MISUSE, 0, NULL, "call out of order"},
+    {'t', ARROWSTREAM_OK, 0, "", NULL},
+    {'x', ARROWSTREAM_OK, 0, "", NULL},
+    {'d', ARROWSTREAM_OK, 0, NULL, NULL},
     ROW(8, "Ulm"),
     {'r', ARROWSTREAM_OK, 0, NULL, NULL},
     {'p', ARROWSTREAM_OK, 0, "gone", NULL},
@@ -163,7 +167,10 @@ static int is_line_lost(arrowstream_writer *writer, const char *line, size_t at)
     uint8_t text[64];
     size_t wanted = 0;
     memset(text, FILL, sizeof text);
-    uint32_t status = arrowstream_writer_line(writer, text, 3, &wanted);
+    uint32_t status = arrowstream_writer_line(writer, NULL, 0, &wanted);
+    if (status == ARROWSTREAM_OUT_OF_MEMORY) return 1;
+    if (status != ARROWSTREAM_OK || wanted != strlen(line)) stop("another size of a line", at);
+    status = arrowstream_writer_line(writer, text, 3, &wanted);
     if (status == ARROWSTREAM_OUT_OF_MEMORY) return 1;
     if (status != ARROWSTREAM_OK || wanted != strlen(line) || text[0] != FILL)
         stop("a line cut", at);
@@ -191,9 +198,8 @@ static void take(arrowstream_writer *writer, int writes) {
 /* Makes all calls, and takes what the first batch made. Returns whether memory ran out. */
 static int run(arrowstream_writer *writer, int writes) {
     int lost = 0;
-    uint8_t none = 0;
     size_t wanted = 1;
-    if (arrowstream_writer_line(writer, &none, 0, &wanted) != ARROWSTREAM_ABSENT || wanted != 0)
+    if (arrowstream_writer_line(writer, NULL, 0, &wanted) != ARROWSTREAM_ABSENT || wanted != 0)
         stop("a line without an error", 0);
     for (size_t at = 0; at < sizeof steps / sizeof *steps; at++) {
         uint32_t status = make(writer, &steps[at]);
