@@ -1,8 +1,6 @@
 //! Rows taken one at a time, byte for byte and up to a limit, of lists and structs too.
 use crate::lists::over;
-use ipc_encode::{
-    BufferPool, Builder, NoIndices, Renumber, SameNumbers, Segment, SegmentedParts,
-};
+use ipc_encode::{BufferPool, Builder, NoIndices, Renumber, SameNumbers, Segment, SegmentedParts};
 use ipc_model::{DataType, DateUnit, Field, IntBits, Items, Limits, Row, Value, WriteFault};
 use std::alloc::{AllocError, Global};
 use std::test::Fail;

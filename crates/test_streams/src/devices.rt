@@ -344,7 +344,11 @@ fn failures_of(kind: ErrorKind, failures: u32) -> [Option<ErrorKind>; 3] {
 #[test]
 fn interrupted_calls(rt: HostRuntime) -> Result<(), Fail> {
     assert!(rt; failures_of(ErrorKind::Interrupted, 5) == [None; 3]);
-    for kind in [ErrorKind::Other, ErrorKind::WouldBlock, ErrorKind::BrokenPipe] {
+    for kind in [
+        ErrorKind::Other,
+        ErrorKind::WouldBlock,
+        ErrorKind::BrokenPipe,
+    ] {
         assert!(rt; failures_of(kind, 1) == [Some(kind); 3]);
     }
     Ok(())
