@@ -40,7 +40,7 @@ within_none : (most : Option ℕ) → IsWithin most 0
 within_none None = tt
 within_none (Some n) = omega arith
 
--- these batches were read behind the schema, and sent; they are so many, with so many rows
+-- these batches were read after the schema, and sent; `count` is their number, and `rows` that of their rows
 pub record Copied (options : RewriteOptions) (count rows : ℕ) (old now : Reader) (before after : Writer) : Type 0 where
   pub x : List ℕ
   pub batches : List BatchRows
@@ -130,7 +130,7 @@ all_last : {X : Type 0} (P : X → Type 0) (xs : List X) (x : X) → AllByRecurs
 all_last P [] x all one = (one, tt)
 all_last P (y ∷ ys) x all one = (all.0, all_last P ys x all.1 one)
 
--- a run of so many messages
+-- a run of `n` messages
 abbrev Counted : Limits → State → List ℕ → List Event → State → ℕ → Type 0
 Counted limits σ x es τ n = (r : Run limits σ x es τ) × (messages_in r ≡ n)
 

@@ -101,7 +101,7 @@ module _ {limits : Limits} (options : RewriteOptions) (start : Option (List ℕ)
     reads = reads_after None (Some (in_force_of s)) o.x r.x t.remaining (schema s.schema ∷ []) (map batch r.batches) answer o.run
         (subst (λ l. Reads l (Some (in_force_of s)) r.x t.remaining (map batch r.batches) answer) o.same_limits r.reads)
 
-    -- so much was read behind the schema, by so many messages
+    -- what was read after the schema, and the number of its messages
     abbrev ReadsBehind : Limits → InForce → Type 0
     ReadsBehind l i = (q : Reads l (Some i) r.x t.remaining (map batch r.batches) answer) × (messages_in q.run ≡ messages_in r.reads.run)
 

@@ -6,7 +6,7 @@ use Rattle.job_rewrite.specs.declared.options.RewriteOptions.{RewriteOptions}
 use Rattle.job_rewrite.specs.declared.options.Total.{Total}
 use Rattle.job_rewrite.specs.declared.options.Total.TheVariants.{Batches, Rows}
 
--- so many are at most the greatest number, if there is one
+-- the number is at most the maximum, if there is one
 abbrev pub IsWithin : Option ℕ → ℕ → Type 0
 IsWithin None count = ⊤
 IsWithin (Some most) count = count ≤ most

@@ -29,7 +29,8 @@ pub enum Total {
     Rows,
 }
 
-// Whether so many more are above a greatest number, if there is one. A count stops at 2^64 - 1.
+// Whether `count` and `more` together are above a maximum, if there is one. A count saturates at
+// 2^64 - 1.
 fn is_above(most: Option<u64>, count: u64, more: u64) -> bool
     ensures above { (done : ℕ) → count ≡ count_up 0 done → IsWithin most done → IsTrue result
         → IsWithin most (done + more) → ⊥ }
@@ -43,8 +44,8 @@ fn is_above(most: Option<u64>, count: u64, more: u64) -> bool
 }
 
 impl RewriteOptions {
-    // The total that a batch of so many rows would exceed, after so many batches and rows. A count
-    // stops at 2^64 - 1.
+    // The total that a batch of `more` rows would exceed, after `batches` batches with `rows` rows.
+    // A count saturates at 2^64 - 1.
     pub(crate) fn total_above(self, batches: u64, rows: u64, more: u64) -> Option<Total>
         ensures above { IfSome result (λ total. (done : List BatchRows) (last : BatchRows)
             → batches ≡ count_up 0 (length done) → rows ≡ count_up 0 (all_rows done)
