@@ -37,7 +37,7 @@ int main() {
     place += 8;
     if (size == 0) break;
     if (size > stream.size() - place) return refused("metadata is cut short", messages);
-    // The verifier looks at alignment too, so the metadata goes where numbers of 64 bits may stand.
+    // The verifier checks alignment too, so the metadata is copied to a multiple of 8 bytes.
     std::vector<std::uint64_t> words((size + 7) / 8);
     std::copy_n(stream.begin() + place, size, reinterpret_cast<char*>(words.data()));
     flatbuffers::Verifier verifier(reinterpret_cast<const std::uint8_t*>(words.data()), size, 128);

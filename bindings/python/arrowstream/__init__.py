@@ -1,5 +1,5 @@
-"""Reads and writes Apache Arrow IPC streams by a library whose memory safety and answers are
-proved.
+"""Reads and writes Apache Arrow IPC streams by the library for C, whose calls have proved
+contracts.
 
     import arrowstream
 
