@@ -6,7 +6,9 @@
  *     c_writes growths    refuses each growth of memory in turn, and prints their number
  *
  * With a refused growth each call answers as without it, or that memory ran out; from then on the
- * writer has ended. The program is linked with --wrap=malloc and --wrap=realloc. */
+ * writer has ended. Where no call reports the growth, as of the list of memory that a batch leaves
+ * for the next one, the stream is the same. The program is linked with --wrap=malloc and
+ * --wrap=realloc. */
 #include "arrowstream.h"
 
 #include <stdio.h>
@@ -29,6 +31,9 @@ void *__wrap_realloc(void *block, size_t count);
 
 /* The growths that were asked for, and the one that is refused. */
 static unsigned long asked, refused;
+
+/* The checksum of the bytes that were taken (FNV-1a). */
+static uint64_t checksum;
 
 static int is_refused(void) { return ++asked == refused; }
 
@@ -189,6 +194,7 @@ static void take(arrowstream_writer *writer, int writes) {
         size_t count = arrowstream_writer_take(writer, bytes, PIECE);
         if (count != (ready < PIECE ? ready : PIECE)) stop("another count", ready);
         if (bytes[count] != FILL) stop("a byte past the end", ready);
+        for (size_t at = 0; at < count; at++) checksum = (checksum ^ bytes[at]) * 0x100000001b3;
         if (writes && fwrite(bytes, 1, count, stdout) != count) stop("no output", ready);
     }
     if (arrowstream_writer_take(writer, NULL, 0) != 0) stop("bytes of no room", 0);
@@ -303,9 +309,12 @@ int main(int count, char **words) {
     if (write_stream(!grows)) stop("out of memory without a refusal", 0);
     if (!grows) return 0;
     unsigned long all = asked;
+    uint64_t whole = checksum;
     for (refused = 1; refused <= all; refused++) {
         asked = 0;
-        if (!write_stream(0)) stop("a refused growth that no call reports", 0);
+        checksum = 0;
+        if (!write_stream(0) && checksum != whole)
+            stop("a refused growth that no call reports, and another stream", 0);
     }
     printf("%lu growths\n", all);
     return 0;
