@@ -132,12 +132,11 @@ int arrowstream_import_schema(arrowstream_writer *writer, const struct ArrowSche
                               arrowstream_message *message);
 
 /* Sends an array of the schema with which the stream began as one batch. The array may have an
- * offset, and its children too. The array remains. Rows and pairs that were not sent are sent with
- * it, the rows before its own.
+ * offset, and its children too. The array remains, and so do rows and pairs that were not sent.
  *
- * Fails with EINVAL, and sends nothing, if a row is null, an index is that of no value, a text is
- * not UTF-8, or the writer refuses a row or the batch (W2 to W8). Rows and pairs that were not sent
- * are dropped then, and the stream may go on. */
+ * Fails with EINVAL, and sends nothing, if a row is null, if the array is not of its schema, if a
+ * reader would refuse it as a batch of a stream (F28 to F34 of docs/FAULTS.md), or if the writer
+ * refuses it (W2 to W8). Then the stream may go on. */
 int arrowstream_import_batch(arrowstream_writer *writer, const struct ArrowSchema *schema,
                              const struct ArrowArray *array, arrowstream_message *message);
 

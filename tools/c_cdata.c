@@ -304,10 +304,66 @@ static uint8_t *bytes_of(const char *line, size_t *length) {
     return bytes;
 }
 
+/* ---- arrays that do not hold what their schema states ---------------------------------------- */
+
+/* Imports an array of one column, and prints the line of the error. */
+static void refuse_column(struct ArrowSchema *field, struct ArrowArray *column,
+                          const uint8_t *bitmap) {
+    const void *rows[] = {bitmap};
+    struct ArrowSchema schema = {.format = "+s", .n_children = 1, .children = &field};
+    struct ArrowArray array = {
+        .length = 3, .n_buffers = 1, .n_children = 1, .buffers = rows, .children = &column};
+    arrowstream_limits limits = {.size = sizeof limits};
+    arrowstream_writer *writer = NULL;
+    arrowstream_message message = {"sent"};
+    arrowstream_limits_standard(&limits);
+    arrowstream_writer_open(&limits, &writer);
+    need(writer && arrowstream_import_schema(writer, &schema, &message) == 0, "no schema");
+    int error = arrowstream_import_batch(writer, &schema, &array, &message);
+    need(error == 0 || error == EINVAL, "another error");
+    printf("%s\n", message.text);
+    need(arrowstream_writer_finish(writer) == ARROWSTREAM_OK, "the writer does not go on");
+    arrowstream_writer_free(writer);
+}
+
+static void refuse_texts(const int32_t *offsets, const char *data, int64_t length,
+                         const uint8_t *bitmap) {
+    const void *buffers[] = {NULL, offsets, data};
+    struct ArrowSchema field = {.format = "u", .name = "a"};
+    struct ArrowArray column = {.length = length, .n_buffers = 3, .buffers = buffers};
+    refuse_column(&field, &column, bitmap);
+}
+
+static void refuse_indices(const int8_t *indices, int64_t buffers) {
+    static const int32_t offsets[] = {0, 1, 2};
+    const void *pointers[] = {NULL, indices}, *texts[] = {NULL, offsets, "ab"};
+    struct ArrowSchema values = {.format = "u"},
+                       field = {.format = "c", .name = "a", .dictionary = &values};
+    struct ArrowArray entries = {.length = 2, .n_buffers = 3, .buffers = texts},
+                      column = {.length = 3, .n_buffers = buffers, .buffers = pointers,
+                                .dictionary = &entries};
+    refuse_column(&field, &column, NULL);
+}
+
+static void refuse_arrays(void) {
+    static const int32_t good[] = {0, 1, 2, 4}, descend[] = {0, 3, 1, 4}, end[] = {4, 4, 4, 1};
+    refuse_texts(good, "abcd", 3, NULL);
+    refuse_texts(descend, "abcd", 3, NULL);
+    refuse_texts(end, "abcd", 3, NULL);
+    refuse_texts(good, "ab\xff" "d", 3, NULL);
+    refuse_texts(good, "abcd", 2, NULL);
+    refuse_texts(good, "abcd", 3, (const uint8_t *)"\5");
+    refuse_indices((const int8_t[]){0, 1, 1}, 2);
+    refuse_indices((const int8_t[]){0, 2, 1}, 2);
+    refuse_indices((const int8_t[]){0, -1, 1}, 2);
+    refuse_indices((const int8_t[]){0, 1, 1}, 3);
+}
+
 int main(int count, char **words) {
     char *line = NULL;
     size_t room = 0, length = 0;
     need(count == 2, "a mode is wanted");
+    if (strcmp(words[1], "arrays") == 0) refuse_arrays();
     is_sliced = strcmp(words[1], "slices") == 0;
     while (getline(&line, &room, stdin) > 0) {
         uint8_t *bytes = bytes_of(line, &length);

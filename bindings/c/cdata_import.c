@@ -125,7 +125,7 @@ typedef struct {
 } text_buffer;
 
 static void put_bytes(text_buffer *text, const char *bytes, size_t length) {
-    if (text->failed) return;
+    if (text->failed || length == 0) return;
     if (text->room - text->used < length) {
         size_t room = 2 * (text->used + length) + 256;
         char *grown = realloc(text->bytes, room);
@@ -258,19 +258,24 @@ static int put_field(schema_text *to, const struct ArrowSchema *field, int is_fi
     return error;
 }
 
+/* The JSON of a schema. */
+static int put_schema(schema_text *to, const struct ArrowSchema *schema) {
+    if (strcmp(schema->format, "+s") != 0 || schema->dictionary)
+        return fail(to->message, EINVAL, "the schema is no struct of columns");
+    put(&to->text, "{\"fields\":[");
+    int error = 0;
+    for (int64_t i = 0; i < schema->n_children && !error; i++)
+        error = put_field(to, schema->children[i], i == 0);
+    put(&to->text, "],\"metadata\":");
+    put_pairs(&to->text, schema->metadata);
+    put(&to->text, "}");
+    return !error && to->text.failed ? fail(to->message, ENOMEM, "out of memory") : error;
+}
+
 int arrowstream_import_schema(arrowstream_writer *writer, const struct ArrowSchema *schema,
                               arrowstream_message *message) {
     schema_text to = {.message = message};
-    if (strcmp(schema->format, "+s") != 0 || schema->dictionary)
-        return fail(message, EINVAL, "the schema is no struct of columns");
-    put(&to.text, "{\"fields\":[");
-    int error = 0;
-    for (int64_t i = 0; i < schema->n_children && !error; i++)
-        error = put_field(&to, schema->children[i], i == 0);
-    put(&to.text, "],\"metadata\":");
-    put_pairs(&to.text, schema->metadata);
-    put(&to.text, "}");
-    if (!error && to.text.failed) error = fail(message, ENOMEM, "out of memory");
+    int error = put_schema(&to, schema);
     if (!error) {
         uint32_t status =
             arrowstream_writer_schema(writer, (const uint8_t *)to.text.bytes, to.text.used);
@@ -282,14 +287,51 @@ int arrowstream_import_schema(arrowstream_writer *writer, const struct ArrowSche
 
 /* ---- arrays ---------------------------------------------------------------------------------- */
 
+/* A record batch that is put together: the counts of its nodes, the ranges of its buffers, and its
+ * body. */
 typedef struct {
-    arrowstream_writer *writer;
+    text_buffer nodes, buffers, body;
     arrowstream_message *message;
-} cell_target;
+} batch_parts;
 
-/* The status of a call of the writer as an error. */
-static int checked(cell_target *to, uint32_t status) {
-    return status == ARROWSTREAM_OK ? 0 : refused(to->message, to->writer, status);
+static void free_parts(batch_parts *parts) {
+    free(parts->nodes.bytes);
+    free(parts->buffers.bytes);
+    free(parts->body.bytes);
+}
+
+static void put_pair(text_buffer *to, int64_t first, int64_t second) {
+    put_bytes(to, (const char *)&first, sizeof first);
+    put_bytes(to, (const char *)&second, sizeof second);
+}
+
+/* Ends the buffer that begins at `start` of the body: notes its range, and adds zeros up to a
+ * multiple of 8 bytes. */
+static void end_buffer(batch_parts *to, size_t start) {
+    static const char zeros[8];
+    put_pair(&to->buffers, (int64_t)start, (int64_t)(to->body.used - start));
+    put_bytes(&to->body, zeros, (8 - to->body.used % 8) % 8);
+}
+
+static void put_buffer(batch_parts *to, const uint8_t *bytes, size_t length) {
+    size_t start = to->body.used;
+    put_bytes(&to->body, (const char *)bytes, length);
+    end_buffer(to, start);
+}
+
+/* Puts these bits at the beginning of a byte, and returns how many of them are set. */
+static int64_t put_bits(text_buffer *to, const uint8_t *bits, int64_t first, int64_t count) {
+    int64_t set = 0;
+    for (int64_t done = 0; done < count; done += 8) {
+        unsigned byte = 0;
+        for (int64_t at = first + done; at < first + count && at < first + done + 8; at++) {
+            unsigned bit = bits[at / 8] >> at % 8 & 1;
+            byte |= bit << (at - first - done);
+            set += bit;
+        }
+        put_bytes(to, &(char){(char)byte}, 1);
+    }
+    return set;
 }
 
 /* The number of buffers of a type. */
@@ -299,136 +341,265 @@ static int64_t buffers_of(cell_kind kind) {
     return kind == BYTES || kind == TEXT ? 3 : 2;
 }
 
-static int is_null(const struct ArrowArray *array, int64_t slot) {
+/* Puts the node of a column, and its validity bitmap, which is empty if no slot is null. */
+static void put_node(batch_parts *to, cell_kind kind, const struct ArrowArray *array,
+                     int64_t first, int64_t count) {
     const uint8_t *bitmap = array->n_buffers > 0 ? array->buffers[0] : NULL;
-    return bitmap && !(bitmap[slot / 8] >> (slot % 8) & 1);
+    size_t start = to->body.used;
+    int64_t valid = bitmap ? put_bits(&to->body, bitmap, first, count) : count;
+    if (valid == count) to->body.used = start;
+    put_pair(&to->nodes, count, kind == NOTHING ? count : count - valid);
+    if (kind != NOTHING) end_buffer(to, start);
 }
 
-static int64_t int_at(const uint8_t *values, size_t size, int64_t slot) {
-    int8_t b1;
-    int16_t b2;
-    int32_t b4;
-    int64_t b8;
-    const uint8_t *at = values + (size_t)slot * size;
-    switch (size) {
-    case 1: return memcpy(&b1, at, size), b1;
-    case 2: return memcpy(&b2, at, size), b2;
-    case 4: return memcpy(&b4, at, size), b4;
-    default: return memcpy(&b8, at, size), b8;
+static int32_t offset_at(const struct ArrowArray *array, int64_t slot) {
+    int32_t offset;
+    memcpy(&offset, (const uint8_t *)array->buffers[1] + (size_t)slot * sizeof offset,
+           sizeof offset);
+    return offset;
+}
+
+/* Puts the offsets of these slots, counted from the first of them, which `from` is set to, and
+ * `items` to what they span. */
+static int put_offsets(batch_parts *to, const struct ArrowArray *array, int64_t first,
+                       int64_t count, int64_t *from, int64_t *items) {
+    size_t start = to->body.used;
+    *from = *items = 0;
+    if (count > 0) {
+        *from = offset_at(array, first);
+        *items = offset_at(array, first + count) - *from;
+        if (*from < 0 || *items < 0) return fail(to->message, EINVAL, "offsets do not ascend");
     }
+    for (int64_t slot = first; count > 0 && slot <= first + count; slot++) {
+        int32_t offset = (int32_t)(offset_at(array, slot) - *from);
+        put_bytes(&to->body, (const char *)&offset, sizeof offset);
+    }
+    end_buffer(to, start);
+    return 0;
 }
 
-static uint64_t uint_at(const uint8_t *values, size_t size, int64_t slot) {
-    uint64_t number = (uint64_t)int_at(values, size, slot);
-    return size == 8 ? number : number & (((uint64_t)1 << 8 * size) - 1);
+static int put_column(batch_parts *to, const struct ArrowSchema *field,
+                      const struct ArrowArray *array, int64_t first, int64_t count);
+
+static int put_members(batch_parts *to, const struct ArrowSchema *field,
+                       const struct ArrowArray *array, int64_t first, int64_t count) {
+    int error = 0;
+    for (int64_t i = 0; i < field->n_children && !error; i++)
+        error = put_column(to, field->children[i], array->children[i], first, count);
+    return error;
 }
 
-static int add_cell(cell_target *to, const struct ArrowSchema *field,
-                    const struct ArrowArray *array, int64_t slot);
-
-/* Adds the cells of a list or a struct, and ends it. */
-static int add_items(cell_target *to, const struct ArrowSchema *field,
-                     const struct ArrowArray *array, int64_t first, int64_t last) {
-    int error = checked(to, arrowstream_writer_begin_list(to->writer));
-    for (int64_t item = first; item < last && !error; item++)
-        error = add_cell(to, field->children[0], array->children[0], item);
-    return error ? error : checked(to, arrowstream_writer_end(to->writer));
-}
-
-static int add_members(cell_target *to, const struct ArrowSchema *field,
-                       const struct ArrowArray *array, int64_t slot) {
-    int error = checked(to, arrowstream_writer_begin_struct(to->writer));
-    for (int64_t member = 0; member < field->n_children && !error; member++)
-        error = add_cell(to, field->children[member], array->children[member], slot);
-    return error ? error : checked(to, arrowstream_writer_end(to->writer));
-}
-
-/* Adds the value of a dictionary. */
-static int add_entry(cell_target *to, const struct ArrowSchema *field,
-                     const struct ArrowArray *array, const type_facts *index, int64_t slot) {
-    uint64_t entry = index->kind == UINT
-        ? uint_at(array->buffers[1], index->size, slot)
-        : (uint64_t)int_at(array->buffers[1], index->size, slot);
-    if (!array->dictionary || entry >= (uint64_t)array->dictionary->length)
-        return fail(to->message, EINVAL, "an index of field '%.60s' is that of no value",
-                    field->name ? field->name : "");
-    return add_cell(to, field->dictionary, array->dictionary, (int64_t)entry);
-}
-
-/* Adds the bytes or the text of a slot. */
-static int add_bytes(cell_target *to, const struct ArrowArray *array, cell_kind kind,
-                     int64_t slot) {
-    static const uint8_t none[1];
-    int64_t first = int_at(array->buffers[1], 4, slot);
-    int64_t last = int_at(array->buffers[1], 4, slot + 1);
-    if (first < 0 || last < first) return fail(to->message, EINVAL, "offsets do not ascend");
-    const uint8_t *bytes = last > first ? (const uint8_t *)array->buffers[2] + first : none;
-    size_t length = (size_t)(last - first);
-    return checked(to, kind == TEXT ? arrowstream_writer_text(to->writer, bytes, length)
-                                    : arrowstream_writer_bytes(to->writer, bytes, length));
-}
-
-/* Adds a value that is not null, and is not of a dictionary. */
-static int add_value(cell_target *to, const struct ArrowSchema *field,
-                     const struct ArrowArray *array, const type_facts *type, int64_t slot) {
-    static const uint8_t none[1];
+/* Puts what follows the validity bitmap. The slots are counted from the beginning of the buffers. */
+static int put_values(batch_parts *to, const struct ArrowSchema *field,
+                      const struct ArrowArray *array, const type_facts *type, int64_t first,
+                      int64_t count) {
     const uint8_t *values = array->n_buffers > 1 ? array->buffers[1] : NULL;
-    int64_t size = (int64_t)type->size;
+    int64_t size = (int64_t)type->size, from = 0, items = 0;
+    size_t start = to->body.used;
+    int error = 0;
     switch (type->kind) {
     case BOOL:
-        return checked(to, arrowstream_writer_bool(to->writer, values[slot / 8] >> slot % 8 & 1));
-    case INT: return checked(to, arrowstream_writer_int(to->writer, int_at(values, type->size, slot)));
+        put_bits(&to->body, values, first, count);
+        end_buffer(to, start);
+        return 0;
+    case INT:
     case UINT:
-        return checked(to, arrowstream_writer_uint(to->writer, uint_at(values, type->size, slot)));
-    case BYTES:
-    case TEXT: return add_bytes(to, array, type->kind, slot);
     case FIXED_BYTES:
-        values = size > 0 ? values + slot * size : none;
-        return checked(to, arrowstream_writer_bytes(to->writer, values, type->size));
-    case LIST:
-        return add_items(to, field, array, int_at(values, 4, slot), int_at(values, 4, slot + 1));
-    case FIXED_LIST: return add_items(to, field, array, slot * size, slot * size + size);
-    case STRUCT: return add_members(to, field, array, slot);
-    case NOTHING: return checked(to, arrowstream_writer_null(to->writer));
-    default: return unsupported(to->message, field);
-    }
-}
-
-/* Adds the value of a slot, which is counted from the array's offset. */
-static int add_cell(cell_target *to, const struct ArrowSchema *field,
-                    const struct ArrowArray *array, int64_t slot) {
-    type_facts type = facts_of(field->format);
-    if (slot < 0 || slot >= array->length)
-        return fail(to->message, EINVAL, "an array is shorter than another states");
-    if (array->n_buffers != buffers_of(type.kind) || array->n_children != field->n_children)
-        return fail(to->message, EINVAL, "an array has other buffers or children than its type");
-    slot += array->offset;
-    if (is_null(array, slot)) return checked(to, arrowstream_writer_null(to->writer));
-    if (field->dictionary) return add_entry(to, field, array, &type, slot);
-    return add_value(to, field, array, &type, slot);
-}
-
-static int add_row(cell_target *to, const struct ArrowSchema *schema,
-                   const struct ArrowArray *array, int64_t row) {
-    int64_t slot = row + array->offset;
-    if (is_null(array, slot)) return fail(to->message, EINVAL, "row %" PRId64 " is null", row);
-    for (int64_t column = 0; column < schema->n_children; column++) {
-        int error = add_cell(to, schema->children[column], array->children[column], slot);
+        put_buffer(to, count * size > 0 ? values + first * size : NULL, (size_t)(count * size));
+        return 0;
+    case BYTES:
+    case TEXT:
+        error = put_offsets(to, array, first, count, &from, &items);
         if (error) return error;
+        values = items > 0 ? (const uint8_t *)array->buffers[2] + from : NULL;
+        put_buffer(to, values, (size_t)items);
+        return 0;
+    case LIST:
+        error = put_offsets(to, array, first, count, &from, &items);
+        return error ? error : put_members(to, field, array, from, items);
+    case FIXED_LIST: return put_members(to, field, array, first * size, count * size);
+    case STRUCT: return put_members(to, field, array, first, count);
+    default: return 0;
     }
-    return checked(to, arrowstream_writer_row(to->writer));
+}
+
+/* Puts slots of a column, and of those below it. The slots are counted from the array's offset. */
+static int put_column(batch_parts *to, const struct ArrowSchema *field,
+                      const struct ArrowArray *array, int64_t first, int64_t count) {
+    type_facts type = facts_of(field->format);
+    if (type.kind == UNSUPPORTED) return unsupported(to->message, field);
+    if (first < 0 || count < 0 || first > array->length || count > array->length - first)
+        return fail(to->message, EINVAL, "an array is shorter than another states");
+    if (array->n_buffers != buffers_of(type.kind) || array->n_children != field->n_children
+        || !array->dictionary != !field->dictionary)
+        return fail(to->message, EINVAL, "an array has other buffers or children than its type");
+    put_node(to, type.kind, array, first + array->offset, count);
+    return put_values(to, field, array, &type, first + array->offset, count);
+}
+
+/* ---- messages -------------------------------------------------------------------------------- */
+
+/* Takes arrays of one schema as batches of a reader, which validates them. */
+typedef struct {
+    arrowstream_reader *reader;
+    long long dictionaries;
+    arrowstream_message *message;
+} array_reader;
+
+static int feed(array_reader *to, const void *bytes, size_t length) {
+    arrowstream_progress progress = {.size = sizeof progress};
+    for (size_t done = 0; done < length; done += progress.taken) {
+        uint8_t text[sizeof to->message->text] = "";
+        size_t wanted = 0;
+        uint32_t status = arrowstream_reader_feed(to->reader, (const uint8_t *)bytes + done,
+                                                  length - done, &progress);
+        if (status == ARROWSTREAM_OK) continue;
+        if (status == ARROWSTREAM_OUT_OF_MEMORY)
+            return fail(to->message, ENOMEM, "out of memory");
+        arrowstream_reader_line(to->reader, text, sizeof text - 1, &wanted);
+        return fail(to->message, EINVAL, "%s", (const char *)text);
+    }
+    return 0;
+}
+
+static void set_16(uint8_t *at, unsigned number) { memcpy(at, &(uint16_t){(uint16_t)number}, 2); }
+static void set_32(uint8_t *at, size_t number) { memcpy(at, &(uint32_t){(uint32_t)number}, 4); }
+static void set_64(uint8_t *at, int64_t number) { memcpy(at, &number, 8); }
+
+/* The bytes of a message before its vectors: a continuation mark, the size of the metadata, and a
+ * FlatBuffer whose tables are at fixed places (Message.fbs, tables Message, DictionaryBatch and
+ * RecordBatch; metadata version V5). */
+enum { PREFIX = 8, HEAD = 104, MESSAGE = 40, DICTIONARY = 64, BATCH = 80, NODES = 100 };
+
+static void set_head(uint8_t *head, const batch_parts *parts, int64_t rows, int64_t id) {
+    static const uint16_t fields[] = {12, 20, 16, 18, 4, 8, 10, 20, 8, 4, 16, 8, 16, 8, 4};
+    uint8_t *at = head + PREFIX;
+    size_t nodes = parts->nodes.used, buffers = parts->buffers.used;
+    set_32(head, UINT32_MAX);
+    set_32(head + 4, HEAD + nodes + 8 + buffers);
+    set_32(at, MESSAGE);
+    memcpy(at + 4, fields, sizeof fields);
+    set_32(at + MESSAGE, MESSAGE - 4);
+    set_32(at + MESSAGE + 4, (id < 0 ? BATCH : DICTIONARY) - (MESSAGE + 4));
+    set_64(at + MESSAGE + 8, (int64_t)parts->body.used);
+    set_16(at + MESSAGE + 16, 4);
+    at[MESSAGE + 18] = id < 0 ? 3 : 2;
+    set_32(at + DICTIONARY, DICTIONARY - 26);
+    set_32(at + DICTIONARY + 4, BATCH - (DICTIONARY + 4));
+    set_64(at + DICTIONARY + 8, id);
+    set_32(at + BATCH, BATCH - 16);
+    set_32(at + BATCH + 4, NODES - (BATCH + 4));
+    set_64(at + BATCH + 8, rows);
+    set_32(at + BATCH + 16, HEAD + nodes + 4 - (BATCH + 16));
+    set_32(at + NODES, nodes / 16);
+}
+
+/* Feeds the message of a record batch, or of a dictionary with this id from 0. */
+static int feed_message(array_reader *to, const batch_parts *parts, int64_t rows, int64_t id) {
+    uint8_t head[PREFIX + HEAD] = {0}, between[8] = {0};
+    if (parts->nodes.failed || parts->buffers.failed || parts->body.failed)
+        return fail(to->message, ENOMEM, "out of memory");
+    set_head(head, parts, rows, id);
+    set_32(between + 4, parts->buffers.used / 16);
+    int error = feed(to, head, sizeof head);
+    if (!error) error = feed(to, parts->nodes.bytes, parts->nodes.used);
+    if (!error) error = feed(to, between, sizeof between);
+    if (!error) error = feed(to, parts->buffers.bytes, parts->buffers.used);
+    return error ? error : feed(to, parts->body.bytes, parts->body.used);
+}
+
+/* Feeds the values of a field's dictionary, and of those below it. */
+static int feed_dictionaries(array_reader *to, const struct ArrowSchema *field,
+                             const struct ArrowArray *array) {
+    int error = 0;
+    if (field->dictionary && array->dictionary) {
+        batch_parts parts = {.message = to->message};
+        int64_t length = array->dictionary->length;
+        error = put_column(&parts, field->dictionary, array->dictionary, 0, length);
+        if (!error) error = feed_message(to, &parts, length, to->dictionaries++);
+        free_parts(&parts);
+    }
+    for (int64_t i = 0; i < field->n_children && i < array->n_children && !error; i++)
+        error = feed_dictionaries(to, field->children[i], array->children[i]);
+    return error;
+}
+
+/* Fails if a row is null, which a record batch cannot state. */
+static int check_rows(const struct ArrowArray *array, arrowstream_message *message) {
+    const uint8_t *bitmap = array->n_buffers > 0 ? array->buffers[0] : NULL;
+    for (int64_t row = 0; bitmap && row < array->length; row++) {
+        int64_t slot = row + array->offset;
+        if (!(bitmap[slot / 8] >> slot % 8 & 1))
+            return fail(message, EINVAL, "row %" PRId64 " is null", row);
+    }
+    return 0;
+}
+
+/* Feeds an array as a record batch after its dictionaries. */
+static int feed_array(array_reader *to, const struct ArrowSchema *schema,
+                      const struct ArrowArray *array) {
+    batch_parts parts = {.message = to->message};
+    to->dictionaries = 0;
+    int error = check_rows(array, to->message);
+    if (!error) error = feed_dictionaries(to, schema, array);
+    if (!error) error = put_members(&parts, schema, array, array->offset, array->length);
+    if (!error) error = feed_message(to, &parts, array->length, -1);
+    free_parts(&parts);
+    return error;
+}
+
+/* Feeds the message of a schema, which a writer makes. */
+static int feed_schema(array_reader *to, const arrowstream_limits *limits,
+                       const text_buffer *schema) {
+    uint8_t piece[4096];
+    arrowstream_writer *writer = NULL;
+    arrowstream_writer_open(limits, &writer);
+    if (!writer) return fail(to->message, ENOMEM, "out of memory");
+    uint32_t status =
+        arrowstream_writer_schema(writer, (const uint8_t *)schema->bytes, schema->used);
+    int error = status == ARROWSTREAM_OK ? 0 : refused(to->message, writer, status);
+    for (size_t count = 1; !error && count > 0;) {
+        count = arrowstream_writer_take(writer, piece, sizeof piece);
+        error = feed(to, piece, count);
+    }
+    arrowstream_writer_free(writer);
+    return error;
+}
+
+static int open_array_reader(array_reader *to, const struct ArrowSchema *schema) {
+    arrowstream_limits most;
+    memset(&most, 0xff, sizeof most);
+    most.size = sizeof most;
+    arrowstream_reader_open(&most, &to->reader);
+    if (!to->reader) return fail(to->message, ENOMEM, "out of memory");
+    schema_text text = {.message = to->message};
+    int error = put_schema(&text, schema);
+    if (!error) error = feed_schema(to, &most, &text.text);
+    free(text.text.bytes);
+    return error;
+}
+
+/* Sends an array as a batch that the reader takes. */
+static int send_array(array_reader *from, arrowstream_writer *writer,
+                      const struct ArrowSchema *schema, const struct ArrowArray *array) {
+    arrowstream_batch *batch = NULL;
+    if (array->n_children != schema->n_children)
+        return fail(from->message, EINVAL, "the array has not as many columns as the schema");
+    int error = feed_array(from, schema, array);
+    if (error) return error;
+    if (arrowstream_reader_take(from->reader, &batch) != ARROWSTREAM_OK)
+        return fail(from->message, ENOMEM, "out of memory");
+    uint32_t status = arrowstream_writer_columns(writer, batch);
+    arrowstream_reader_reuse(from->reader, batch);
+    return status == ARROWSTREAM_OK ? 0 : refused(from->message, writer, status);
 }
 
 int arrowstream_import_batch(arrowstream_writer *writer, const struct ArrowSchema *schema,
                              const struct ArrowArray *array, arrowstream_message *message) {
-    cell_target to = {writer, message};
-    int error = 0;
-    if (array->n_children != schema->n_children)
-        return fail(message, EINVAL, "the array has not as many columns as the schema");
-    for (int64_t row = 0; row < array->length && !error; row++)
-        error = add_row(&to, schema, array, row);
-    if (!error) error = checked(&to, arrowstream_writer_send(writer));
-    if (error) arrowstream_writer_drop_batch(writer);
+    array_reader reader = {.message = message};
+    int error = open_array_reader(&reader, schema);
+    if (!error) error = send_array(&reader, writer, schema, array);
+    arrowstream_reader_free(reader.reader);
     return error;
 }
 
@@ -441,14 +612,14 @@ static int stream_failed(struct ArrowArrayStream *stream, int error, arrowstream
 }
 
 /* Sends the arrays of a stream. */
-static int import_arrays(arrowstream_writer *writer, const struct ArrowSchema *schema,
-                         struct ArrowArrayStream *stream, arrowstream_message *message) {
+static int import_arrays(array_reader *reader, arrowstream_writer *writer,
+                         const struct ArrowSchema *schema, struct ArrowArrayStream *stream) {
     for (;;) {
         struct ArrowArray array = {.release = NULL};
         int error = stream->get_next(stream, &array);
-        if (error) return stream_failed(stream, error, message);
+        if (error) return stream_failed(stream, error, reader->message);
         if (!array.release) return 0;
-        error = arrowstream_import_batch(writer, schema, &array, message);
+        error = send_array(reader, writer, schema, &array);
         array.release(&array);
         if (error) return error;
     }
@@ -459,8 +630,11 @@ int arrowstream_import_stream(arrowstream_writer *writer, struct ArrowArrayStrea
     struct ArrowSchema schema = {.release = NULL};
     int error = stream->get_schema(stream, &schema);
     if (error) return stream_failed(stream, error, message);
+    array_reader reader = {.message = message};
     error = arrowstream_import_schema(writer, &schema, message);
-    if (!error) error = import_arrays(writer, &schema, stream, message);
+    if (!error) error = open_array_reader(&reader, &schema);
+    if (!error) error = import_arrays(&reader, writer, &schema, stream);
+    arrowstream_reader_free(reader.reader);
     schema.release(&schema);
     return error;
 }

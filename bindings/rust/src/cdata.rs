@@ -158,9 +158,9 @@ impl<W: Write> Writer<W> {
     /// Sends an array of structs of another library as one batch. Rows and pairs that wait are sent
     /// before it, as a batch of their own.
     ///
-    /// Errors: [`Error::Exchange`] if a row is null, an index is that of no value, or a text is not
-    /// UTF-8, and W2 to W8 if the batch does not fit the schema or the limits. Then nothing of it is
-    /// written, and the writer goes on.
+    /// Errors: [`Error::Exchange`] if a row is null or the array is not of its schema, F28 to F34 if
+    /// its buffers are not those of a batch, and W2 to W8 if the batch does not fit the schema or
+    /// the limits. Then nothing of it is written, and the writer goes on.
     ///
     /// # Safety
     ///
