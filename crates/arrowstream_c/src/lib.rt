@@ -58,7 +58,7 @@ pub extern "C" fn arrowstream_limits_standard(out: &mut ReadLimits) -> u32
 }
 
 /// Makes a reader at the beginning of a stream, and sets `out` to it, or to null if memory ran out
-/// or `size` is too small. A limit above its maximum is as the maximum.
+/// or `size` is too small. A limit above its maximum counts as the maximum.
 #[unsafe(no_mangle)]
 pub extern "C" fn arrowstream_reader_open(alloc: Global, limits: &ReadLimits, out: &mut *mut u8)
     ensures* { ∃ₛ (λ (made : Option ReadSession). sem 𝓛 (reader_or_null out.new made)
@@ -388,7 +388,7 @@ pub unsafe extern "C" fn arrowstream_batch_buffer(
 }
 
 /// Makes a writer without a schema, and sets `out` to it, or to null if memory ran out or `size` is
-/// too small. A limit above its maximum is as the maximum.
+/// too small. A limit above its maximum counts as the maximum.
 #[unsafe(no_mangle)]
 pub extern "C" fn arrowstream_writer_open(alloc: Global, limits: &ReadLimits, out: &mut *mut u8)
     ensures* { ∃ₛ (λ (made : Option WriteSession). sem 𝓛 (writer_or_null out.new made)

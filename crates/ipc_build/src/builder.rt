@@ -34,7 +34,7 @@ fn write_buffer(out: &mut Vec<u8>, tree: &FlatTree) -> Result<(), AllocError>
 /// offset, count and vtable entry is at a multiple of its width from their first byte. They begin
 /// with the root offset, and have neither a file identifier nor their own size.
 ///
-/// Padded to a multiple of 8 they are at most `room` bytes. This size bound is the sum of:
+/// Padded to a multiple of 8 they are at most as long as the tree's size bound, the sum of:
 ///
 /// - 16 bytes;
 /// - for each table 24 bytes, and 10 for each entry of its vtable;

@@ -154,9 +154,8 @@ impl Batch {
     /// - F33 `ValueNotUtf8` or F34 `BadIndex`, only if the buffers are also long enough and the
     ///   offsets are in order.
     ///
-    /// `OutOfMemory` is returned if memory for the list of columns, or for the block that clones
-    /// share, ran out. It is also returned if the number of batches that share a dictionary is at
-    /// its maximum.
+    /// `OutOfMemory` is returned if memory for the columns, or for the block that clones share, ran
+    /// out. It is also returned if the number of batches that share a dictionary is at its maximum.
     pub fn check(
         alloc: Global,
         limits: &Limits,
@@ -253,7 +252,7 @@ impl Batch {
     }
 
     /// Returns the value in a row and a column as an owned value. `row` must be below `rows`, and
-    /// `column` below `columns`. Returns an error if memory for its lists ran out.
+    /// `column` below `columns`. Returns an error if memory for the value ran out.
     pub fn read_cell(&self, alloc: Global, row: usize, column: usize) -> Result<Value, AllocError>
         requires row { row < length self.now.rows }
         requires column { column < self.now.columns }

@@ -150,8 +150,8 @@ impl<'a> SlotView<'a> {
     }
 
     /// Returns bytes that begin with the text in a slot, and the number of bytes of the text.
-    /// Returns `None` if the slot is null. What follows the text is in no clause: it is the rest of
-    /// the column's data, so a short text can be copied by one load of more bytes than it has.
+    /// Returns `None` if the slot is null. No clause states what follows the text: it is the rest
+    /// of the column's data, so a short text can be copied by one load of more bytes than it has.
     /// `slot` must be below `len`, and the column must be one of texts.
     #[inline(always)]
     pub fn text_at(&self, slot: usize) -> Option<(&'a [u8], usize)>

@@ -82,8 +82,8 @@ impl<'a> ColumnView<'a> {
     }
 
     /// Returns slots with the values of the column. Use it to read a whole column of lists or
-    /// structs without a `Cell` for each. That they have the column's buffers and children is in no
-    /// clause; `Batch::slots` states it.
+    /// structs without a `Cell` for each. No clause states that they have the column's buffers and
+    /// children; that of `Batch::slots` does.
     #[inline(always)]
     pub fn slots(&self) -> SlotView<'a>
         ensures values { slot_values result ≡ self.now }

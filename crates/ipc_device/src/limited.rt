@@ -20,7 +20,8 @@ pub struct Limited<D> {
 }
 
 impl<D> Limited<D> {
-    /// Creates a device over `inner`, of which `calls` calls succeed. `step` must be above 0.
+    /// Creates a device over `inner`, of which at most `calls` calls succeed. `step` must be above
+    /// 0.
     pub fn new(inner: D, step: usize, calls: u64) -> Self
         requires { 0 < step }
         ensures inner { result.inner ≡ inner }

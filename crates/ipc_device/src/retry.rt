@@ -5,12 +5,12 @@ ghost use Rattle.std.specs.IoError.{error_kind, raw_os_error};
 
 use std::io::{Error, ErrorKind, Read, Result, Write};
 
-/// A reader or writer that never answers `ErrorKind::Interrupted`: the code repeats a call that a
-/// signal interrupts, and after 2^64 - 1 tries answers `ErrorKind::TimedOut`. No clause states the
+/// A reader or writer that never returns `ErrorKind::Interrupted`: the code repeats a call that a
+/// signal interrupts, and after 2^64 - 1 tries returns `ErrorKind::TimedOut`. No clause states the
 /// tries.
 ///
-/// Everything else is answered as the inner reader or writer answers it. The system's code of the
-/// last error is kept.
+/// All else is passed through from the inner reader or writer. The system's code of the last error
+/// is kept.
 #[derive(Drop)]
 pub struct Retry<T> {
     inner: T,

@@ -90,7 +90,7 @@ impl EntryColumns {
         Ok(())
     }
 
-    /// Takes back the last call of `count`, which succeeded: the sizes are those from before it.
+    /// Undoes the last call of `count`, which succeeded.
     pub(crate) fn take_back(&mut self)
         ensures { self.new ≡ record self.old { sizes = self.old.next; next = self.old.sizes } }
     {

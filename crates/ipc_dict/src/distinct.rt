@@ -29,7 +29,8 @@ impl Model for DistinctValues {
 }
 
 impl DistinctValues {
-    /// Creates an empty list of values, whose hashes use this seed. It takes no memory.
+    /// Creates an empty list of values. It takes no memory. The code hashes values with `seed`; no
+    /// clause says so.
     pub fn new(alloc: Global, seed: Seed) -> DistinctValues
         ensures { result ≡ [] }
     {

@@ -117,7 +117,7 @@ impl Plan {
     }
 
     /// Plans what a batch that was read does with each dictionary of the schema, as
-    /// `Plan::for_rows` does for its rows. Hashes use this seed.
+    /// `Plan::for_rows` does for its rows. The code hashes values with `seed`; no clause says so.
     ///
     /// The requirements and the errors are those of `Plan::for_rows`.
     pub fn for_columns(

@@ -13,9 +13,9 @@ const LOWER_BITS: u32 = 52;
 // it depend on all bits of the sum.
 const HASH_MULTIPLIER: u64 = 0x9E37_79B9_7F4A_7C15;
 
-/// The positions in their dictionaries of values that were noted recently. A position is a guess:
-/// another value of its spot may have been noted since, so the caller compares the value there. A
-/// value is found without its hash.
+/// The positions in their dictionaries of values that were noted recently. A value's bytes lead to
+/// one spot of the list, and several values may share it. So a position is a guess, and the caller
+/// compares the value there. A value is found without its hash.
 #[derive(Debug, Drop)]
 pub(crate) struct RecentValues {
     places: Vec<usize>,

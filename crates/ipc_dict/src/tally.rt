@@ -80,7 +80,7 @@ impl Tally {
     /// narrowest index type of its fields bounds the number of values of an id. So do the limits of
     /// the one column of its message (Arrow Columnar Format, "Dictionary Messages").
     ///
-    /// The fields are copied, and hashes use `seed`.
+    /// The fields are copied. The code hashes values with `seed`; no clause says so.
     ///
     /// Errors: W6 `TooLong` if the column without values already has more than `limits.body` bytes,
     /// because a binary or UTF-8 column has one offset; W11 `OutOfMemory` if memory for the fields,

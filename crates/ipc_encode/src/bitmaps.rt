@@ -103,7 +103,7 @@ pub(crate) fn push_bitmap(bits: &mut Vec<u8>, marks: &[u8], count: usize) -> Res
     Ok(())
 }
 
-// Whether each set bit of the first `count` bytes is also set in another list.
+// Whether each set bit of the first `count` bytes is also set in another bitmap.
 fn bits_are_among(few: &[u8], many: &[u8], count: usize) -> bool
     requires few { count ≤ length few.now }
     requires many { count ≤ length many.now }

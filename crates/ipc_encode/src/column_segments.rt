@@ -1,4 +1,4 @@
-//! The buffers of a column, borrowed from the batch where they lie as they are written.
+//! The buffers of a column, borrowed from the batch where they already have the written layout.
 ghost use Rattle.std.specs.Prelude.{◌≡◌, ◌≤◌, ◌<◌, ◌+◌, ◌*◌, ℕ, false, length, IfSome, IsTrue};
 ghost use Rattle.std.specs.Prelude.{slice_index, take, List, drop, replicate, IfOk};
 ghost use Rattle.ipc_scalar.specs.Bytes.{num};
@@ -72,8 +72,8 @@ pub(crate) struct VariableBinarySegments<'a> {
     pub(crate) values: Segment<'a>,
 }
 
-/// Returns the buffers of binary values or texts as they lie, if offsets begin at 0 and null slots
-/// have no bytes.
+/// Returns the buffers of binary values or texts as they are laid out, if offsets begin at 0 and
+/// null slots have no bytes.
 fn borrowed_contents<'a>(view: &SlotView<'a>) -> Option<VariableBinarySegments<'a>>
     ensures ends { IfSome result
         (λ run. segment_bytes run.ends ≡ ends Bytes 0 (slot_values view.now)) }

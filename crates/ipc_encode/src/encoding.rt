@@ -128,8 +128,8 @@ fn add_fields<'a, I: IndexOf, N: Renumber>(
 }
 
 /// Encodes the rows of a batch that was read as the parts of one record batch (Message.fbs,
-/// RecordBatch), with the body as segments that borrow the bytes of the batch where they lie as
-/// they are written.
+/// RecordBatch), with the body as segments that borrow the batch's bytes where these already have
+/// the written layout.
 ///
 /// The fields must be those of a schema that passes `Schema::check`, and the rows must fit them. If
 /// the batch has fewer columns than there are fields, the other fields get nulls. Columns after

@@ -208,8 +208,8 @@ impl Frames {
         }
     }
 
-    /// Offers a buffer for the next body, so that no memory of its length is allocated and cleared.
-    /// Its contents are never read.
+    /// Offers a buffer for the next body, so that up to its length no memory is allocated and
+    /// cleared. Its contents are never read.
     ///
     /// One buffer is kept: the one with more room, this one or the one that was kept before. This
     /// one is dropped if bytes of a body already came. None is kept after the end-of-stream mark,

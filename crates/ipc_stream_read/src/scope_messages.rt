@@ -78,11 +78,11 @@ impl Scope {
         Batch::check(alloc, &self.limits, columns.as_slice(), head, body, &none)
     }
 
-    /// Sets the dictionary with the id to the values that a head and a body give, in the place of
-    /// those before.
+    /// Sets the dictionary with the id to the values that a head and a body give, in place of the
+    /// earlier ones.
     ///
     /// Errors: `UnknownDictionary` if no field names the dictionary; those of `Batch::check`;
-    /// `OutOfMemory`. Then all is as before.
+    /// `OutOfMemory`. After an error nothing has changed.
     pub fn set(
         &mut self,
         alloc: Global,
@@ -98,7 +98,7 @@ impl Scope {
         self.dictionaries.apply(alloc, id, values)
     }
 
-    /// Returns the number of bytes of the bodies together that set the dictionaries.
+    /// Returns the sum of the lengths of the bodies that set the dictionaries.
     pub fn held(&self) -> usize
         ensures { result ≡ dictionary_bytes (state_of (Some self.now)) }
     {

@@ -453,7 +453,7 @@ impl WriteSession {
     }
 
     /// Moves the first of the bytes that were written and not taken to the beginning of `target`.
-    /// Returns their number: `ready`, or as many as `target` has room for.
+    /// Returns their number: the smaller of `ready` and the length of `target`.
     pub fn take(&mut self, target: &mut [u8]) -> usize
         ensures { w.TakesBytes self.old self.new target.old target.new result }
     {

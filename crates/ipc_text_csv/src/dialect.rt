@@ -14,7 +14,8 @@ ghost use Rattle.ipc_text_csv.specs.Dialects.{IsDialect, standard_null, writer};
 /// mark, the digits, the letters, `-`, `.` and `:`.
 ///
 /// The text of null may be empty. It has no delimiter, quotation mark, line feed or carriage
-/// return, so it needs no quotes. It is no text that a value of another type than text has:
+/// return, so it needs no quotes. No value of a type other than UTF-8 has it as its text. It is
+/// none of:
 ///
 /// - `true` or `false`;
 /// - a text that begins with a digit, or with `-` and a digit;

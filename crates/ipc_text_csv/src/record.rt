@@ -349,7 +349,7 @@ pub fn csv_header(
 /// that nulls in columns that are not nullable are written too.
 ///
 /// Errors: X1 and X2 as in `check_flat`; X3 with the first column whose value has no text;
-/// `OutOfMemory`. These values have no text:
+/// `OutOfMemory` if memory ran out. These values have no text:
 ///
 /// - a date or a timestamp outside the years 0001 to 9999;
 /// - milliseconds of a date that are no whole days;

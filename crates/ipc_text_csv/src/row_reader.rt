@@ -26,8 +26,8 @@ use std::mem;
 /// Reads the CSV records of an input (RFC 4180): the header, and then the row of each record after
 /// it. It keeps one record and one row, whose memory the next ones use again.
 ///
-/// A byte order mark at the start of the input is dropped, and blank lines are no records. After an
-/// error of a call nothing is stated of what the next ones read.
+/// A byte order mark at the start of the input is dropped, and blank lines are no records. No
+/// clause states what calls after an error read.
 pub struct RowReader<R> {
     reader: Reader<R>,
     fields: ByteRecord,

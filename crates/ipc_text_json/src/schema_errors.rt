@@ -24,11 +24,11 @@ use ipc_text_temporal::TextFault;
 use serde_json::Value;
 use std::alloc::Global;
 
-/// What of an entry of "fields" is not that of a field.
+/// Which part of an entry of "fields" is wrong.
 #[derive(Clone, Copy, Debug, PartialEq, Eq, Drop)]
 pub enum FieldPart {
-    /// The value is not an object of "children", "dictionary", "metadata", "name", "nullable" and
-    /// "type" alone.
+    /// The value is not an object with exactly the members "children", "dictionary", "metadata",
+    /// "name", "nullable" and "type".
     Keys,
     /// "children" is not an unsigned 64-bit number.
     Children,
@@ -56,7 +56,7 @@ pub enum SchemaError {
         /// The column.
         column: u64,
     },
-    /// The value is not an object of an array "fields" and of "metadata" alone.
+    /// The value is not an object with exactly the members "fields", an array, and "metadata".
     NotSchema,
     /// An entry of "fields" is not a field. It is the first such entry.
     BadField {

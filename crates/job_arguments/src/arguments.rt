@@ -47,7 +47,7 @@ pub enum Job {
     Show {
         /// The limits of the stream.
         limits: Limits,
-        /// Whether each row is an object with the columns' names as keys, and no array.
+        /// Whether each row is an object with the columns' names as keys, not an array.
         objects: bool,
         /// Whether to print a line with its pairs before the rows of each batch.
         pairs: bool,

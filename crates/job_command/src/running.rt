@@ -319,13 +319,14 @@ fn report<S: Source, E: Sink>(
 }
 
 /// Does a job: reads `input` batch by batch and writes the result to `sink`. After a refusal it
-/// prints the fault's line to `messages`, and at success nothing; the bytes that were sent remain
-/// sent. Of a stream, no byte after its end-of-stream mark is read.
+/// prints the fault's line to `messages`, and with `explain` lines that explain it; at success
+/// nothing. The bytes that were sent remain sent. Of a stream, no byte after its end-of-stream mark
+/// is read.
 ///
 /// `schema` is the file that the job names, or `None` if it cannot be opened. Only `FromCsv` reads
-/// it. The batch size must be from 1 to 2^31 - 1, as `read_words` returns it. The values of
-/// dictionaries that are written are hashed with `seed`: nobody who does not know a random seed can
-/// choose values whose hashes collide.
+/// it. The batch size must be from 1 to 2^31 - 1, as `read_words` returns it. The code hashes the
+/// values of dictionaries with `seed`; no clause says so. With a random seed nobody who does not
+/// know it can choose values whose hashes collide.
 ///
 /// Returns the exit status, the input, the sink and the schema's file. A failing `messages` changes
 /// nothing. The exit status is:

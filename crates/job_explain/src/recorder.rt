@@ -44,7 +44,7 @@ impl<R: Source> Recorder<R> {
     /// - F1 at the first message: what the input looks like, by its first four bytes.
     /// - F13 to F22 at the first message: the field that has the fault, by the numbers and names of
     ///   the column and of the children on the way to it, and its type (Schema.fbs, union Type).
-    ///   Nothing is said if no column alone has the fault, as mostly with F17 to F21.
+    ///   There is no line if no column has the fault by itself, which is usual for F17 to F21.
     /// - F26 and F27 at a later message: the numbers of nodes or buffers (Message.fbs, table
     ///   RecordBatch), those of the batch and those that its fields need.
     /// - F28 to F34 at a later message: the first column that alone has the fault, by its number,

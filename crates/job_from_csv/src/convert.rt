@@ -183,8 +183,8 @@ fn send_stream<R: Read + ReportsFailure, W: Sink>(
 /// The code keeps one record, one row, the buffers of one batch, and the values of the
 /// dictionaries; no clause says so.
 ///
-/// The values of dictionaries are hashed with `seed`, so that nobody who does not know a random
-/// seed can choose values whose hashes collide. No clause depends on it.
+/// The code hashes the values of dictionaries with `seed`; no clause says so. With a random seed
+/// nobody who does not know it can choose values whose hashes collide.
 ///
 /// Errors, after which the bytes that were sent remain sent, with the full batches of earlier
 /// records:

@@ -31,7 +31,7 @@ pub enum FromCsvStop {
     },
 }
 
-/// Why the conversion stops at a record that is not read as a row, for this reason.
+/// Returns the stop at a record that is not read as a row, for this reason.
 pub(crate) fn stop_at(why: RecordFault, fields: ByteRecord) -> FromCsvStop
     ensures { result ≡ stop_of why fields }
 {

@@ -101,7 +101,7 @@ fn print_head<W: Sink>(
 /// were added.
 ///
 /// The caller gives at most the number of the batch's rows, and the fields of the batch's columns,
-/// which the form has a place for. `Write` is returned if the sink failed, and `OutOfMemory` if
+/// which the form can represent. `Write` is returned if the sink failed, and `OutOfMemory` if
 /// memory ran out. Then a beginning of the batch's text went out, and what was kept is lost.
 pub fn print_batch<W: Sink>(
     alloc: Global,

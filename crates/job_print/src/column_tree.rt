@@ -60,7 +60,7 @@ pub enum Entry<'a> {
     Others,
 }
 
-/// The slots of the values of a column's dictionary, where they are texts.
+/// Returns the slots of the values of a column's dictionary, if they are texts.
 pub(crate) fn texts_of<'a>(slots: &SlotView<'a>) -> Option<SlotView<'a>>
     ensures { IfSome result (λ entries. AreTexts slots.now entries) }
 {
@@ -74,8 +74,8 @@ pub(crate) fn texts_of<'a>(slots: &SlotView<'a>) -> Option<SlotView<'a>>
     Some(entries)
 }
 
-/// What a slot shows by its index, where these are the texts of the column's dictionary. The caller
-/// gives a slot below `len`.
+/// Returns what a slot shows by its index, if these are the texts of the column's dictionary.
+/// `slot` must be below `len`.
 #[inline(always)]
 pub(crate) fn entry_of<'a>(slots: &SlotView<'a>, texts: &SlotView<'a>, slot: usize) -> Entry<'a>
     requires texts { AreTexts slots.now texts.now }
@@ -133,7 +133,7 @@ impl<'a> Model for ColumnTree<'a> {
 }
 
 impl<'a> ColumnTree<'a> {
-    /// How many slots there are.
+    /// Returns the number of slots.
     #[inline(always)]
     pub fn len(&self) -> usize
         ensures { result ≡ length (slot_values self.now) }
@@ -141,7 +141,7 @@ impl<'a> ColumnTree<'a> {
         self.slots.len()
     }
 
-    /// What a slot holds. The caller gives a slot below `len`.
+    /// Returns what a slot holds. `slot` must be below `len`.
     #[inline(always)]
     pub fn at(&self, slot: usize) -> Slot<'a>
         requires { slot < length (slot_values self.now) }
@@ -153,7 +153,7 @@ impl<'a> ColumnTree<'a> {
         self.slots.at(slot)
     }
 
-    /// The layout of the slots.
+    /// Returns the layout of the slots.
     #[inline(always)]
     pub fn kind(&self) -> SlotReader
         ensures { IsReaderOf result self.now.column.layout }
@@ -161,8 +161,8 @@ impl<'a> ColumnTree<'a> {
         self.kind
     }
 
-    /// What a slot holds, as `at` returns it. The caller gives the column's layout, and a slot
-    /// below `len`.
+    /// Returns what a slot holds, as `at` does. `layout` must be the column's, and `slot` below
+    /// `len`.
     #[inline(always)]
     pub fn at_layout(&self, layout: Layout, slot: usize) -> Slot<'a>
         requires layout { self.now.column.layout ≡ layout }
@@ -175,8 +175,9 @@ impl<'a> ColumnTree<'a> {
         self.slots.at_layout(layout, slot)
     }
 
-    /// The bytes of the column's data from the text in a slot on, and how many of them the text
-    /// has: none where the slot is null. The caller gives a slot below `len` of a column of texts.
+    /// Returns the bytes of the column's data from the text in a slot on, and how many of them the
+    /// text has, or `None` if the slot is null. `slot` must be below `len`, and the column one of
+    /// texts.
     #[inline(always)]
     pub fn text_at(&self, slot: usize) -> Option<(&'a [u8], usize)>
         requires layout { self.now.column.layout ≡ Layout.VariableBytes true }
@@ -187,8 +188,8 @@ impl<'a> ColumnTree<'a> {
         self.slots.text_at(slot)
     }
 
-    /// What a slot shows by its index, if the column has a dictionary of texts. The caller gives a
-    /// slot below `len`.
+    /// Returns what a slot shows by its index, if the column has a dictionary of texts. `slot` must
+    /// be below `len`.
     #[inline(always)]
     pub fn entry_at(&self, slot: usize) -> Entry<'a>
         requires { slot < length (slot_values self.now) }
@@ -200,7 +201,7 @@ impl<'a> ColumnTree<'a> {
         }
     }
 
-    /// How many children there are.
+    /// Returns the number of children.
     #[inline(always)]
     pub fn children(&self) -> usize
         ensures { result ≡ length self.now.children }
@@ -208,7 +209,7 @@ impl<'a> ColumnTree<'a> {
         self.children.as_slice().len()
     }
 
-    /// Child `i`. The caller gives an `i` below `children`.
+    /// Returns child `i`, which must be below `children`.
     #[inline(always)]
     #[tactic(auto, using(crate::proofs::Trees::child_at))]
     pub fn child(&self, i: usize) -> &ColumnTree<'a>
@@ -219,7 +220,7 @@ impl<'a> ColumnTree<'a> {
     }
 }
 
-/// Finds all columns below these slots. It refuses only where memory ran out.
+/// Finds all columns below these slots. Returns an error only if memory ran out.
 pub fn tree_of<'a>(alloc: Global, slots: SlotView<'a>) -> Result<ColumnTree<'a>, AllocError>
     ensures { IfOk result (λ tree. tree ≡ slots.entry) }
 {
@@ -258,7 +259,7 @@ impl<'a> Model for ColumnReader<'a> {
 }
 
 impl<'a> ColumnReader<'a> {
-    /// Finds all columns below this one. It refuses only where memory ran out.
+    /// Finds all columns below this one. Returns an error only if memory ran out.
     pub fn new(alloc: Global, values: ColumnView<'a>) -> Result<ColumnReader<'a>, AllocError>
         ensures { IfOk result (λ column. column ≡ values.entry) }
     {
@@ -266,7 +267,7 @@ impl<'a> ColumnReader<'a> {
         Ok(ColumnReader { tree })
     }
 
-    /// The slots of the column and of those below it.
+    /// Returns the slots of the column and of those below it.
     #[inline(always)]
     pub fn tree(&self) -> &ColumnTree<'a>
         ensures { slot_values result.now ≡ self.now }

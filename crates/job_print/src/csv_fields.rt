@@ -177,7 +177,7 @@ fn begins_plainly(dialect: &Dialect<'_>, bytes: &[u8], len: usize) -> bool
     differs_from_null(dialect.null().as_bytes(), bytes, len)
 }
 
-/// Writes a text. X3 where it is the text of null, other than `\N`.
+/// Writes a text. Returns X3 if it is the text of null, other than `\N`.
 #[inline(never)]
 pub(crate) fn put_text_field(
     out: &mut TextBuffer,
@@ -247,8 +247,8 @@ fn are_empty(bytes: &[u8], null: &[u8]) -> bool
     matches!((bytes, null), ([], []))
 }
 
-/// Writes two lower-case hexadecimal digits for each byte. X3 where there are no bytes and the text
-/// of null is empty.
+/// Writes two lower-case hexadecimal digits for each byte. Returns X3 if there are no bytes and the
+/// text of null is empty.
 #[inline(always)]
 pub(crate) fn put_bytes_field(
     out: &mut TextBuffer,

@@ -31,11 +31,11 @@ pub struct PrintOptions<'a> {
     /// Whether a stream that ends without the end-of-stream mark is refused. It has no effect if
     /// the rows reach the limit.
     pub require_mark: bool,
-    /// How many rows are printed at most. All are printed if it is `None`.
+    /// The number of rows to print at most, or `None` for all of them.
     pub limit: Option<u64>,
 }
 
-/// Whether no more rows are printed after `rows` rows. A count of rows stops at 2^64 - 1.
+/// Returns whether no more rows are printed after `rows` rows. A count of rows stops at 2^64 - 1.
 pub fn has_reached(limit: Option<u64>, rows: u64) -> bool
     ensures reached { IsTrue result → HasReached limit rows }
     ensures below { (count : ℕ) → rows ≡ count_up 0 count → IsFalse result
@@ -47,8 +47,8 @@ pub fn has_reached(limit: Option<u64>, rows: u64) -> bool
     }
 }
 
-/// How many of a batch's `rows` rows are printed, if `before` rows came before it. A count of rows
-/// stops at 2^64 - 1.
+/// Returns how many of a batch's `rows` rows are printed, if `before` rows came before it. A count
+/// of rows stops at 2^64 - 1.
 pub fn count_wanted(limit: Option<u64>, before: u64, rows: usize) -> usize
     ensures wanted { (count : ℕ) → before ≡ count_up 0 count
         → result ≡ wanted_rows limit count rows }

@@ -7,7 +7,7 @@ ghost use Rattle.hex.specs.Hex.{encode_lower};
 
 use crate::bytes::put_word;
 
-/// The digit of a number below 16, in lower case.
+/// Returns the digit of a number below 16, in lower case.
 #[inline(always)]
 pub(crate) fn hex_digit(number: u8) -> u8
     requires { number < 16 }

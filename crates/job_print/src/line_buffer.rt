@@ -28,7 +28,7 @@ const INITIAL_LEN: usize = FULL_LEN + (1 << 12);
 pub enum PrintFault {
     /// The sink failed.
     Write,
-    /// The text found no room.
+    /// Memory for the text ran out.
     OutOfMemory,
 }
 
@@ -143,7 +143,7 @@ impl LineBuffer {
     /// has no line. Returns an error if memory ran out.
     ///
     /// The caller gives the columns of a batch, a row below its `rows`, and the fields of the
-    /// columns, which the form has a place for.
+    /// columns, which the form can represent.
     #[inline(always)]
     pub fn put_line(
         &mut self,
@@ -169,8 +169,8 @@ impl LineBuffer {
         }
     }
 
-    /// Sends what is kept, and flushes the sink. `Write` is answered where it failed, and nothing
-    /// else; then what was kept is lost.
+    /// Sends what is kept, and flushes the sink. Errors: only `Write`, if the sink failed; then the
+    /// kept text is lost.
     pub fn flush<W: Sink>(&mut self, sink: &mut W) -> Result<(), PrintFault>
         ensures works { MatchResult result (λ _. W.failures sink.new ≡ 0)
             (λ fault. fault ≡ PrintFault.Write) }

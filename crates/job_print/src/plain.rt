@@ -76,8 +76,8 @@ fn put_any_length(text: &mut [u8], at: usize, mark: u8, chars: &[u8]) -> bool
     }
 }
 
-/// Writes a text from `at` on, and returns whether it is plain beside `mark`, the backslash in JSON
-/// and the delimiter in CSV.
+/// Writes a text from `at` on, and returns whether it has no quotation mark, control character or
+/// `mark`, the backslash in JSON and the delimiter in CSV.
 #[inline(always)]
 #[tactic(auto, using(crate::proofs::PlainBytes::plain_json, crate::proofs::PlainBytes::plain_csv))]
 pub fn put_if_plain(text: &mut [u8], at: usize, mark: u8, chars: &[u8]) -> bool
@@ -90,8 +90,8 @@ pub fn put_if_plain(text: &mut [u8], at: usize, mark: u8, chars: &[u8]) -> bool
     put_any_length(text, at, mark, chars)
 }
 
-/// Writes sixteen bytes from `at` on, and returns whether they are plain beside `mark`, and so the
-/// first `len`.
+/// Writes sixteen bytes from `at` on, and returns whether they, and so the first `len`, have no
+/// quotation mark, control character or `mark`.
 #[inline(always)]
 pub fn put_front_if_plain(text: &mut [u8], at: usize, mark: u8, bytes: &[u8], len: usize) -> bool
     requires room { at + 16 ≤ length text.old }

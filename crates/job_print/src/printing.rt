@@ -219,7 +219,7 @@ fn check_form(form: Form<'_>, schema: &Schema) -> Result<(), TextFault>
     }
 }
 
-/// Why rows weren't printed, as a refusal of writing.
+/// Returns why rows were not printed as a refusal of writing.
 pub(crate) fn write_fault_of(fault: PrintFault) -> WriteFault
     ensures { result ≡ write_fault fault }
 {
@@ -266,8 +266,8 @@ fn print_open<R: Source, W: Sink, P: Progress>(
 /// end-of-stream mark is read. At Ok the sink was flushed.
 ///
 /// The text of the schema and of each batch is written, and the sink is flushed, before the next
-/// batch is read. A batch takes one write for each 64 KiB of its text, and at least one. After each
-/// batch that was printed, `progress` is called once; `()` ignores it.
+/// batch is read. Text is sent whenever 64 KiB are kept, and after each batch; no clause counts the
+/// writes. After each batch that was printed whole, `progress` is called once; `()` ignores it.
 ///
 /// With a limit of rows, printing ends with Ok at the last of them. The batch that has it is read
 /// whole, and no message after it; at limit 0 only the schema is read. No end-of-stream mark is

@@ -56,7 +56,7 @@ impl TextBuffer {
         })
     }
 
-    /// The text.
+    /// Returns the text.
     #[inline(always)]
     pub fn as_slice(&self) -> &[u8]
         ensures { result.now ≡ self.now.text }
@@ -64,7 +64,7 @@ impl TextBuffer {
         &self.bytes[..self.len]
     }
 
-    /// How many bytes the text has.
+    /// Returns the number of bytes of the text.
     #[inline(always)]
     pub fn len(&self) -> usize
         ensures { result ≡ length self.now.text }
@@ -194,8 +194,8 @@ impl TextBuffer {
         Ok(())
     }
 
-    /// Adds a text, if it is plain beside `mark`: the backslash in JSON, and the delimiter in CSV.
-    /// Returns false, and adds nothing, if it may not be.
+    /// Adds a text, if it has no quotation mark, control character or `mark`: the backslash in
+    /// JSON, and the delimiter in CSV. Otherwise it adds nothing and returns false.
     #[inline(always)]
     pub fn put_if_plain(&mut self, mark: u8, chars: &[u8]) -> bool
         requires { length chars.now ≤ self.old.room }
@@ -211,8 +211,8 @@ impl TextBuffer {
         plain
     }
 
-    /// Adds the first `len` of sixteen bytes, if the sixteen are plain beside `mark`. Returns
-    /// false, and adds nothing, if they may not be.
+    /// Adds the first `len` of sixteen bytes, if the sixteen have no quotation mark, control
+    /// character or `mark`. Otherwise it adds nothing and returns false.
     #[inline(always)]
     pub fn put_front_if_plain(&mut self, mark: u8, bytes: &[u8], len: usize) -> bool
         requires room { 16 ≤ self.old.room }

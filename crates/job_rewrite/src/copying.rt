@@ -148,8 +148,8 @@ fn copy_stream<R: Source, W: Sink, P: Progress>(
 /// written is within `sent_limits(&limits, options)`. After each batch that was written,
 /// `progress` is called once; `()` ignores it.
 ///
-/// The values of dictionaries are hashed with `seed`. Nobody who does not know a random seed can
-/// choose values whose hashes collide.
+/// The code hashes the values of dictionaries with `seed`; no clause says so. With a random seed
+/// nobody who does not know it can choose values whose hashes collide.
 ///
 /// With `options.require_mark`, a stream that ends without the end-of-stream mark is refused with
 /// F4 and the number of the message after its last one. Its batches were sent then, and no mark.

@@ -130,7 +130,7 @@ fn prints_others(alloc: Global) -> bool {
         && prints(
             alloc,
             &BuildFault::TooLarge,
-            "the tree has more room than it may",
+            "the size bound of the tree is too large",
         )
         && prints(alloc, &BuildFault::OutOfMemory, "out of memory")
 }
