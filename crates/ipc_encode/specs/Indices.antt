@@ -14,7 +14,7 @@ use Rattle.ipc_encode.specs.Cells.{is_set}
 use Rattle.ipc_encode.specs.Buffers.{child_values, row_columns}
 use Rattle.ipc_encode.specs.Numbers.{Numbering}
 
--- `JobKind` holds for each value other than null in a column of indices, with their width and sign
+-- `Asked` holds for each value other than null in a column of indices, with their width and sign
 -- and the dictionary's id; nothing is stated for other columns
 abbrev pub InColumn : (IntBits → Bool → ℤ → Value → Type 0) → Layout → List Value → Type 0
 InColumn Asked (l.Indices bits signed id) values =
@@ -28,14 +28,14 @@ InColumn Asked l.Lists values = ⊤
 InColumn Asked (l.FixedLists size) values = ⊤
 InColumn Asked l.Structs values = ⊤
 
--- `JobKind` holds for the indices of each column and each column below it (`InColumn`)
+-- `Asked` holds for the indices of each column and each column below it (`InColumn`)
 abbrev pub InColumns : (IntBits → Bool → ℤ → Value → Type 0) → Shape → (ℕ → List Value) → Type 0
 InColumns Asked bare given = ⊤
 InColumns Asked (field l children rest) given = InColumn Asked l (given 0)
     × (InColumns Asked children (child_values l (given 0))
     × InColumns Asked rest (λ j. given (suc j)))
 
--- `JobKind` holds for the indices of the columns of rows (`InColumn`)
+-- `Asked` holds for the indices of the columns of rows (`InColumn`)
 abbrev pub InRows : (IntBits → Bool → ℤ → Value → Type 0) → List Field → List (List Value) → Type 0
 InRows Asked fields rows = InColumns Asked (shape_of fields) (row_columns rows)
 
