@@ -1,14 +1,13 @@
 -- Packed bits: what they hold, whole bytes of them, and the nulls that they mark.
-use Rattle.std.proofs.Common.{◌≡◌, ◌∙◌, refl, ap, ℕ, zero, suc, ◌+◌, ◌*◌, ◌/◌, ◌%◌, ◌<◌, ◌≤◌, Bool, true, false, cond, List, [], ◌∷◌}
+use Rattle.std.proofs.Common.{subst, ◌≡◌, ◌∙◌, refl, ap, ℕ, zero, suc, ◌+◌, ◌*◌, ◌/◌, ◌%◌, ◌<◌, ◌≤◌, Bool, true, false, cond, List, [], ◌∷◌}
 use Rattle.std.proofs.Common.{length, take, drop, get_or, drop-cons, drop-drop, get_or-take, get_or-drop, arith, sym, ◌-◌, ◌^◌, ◌++◌}
-use Rattle.std.proofs.Common.{take_all, length-append, length-take, replicate, inl, inr, length-drop, append_assoc, add-one}
+use Rattle.std.proofs.Common.{take_all, length-append, length-take, replicate, inl, inr, length-drop, add-one}
 use Rattle.std.proofs.Math.ListN.{get_or-eq_default}
 use Rattle.std.proofs.Math.Pow.{pow_mono}
-use Rattle.std.proofs.Math.Seq.{take-add}
 use Rattle.std.proofs.lemmas.Bool.{and_parts, cases_lt, eqb-true, eqb-false, ne_eqb}
-use Rattle.std.proofs.lemmas.List.{take-append-le, length-replicate, drop-append-le, length-take-le, take_more}
+use Rattle.std.proofs.lemmas.List.{take-append-le, length-replicate, length-take-le, take_more}
 use Rattle.std.proofs.lemmas.List as lists
-use Rattle.std.proofs.lemmas.Nat.{one_shl, and_le_l}
+use Rattle.std.proofs.lemmas.Nat.{one_shl}
 use Rattle.std.proofs.lemmas.Nat.Bits.{bit_at-zero, bit_at_lowest, bit_at-suc, bit_at-lt, bit_at_and}
 use Rattle.std.specs.Int.{bit_at, from_bool}
 use Rattle.std.specs.Int.Bits.{or_shifted_r}
@@ -362,47 +361,58 @@ front_small n bs small l k =
       | inr h ↦ rw (get_or-eq_default (take n bs) 0 (let past : length (take n bs) ≤ k = omega (arith, front, h) in past)) (omega arith)
     ]
 
--- bytes whose bits are these flags
-bytes_tell : (bs : List ℕ) (fs : List Bool) → length fs ≡ 8 * length bs → ((k : ℕ) → get_or bs k 0 < 256)
+-- no bytes are left behind fewer than eight flags
+none_left : (bs : List ℕ) (fs : List Bool) → length bs ≡ 0 → flags_bytes (length bs) fs ≡ bs
+none_left [] fs none = refl
+none_left (b ∷ bs) fs none = absurd (omega arith)
+
+-- bytes whose bits are these flags, and none behind the last of them
+bytes_tell : (bs : List ℕ) (fs : List Bool) → (length fs + 7) / 8 ≡ length bs → ((k : ℕ) → get_or bs k 0 < 256)
+    → (0 < length fs % 8 → get_or bs (length fs / 8) 0 < 2 ^ (length fs % 8))
     → ((i : ℕ) → i < length fs → bit bs i ≡ get_or fs i false)
     → flags_bytes (length bs) fs ≡ bs
-bytes_tell [] fs size small e = refl
-bytes_tell (b ∷ bs) fs size small e =
-    let front : length (take 8 fs) ≤ 8 = omega (arith, length-take 8 fs) in
-    let first : flags_number (take 8 fs) ≡ b =
-    bits_tell 8 (take 8 fs) b front (small 0) (λ r m.
-    sym (bit_first b bs r m) ∙ (e r (omega (arith, size)) ∙ sym (get_or-take 8 fs r false m))) in
-    let left : length (drop 8 fs) ≡ 8 * length bs = omega (arith, length-drop 8 fs, size) in
-    let rest : flags_bytes (length bs) (drop 8 fs) ≡ bs =
-    bytes_tell bs (drop 8 fs) left (λ k. small (suc k)) (λ i m.
-    sym (bit_behind b bs i) ∙ (e (8 + i) (omega (arith, length-drop 8 fs)) ∙ sym (get_or-drop 8 fs i false))) in
-    rw (first, rest) refl
+bytes_tell [] fs size small last e = refl
+bytes_tell (b ∷ bs) fs size small last e = elim (cases_lt (length fs) 8) as (λ _. flags_bytes (suc (length bs)) fs ≡ b ∷ bs) [
+  | inl few ↦
+      let place : length fs / 8 ≡ 0 = omega (arith, few) in
+      let own : length fs % 8 ≡ length fs = omega (arith, few) in
+      let some : 0 < length fs % 8 = omega (arith, size, few) in
+      let under : b < 2 ^ length fs = subst (λ (k : ℕ). b < 2 ^ k) own
+      (subst (λ (k : ℕ). get_or (b ∷ bs) k 0 < 2 ^ (length fs % 8)) place (last some)) in
+      let first : flags_number (take 8 fs) ≡ b =
+      ap flags_number (take_all 8 fs (omega (arith, few)))
+      ∙ bits_tell (length fs) fs b (omega arith) under (λ r m. sym (bit_first b bs r (omega (arith, m, few))) ∙ e r m) in
+      let rest = none_left bs (drop 8 fs) (omega (arith, size, few)) in
+      rw (first, rest) refl
+  | inr many ↦
+      let left = length-drop 8 fs in
+      let place : length fs / 8 ≡ suc (length (drop 8 fs) / 8) = omega (arith, left, many) in
+      let same : length fs % 8 ≡ length (drop 8 fs) % 8 = omega (arith, left, many) in
+      let front : length (take 8 fs) ≤ 8 = omega (arith, length-take 8 fs) in
+      let first : flags_number (take 8 fs) ≡ b =
+      bits_tell 8 (take 8 fs) b front (small 0) (λ r m.
+      sym (bit_first b bs r m) ∙ (e r (omega (arith, m, many)) ∙ sym (get_or-take 8 fs r false m))) in
+      let rest : flags_bytes (length bs) (drop 8 fs) ≡ bs =
+      bytes_tell bs (drop 8 fs) (omega (arith, size, left, many)) (λ k. small (suc k))
+      (λ some. subst (λ (k : ℕ). get_or bs (length (drop 8 fs) / 8) 0 < 2 ^ k) same
+      (subst (λ (k : ℕ). get_or (b ∷ bs) k 0 < 2 ^ (length fs % 8)) place (last (omega (arith, some, same)))))
+      (λ i m.
+      sym (bit_behind b bs i) ∙ (e (8 + i) (omega (arith, m, left)) ∙ sym (get_or-drop 8 fs i false))) in
+      rw (first, rest) refl
+]
 
--- flags behind others that fill their bytes
-bytes_append : (n m : ℕ) (fs gs : List Bool) → length fs ≡ 8 * n → flags_bytes (n + m) (fs ++ gs) ≡ flags_bytes n fs ++ flags_bytes m gs
-bytes_append zero m [] gs size = ap (λ (k : ℕ). flags_bytes k gs) (let e : 0 + m ≡ m = omega arith in e)
-bytes_append zero m (f ∷ fs) gs size = absurd (omega arith)
-bytes_append (suc n) m fs gs size =
-    let more : suc n + m ≡ suc (n + m) = omega arith in
-    let front = take-append-le 8 fs gs (omega arith) in
-    let behind = drop-append-le 8 fs gs (omega arith) in
-    let rest = bytes_append n m (drop 8 fs) gs (omega (arith, length-drop 8 fs)) in
-    rw (more, front, behind, rest) refl
-
--- bytes behind flags that fill theirs
-pub bytes_more : (fs gs : List Bool) (bs : List ℕ) → length fs % 8 ≡ 0 → length gs ≡ 8 * length bs → ((k : ℕ) → get_or bs k 0 < 256)
-    → ((i : ℕ) → i < length gs → bit bs i ≡ get_or gs i false)
-    → bitmap fs ++ bs ≡ bitmap (fs ++ gs)
-bytes_more fs gs bs full size small e =
-    let n = length fs / 8 in
-    let split : length fs ≡ 8 * n = omega arith in
-    let held : (length fs + 7) / 8 ≡ n = omega arith in
-    let all = length-append fs gs in
-    let count : (length (fs ++ gs) + 7) / 8 ≡ n + length bs = omega (arith, all, size, split) in
-    let report = bytes_tell bs gs size small e in
-    ap (λ (k : ℕ). flags_bytes k fs ++ bs) held
-    ∙ (ap (λ (b : List ℕ). flags_bytes n fs ++ b) (sym report)
-    ∙ (sym (bytes_append n (length bs) fs gs split) ∙ ap (λ (k : ℕ). flags_bytes k (fs ++ gs)) (sym count)))
+-- the first bytes are those that are packed from the flags, where no bit is set behind the last of them
+pub first_bits : (bs : List ℕ) (fs : List Bool) (n : ℕ) → length fs ≡ n → n ≤ 8 * length bs → ((k : ℕ) → get_or bs k 0 < 256)
+    → (0 < n % 8 → get_or bs (n / 8) 0 < 2 ^ (n % 8)) → ((i : ℕ) → i < n → bit bs i ≡ get_or fs i false)
+    → take ((n + 7) / 8) bs ≡ bitmap fs
+first_bits bs fs n size long small last e =
+    let k = (n + 7) / 8 in
+    let inside : k ≤ length bs = omega (arith, long) in
+    let front : length (take k bs) ≡ k = length-take-le k bs inside in
+    sym (bytes_tell (take k bs) fs (ap (λ (m : ℕ). (m + 7) / 8) size ∙ sym front) (front_small k bs small inside)
+    (λ some. rw (get_or-take k bs (length fs / 8) 0 (omega (arith, some, size)), size) (last (omega (arith, some, size))))
+    (λ i m. bit_in_front k bs i (omega (arith, m, size)) ∙ e i (omega (arith, m, size))))
+    ∙ ap (λ (m : ℕ). flags_bytes m fs) (front ∙ ap (λ (m : ℕ). (m + 7) / 8) (sym size))
 
 -- the flags of values and of others
 pub flags_append : (which : Flag) (vs ws : List Value) → flags which (vs ++ ws) ≡ flags which vs ++ flags which ws
@@ -430,37 +440,6 @@ bit_in_byte bs k r h =
     let byte : (8 * k + r) / 8 ≡ k = omega arith in
     let place : (8 * k + r) % 8 ≡ r = omega arith in
     rw (byte, place) refl
-
--- one byte more of flags that are set in both of two bitmaps
-pub both_more : (before more : List Bool) (xs ys : List ℕ) (x y k : ℕ) → length before % 8 ≡ 0 → 8 * (k + 1) ≤ length more
-    → ((i : ℕ) → i < length more → get_or more i false ≡ (bit xs i && bit ys i)) → x ≡ get_or xs k 0 → y ≡ get_or ys k 0 → x < 256
-    → bitmap (before ++ take (8 * k) more) ++ bit_and x y ∷ [] ≡ bitmap (before ++ take (8 * (k + 1)) more)
-both_more before more xs ys x y k full l e ex ey small =
-    let front = length-take-le (8 * k) more (omega (arith, l)) in
-    let held = length-append before (take (8 * k) more) in
-    let size : length (take 8 (drop (8 * k) more)) ≡ 8 =
-    length-take-le 8 (drop (8 * k) more) (omega (arith, length-drop (8 * k) more, l)) in
-    let under = and_le_l x y in
-    let next : take (8 * k) more ++ take 8 (drop (8 * k) more) ≡ take (8 * (k + 1)) more =
-    sym (take-add (8 * k) 8 more) ∙ ap (λ (n : ℕ). take n more) (let n : 8 * k + 8 ≡ 8 * (k + 1) = omega arith in n) in
-    bytes_more (before ++ take (8 * k) more) (take 8 (drop (8 * k) more)) (bit_and x y ∷ [])
-    (let whole : length (before ++ take (8 * k) more) % 8 ≡ 0 = omega (arith, held, front, full) in whole)
-    size (λ i. few i under small)
-    (λ i m.
-    let inside : i < 8 = omega (arith, m, size) in
-    bit_first (bit_and x y) [] i inside
-    ∙ (both_set x y i
-    ∙ (ap (λ (n : ℕ). (bit_at n i == 1) && (bit_at y i == 1)) ex
-    ∙ (ap (λ (n : ℕ). (bit_at (get_or xs k 0) i == 1) && (bit_at n i == 1)) ey
-    ∙ (ap (λ (f : Bool). f && (bit_at (get_or ys k 0) i == 1)) (sym (bit_in_byte xs k i inside))
-    ∙ (ap (λ (f : Bool). bit xs (8 * k + i) && f) (sym (bit_in_byte ys k i inside))
-    ∙ (sym (e (8 * k + i) (omega (arith, inside, l)))
-    ∙ (sym (get_or-drop (8 * k) more i false) ∙ sym (get_or-take 8 (drop (8 * k) more) i false inside)))))))))
-    ∙ ap bitmap (append_assoc before (take (8 * k) more) (take 8 (drop (8 * k) more)) ∙ ap (λ (fs : List Bool). before ++ fs) next)
-  where
-    few : (i : ℕ) → bit_and x y ≤ x → x < 256 → get_or (bit_and x y ∷ []) i 0 < 256
-    few zero under small = omega (arith, under, small)
-    few (suc i) under small = omega arith
 
 -- the bits of one byte more, all of which are set in that of another list too
 pub among_next : (xs ys : List ℕ) (k : ℕ) → bit_and (get_or xs k 0) (get_or ys k 0) ≡ get_or xs k 0
@@ -550,26 +529,3 @@ nulls_next vs i l = ap nulls (take_more vs i Null l) ∙ nulls_push (take i vs) 
 pub flag_small : (flag : Bool) → from_bool flag < 2
 flag_small true = omega arith
 flag_small false = omega arith
-
--- ---- a byte at a time
-
--- bytes of a bitmap behind flags that fill theirs
-pub marked_bytes : (b : List ℕ) (before values : List Value) (n : ℕ) → MarksNulls b values → (length b ≡ 0 → ⊥)
-    → ((k : ℕ) → get_or b k 0 < 256) → length before % 8 ≡ 0 → 8 * n ≤ length values → n ≤ length b
-    → bitmap (flags Valid before) ++ take n b ≡ bitmap (flags Valid (before ++ take (n * 8) values))
-marked_bytes b before values n marks some small full l m =
-    let front = length-take-le n b m in
-    let many = length-take-le (n * 8) values (omega (arith, l)) in
-    let held = flags_length Valid before in
-    let more = flags_length Valid (take (n * 8) values) in
-    bytes_more (flags Valid before) (flags Valid (take (n * 8) values)) (take n b) (omega (arith, held, full))
-    (omega (arith, more, many, front))
-    (front_small n b small m)
-    (λ i h.
-    let inside : i < n * 8 = omega (arith, h, more, many) in
-    let marked : is_valid b i ≡ bit b i = rw (ne_eqb (length b) 0 some) refl in
-    bit_in_front n b i (omega (arith, inside))
-    ∙ (sym marked ∙ (sym (marks.each i (omega (arith, inside, l)))
-    ∙ (ap (is_set Valid) (sym (lists.get_or-take (n * 8) values i Null inside)) ∙ sym (flag_at Valid (take (n * 8) values) i Null
-    (omega (arith, inside, many)))))))
-    ∙ ap bitmap (sym (flags_append Valid before (take (n * 8) values)))

@@ -1,7 +1,7 @@
 -- What the buffers of a column that was read hold, as those of a column that is built hold it.
 use Rattle.std.proofs.Common.{◌≡◌, ◌∙◌, refl, sym, ap, subst, ℕ, zero, suc, ◌+◌, ◌-◌, ◌*◌, ◌/◌, ◌<◌, ◌≤◌, Bool, true, false, cond, List}
 use Rattle.std.proofs.Common.{[], ◌∷◌, ◌++◌, length, take, drop, get_or, Some, add-one, arith, replicate, inl, inr, ◌^◌}
-use Rattle.std.proofs.Common.{length-drop}
+use Rattle.std.proofs.Common.{length-drop, length-take}
 use Rattle.std.proofs.Math.Nat.{mul-le-mul_left}
 use Rattle.std.proofs.Math.Seq.{take-add}
 use Rattle.std.proofs.lemmas.Bool.{eqb-false, eqb-true, false≢true, leb-true, ne_eqb, cases_lt}
@@ -13,6 +13,7 @@ use Rattle.std.specs.List.{AllByRecursion}
 use Rattle.std.specs.Prelude.{ℤ, not, slice_range, ◌==◌, ◌&&◌, ◌||◌, nat_le, pos, negsuc, int_le, unsigned_abs}
 use Rattle.ipc_scalar.specs.Bytes.{bit, clear, num}
 use Rattle.ipc_model.specs.Layouts.{number_bytes}
+use Rattle.ipc_model.specs.Limits.{max_data}
 use Rattle.ipc_model.specs.declared.layout.Layout.{Layout}
 use Rattle.ipc_model.specs.declared.layout.Layout.TheVariants as l
 use Rattle.ipc_model.specs.declared.schema.IntBits.{IntBits}
@@ -34,14 +35,14 @@ use Rattle.ipc_column.specs.checks.Rules.{IsText, HasUtf8Texts}
 use Rattle.ipc_column.specs.Values.{between, is_valid, own_value, row, signed_at, value_of, offset_position}
 use Rattle.ipc_column.specs.declared.buffers.Buffers.{Buffers}
 use Rattle.ipc_column.specs.declared.buffers.Numbers.{Numbers}
-use Rattle.ipc_encode.specs.Cells.{fixed_in, is_null, is_set, is_true, nulls, slot_bytes, slots, ends, HasUtf8, SpellsOut, bytes_in}
+use Rattle.ipc_encode.specs.Cells.{fixed_in, is_null, is_set, is_true, nulls, slot_bytes, slots, ends, flags, offsets, HasUtf8, SpellsOut, bytes_in}
 use Rattle.ipc_encode.specs.Cells.{content}
 use Rattle.ipc_encode.specs.Marks.{HasBits, MarksNulls}
 use Rattle.ipc_encode.specs.Pieces.{Fixed, True, Valid, ValueSlot, Number, Bytes, Content, Run}
 use Rattle.ipc_encode.specs.WholeColumns.{is_taken_whole}
 use Rattle.ipc_encode.specs.Writing.{AreStored}
-use Rattle.ipc_encode.proofs.Bits.{clear_nulls, unmarked}
-use Rattle.ipc_encode.proofs.NumberSlots.{null_out, signed_out, slots_next, unsigned_out, valid_at, null_slot, valid_slot}
+use Rattle.ipc_encode.proofs.Bits.{clear_nulls, flag_at, unmarked}
+use Rattle.ipc_encode.proofs.NumberSlots.{null_out, signed_out, slots_next, unsigned_out, null_slot, valid_slot}
 use Rattle.ipc_encode.proofs.NumberSlots.{num_small, unsigned_bytes}
 use Rattle.ipc_encode.proofs.Sizes.{content_data}
 use Rattle.ipc_encode.proofs.Steps.{bytes_extents, ends_push, extents, of_size}
@@ -100,6 +101,17 @@ own_set (l.VariableBytes false) d under o w i h = set_by _ _ (bytes_out (between
 own_set l.Structs d under o w i h = set_by _ _ (struct_out (under i))
 own_set _ d under o w i h = set_by _ _ (list_out _)
 
+-- the bitmap of a column says which slots are null
+pub column_marked : (s : Nested) → TellsNulls s.column.layout → MarksNulls s.column.validity (slot_values s)
+column_marked s tells = record { each = λ i m. ap (is_set Valid) (slot_is s i m) ∙ either i (is_valid s.column.validity i) }
+  where
+    either : (i : ℕ) (valid : Bool)
+        → is_set Valid
+        (cond valid (own_value s.column.layout s.column.dictionary (row (child_columns s)) s.column.offsets s.column.values i) v.Null)
+        ≡ valid
+    either i true = own_set s.column.layout s.column.dictionary (row (child_columns s)) s.column.offsets s.column.values i tells
+    either i false = ap (λ (f : Value-F Value). not (is_null f)) null_out
+
 module _ (s : Nested) (b : Buffers) (h : AreBuffers s b) where
   -- what stands in a slot, by the bit of its column's bitmap
   pub buffers_at : (i : ℕ) → i < length (slot_values s)
@@ -110,13 +122,8 @@ module _ (s : Nested) (b : Buffers) (h : AreBuffers s b) where
 
   -- the bitmap says which are null
   pub buffers_marked : TellsNulls b.layout → MarksNulls b.validity.now (slot_values s)
-  buffers_marked tells = record { each = λ i m. ap (is_set Valid) (buffers_at i m) ∙ either i (is_valid b.validity.now i) }
-    where
-      either : (i : ℕ) (valid : Bool)
-          → is_set Valid (cond valid (own_value b.layout s.column.dictionary (row (child_columns s)) b.offsets.now b.values.now i) v.Null)
-          ≡ valid
-      either i true = own_set b.layout s.column.dictionary (row (child_columns s)) b.offsets.now b.values.now i tells
-      either i false = ap (λ (f : Value-F Value). not (is_null f)) null_out
+  buffers_marked tells =
+      subst (λ (bs : List ℕ). MarksNulls bs (slot_values s)) (sym h.validity) (column_marked s (subst TellsNulls h.layout tells))
 
   -- and has a bit for each
   pub buffers_bits : HasBits b.validity.now (length (slot_values s))
@@ -136,32 +143,22 @@ module _ (s : Nested) (b : Buffers) (h : AreBuffers s b) where
           omega (arith, most)
 
 -- a column that is taken whole and has a bitmap
-module _ (s : Nested) (b : Buffers) (h : AreBuffers s b) (layout : Layout) (laid : s.column.layout ≡ layout)
-    (whole : is_taken_whole layout ≡ true) (some : layout ≡ l.Null → ⊥) where
+module _ (s : Nested) (whole : is_taken_whole s.column.layout ≡ true) (some : s.column.layout ≡ l.Null → ⊥) where
   -- its bitmap says which slots are null
-  pub whole_marked : MarksNulls b.validity.now (slot_values s)
-  whole_marked = buffers_marked s b h (
-    λ null. some (sym same ∙ null),
-    λ bits signed id is.
-        absurd (false≢true (subst (λ (x : Layout). is_taken_whole x ≡ true) (sym same ∙ is) whole)),
-  )
-    where
-      same : b.layout ≡ layout
-      same = h.layout ∙ laid
+  pub whole_marked : MarksNulls s.column.validity (slot_values s)
+  whole_marked = column_marked s
+      (some, λ bits signed id is. absurd (false≢true (subst (λ (x : Layout). is_taken_whole x ≡ true) is whole)))
 
   -- the clear bits are the nulls
   pub whole_nulls : (count : ℕ) → (0 < length s.column.validity → count ≡ clear s.column.validity (length (slot_values s)))
       → (length s.column.validity ≡ 0 → count ≡ 0) → count ≡ nulls (slot_values s)
   whole_nulls count with_bits without = either (length s.column.validity == 0) refl
     where
-      marks : MarksNulls s.column.validity (slot_values s)
-      marks = subst (λ (bs : List ℕ). MarksNulls bs (slot_values s)) h.validity whole_marked
-
       either : (e : Bool) → (length s.column.validity == 0) ≡ e → count ≡ nulls (slot_values s)
-      either true e = without (eqb-true _ _ e) ∙ sym (unmarked s.column.validity (slot_values s) marks (eqb-true _ _ e))
+      either true e = without (eqb-true _ _ e) ∙ sym (unmarked s.column.validity (slot_values s) whole_marked (eqb-true _ _ e))
       either false e =
           let bytes = eqb-false (length s.column.validity) 0 e in
-          with_bits (omega (arith, bytes)) ∙ clear_nulls s.column.validity (slot_values s) marks bytes
+          with_bits (omega (arith, bytes)) ∙ clear_nulls s.column.validity (slot_values s) whole_marked bytes
 
 -- a column of nulls has nothing but nulls
 pub nothing_stands : (s : Nested) → s.column.layout ≡ l.Null → (i : ℕ) → i < length (slot_values s) → get_or (slot_values s) i Null ≡ Null
@@ -267,7 +264,7 @@ module _ (s : Nested) (b : Buffers) (h : AreBuffers s b) (e : b.layout ≡ l.Bit
       either layout e false = ap is_true null_out ∙ and_false (bit b.values.now i)
 
   -- there is a bit for each
-  pub truths_there : length (slot_values s) / 8 ≤ length b.values.now
+  pub truths_there : length (slot_values s) ≤ 8 * length b.values.now
   truths_there =
       let count = slot_count s in
       let size = ap (λ (bs : List ℕ). length bs) h.values in
@@ -275,14 +272,24 @@ module _ (s : Nested) (b : Buffers) (h : AreBuffers s b) (e : b.layout ≡ l.Bit
       let enough = leb-true ((s.column.slots + 7) / 8) (length s.column.values) (rw laid at (lent_values s b h)) in
       omega (arith, enough, count, size)
 
+  -- where no null slot has its bit set, the bits are whether slots are true
+  pub truths_lent : ((i : ℕ) → i < length (slot_values s) → is_valid b.values.now i ≡ true → is_valid b.validity.now i ≡ true)
+      → (i : ℕ) → i < length (slot_values s) → bit b.values.now i ≡ get_or (flags True (slot_values s)) i false
+  truths_lent among i m =
+      both (bit b.values.now i) refl ∙ (sym (truth_at i m) ∙ sym (flag_at True (slot_values s) i Null m))
+    where
+      own : is_valid b.values.now i ≡ bit b.values.now i
+      own = let there = truths_there in rw (ne_eqb (length b.values.now) 0 (omega (arith, there, m))) refl
+
+      both : (set : Bool) → bit b.values.now i ≡ set → set ≡ (set && is_valid b.validity.now i)
+      both false e = refl
+      both true e = sym (among i m (own ∙ e))
+
 -- ---- a fixed width
 
 -- how long a cut is
 range_size : (bs : List ℕ) (a b : ℕ) → b ≤ length bs → length (slice_range bs a b) ≡ b - a
 range_size bs a b h = length-take-le (b - a) (drop a bs) (omega (arith, length-drop a bs))
-
-pub tells_widths : (layout : Layout) (width : ℕ) → layout ≡ l.FixedBytes width → TellsNulls layout
-tells_widths layout width e = (λ is. absurd (cc (e, is)), λ bits signed id is. absurd (cc (e, is)))
 
 module _ (s : Nested) (b : Buffers) (h : AreBuffers s b) (width : ℕ) (e : b.layout ≡ l.FixedBytes width) where
   -- the bytes of all slots are there
@@ -292,38 +299,46 @@ module _ (s : Nested) (b : Buffers) (h : AreBuffers s b) (width : ℕ) (e : b.la
       let laid : s.column.layout ≡ l.FixedBytes width = sym h.layout ∙ e in
       rw (h.values, count) (leb-true (width * s.column.slots) (length s.column.values) (rw laid at (lent_values s b h)))
 
-  -- a slot that isn't null holds its bytes
-  width_at : nulls (slot_values s) ≡ 0 → (i : ℕ) → i < length (slot_values s)
-      → slot_bytes (Fixed width) (get_or (slot_values s) i Null) ≡ slice_range b.values.now (width * i) (width * (i + 1))
-  width_at none i m =
-      let marks = buffers_marked s b h (tells_widths b.layout width e) in
-      let valid : is_valid b.validity.now i ≡ true = sym (marks.each i m) ∙ valid_at (slot_values s) i none m in
-      ap (slot_bytes (Fixed width)) (buffers_at s b h i m ∙ rw valid refl)
-      ∙ (own b.layout e
-      ∙ ap (λ (k : ℕ). slice_range b.values.now (width * i) k) (let k : width * i + width ≡ width * (i + 1) = omega arith in k))
-    where
-      own : (layout : Layout) → layout ≡ l.FixedBytes width
-          → slot_bytes (Fixed width) (own_value layout s.column.dictionary (row (child_columns s)) b.offsets.now b.values.now i)
-          ≡ slice_range b.values.now (width * i) (width * i + width)
-      own layout e =
-          let slot = slice_range b.values.now (width * i) (width * i + width) in
-          let there = widths_there in
-          let most : width * (i + 1) ≤ width * length (slot_values s) = mul-le-mul_left width (omega (arith, m)) in
-          let more : width * (i + 1) ≡ width * i + width = omega arith in
-          let size = range_size b.values.now (width * i) (width * i + width) (omega (arith, there, most, more)) in
-          rw e (ap (fixed_in width) (bytes_out slot) ∙ of_size slot (replicate width 0) width (omega (arith, size)))
+  module _ (zeros : (i : ℕ) → i < length (slot_values s) → is_valid b.validity.now i ≡ false
+      → take width (drop (width * i) b.values.now) ≡ replicate width 0) where
+    -- a slot is the bytes that lie there
+    width_at : (i : ℕ) → i < length (slot_values s)
+        → slot_bytes (Fixed width) (get_or (slot_values s) i Null) ≡ slice_range b.values.now (width * i) (width * (i + 1))
+    width_at i m = ap (slot_bytes (Fixed width)) (buffers_at s b h i m) ∙ either (is_valid b.validity.now i) refl
+      where
+        next : width * i + width ≡ width * (i + 1)
+        next = omega arith
 
-  pub widths_lent : nulls (slot_values s) ≡ 0 → take (width * length (slot_values s)) b.values.now ≡ slots (Fixed width) (slot_values s)
-  widths_lent none =
-      let n = length (slot_values s) in
-      let start : width * 0 ≡ 0 = omega arith in
-      let size : width * n - 0 ≡ width * n = omega arith in
-      ap (λ (k : ℕ). take k b.values.now) (sym size)
-      ∙ (ap (λ (k : ℕ). slice_range b.values.now k (width * n)) (sym start)
-      ∙ sym (joined_slots (Fixed width) (slot_values s) b.values.now (λ i. width * i) (record {
-        each = width_at none;
-        rise = λ i m. let more : width * (i + 1) ≡ width * i + width = omega arith in omega (arith, more);
-      })))
+        own : (layout : Layout) → layout ≡ l.FixedBytes width
+            → slot_bytes (Fixed width) (own_value layout s.column.dictionary (row (child_columns s)) b.offsets.now b.values.now i)
+            ≡ slice_range b.values.now (width * i) (width * i + width)
+        own layout e =
+            let slot = slice_range b.values.now (width * i) (width * i + width) in
+            let there = widths_there in
+            let most : width * (i + 1) ≤ width * length (slot_values s) = mul-le-mul_left width (omega (arith, m)) in
+            let size = range_size b.values.now (width * i) (width * i + width) (omega (arith, there, most, next)) in
+            rw e (ap (fixed_in width) (bytes_out slot) ∙ of_size slot (replicate width 0) width (omega (arith, size)))
+
+        either : (valid : Bool) → is_valid b.validity.now i ≡ valid
+            → slot_bytes (Fixed width)
+            (cond valid (own_value b.layout s.column.dictionary (row (child_columns s)) b.offsets.now b.values.now i) v.Null)
+            ≡ slice_range b.values.now (width * i) (width * (i + 1))
+        either true e' = own b.layout e ∙ ap (slice_range b.values.now (width * i)) next
+        either false e' =
+            let wide : width ≡ width * (i + 1) - width * i = omega (arith, next) in
+            ap (fixed_in width) null_out ∙ (sym (zeros i m e') ∙ ap (λ (k : ℕ). take k (drop (width * i) b.values.now)) wide)
+
+    pub widths_lent : take (width * length (slot_values s)) b.values.now ≡ slots (Fixed width) (slot_values s)
+    widths_lent =
+        let n = length (slot_values s) in
+        let start : width * 0 ≡ 0 = omega arith in
+        let size : width * n - 0 ≡ width * n = omega arith in
+        ap (λ (k : ℕ). take k b.values.now) (sym size)
+        ∙ (ap (λ (k : ℕ). slice_range b.values.now k (width * n)) (sym start)
+        ∙ sym (joined_slots (Fixed width) (slot_values s) b.values.now (λ i. width * i) (record {
+          each = width_at;
+          rise = λ i m. let more : width * (i + 1) ≡ width * i + width = omega arith in omega (arith, more);
+        })))
 
 -- ---- numbers whose null slots are zeros, as they are written
 
@@ -433,6 +448,22 @@ ends_lie run vs o small there far (suc i) m =
     ∙ (ap (λ (bs : List ℕ). take (4 * i) (drop 4 o) ++ bs) (next ∙ ap (λ (bs : List ℕ). take 4 bs) (sym behind))
     ∙ (sym (take-add (4 * i) 4 (drop 4 o)) ∙ ap (λ (k : ℕ). take k (drop 4 o)) (sym more)))))
 
+-- and if the first of them is 0, they are those that are written
+pub offsets_lie : (run : Run) (vs : List Value) (o : List ℕ) → ((k : ℕ) → get_or o k 0 < 256) → 4 * (length vs + 1) ≤ length o
+    → ((i : ℕ) → i ≤ length vs → start_of o 0 + extents run (take i vs) ≡ start_of o i) → start_of o 0 ≡ 0
+    → take (4 * (length vs + 1)) o ≡ offsets run vs
+offsets_lie run vs o small there far first =
+    let n = length vs in
+    let head : bytes_low_first 0 4 (start_of o 0) ≡ take 4 (drop 0 o) = unsigned_bytes B32 o 0 small (omega (arith, there)) in
+    let size : 4 * (n + 1) ≡ 4 + 4 * n = omega arith in
+    let behind = ends_lie run vs o small there far n (omega arith) in
+    ap (λ (k : ℕ). take k o) size
+    ∙ (take-add 4 (4 * n) o
+    ∙ (ap (λ (bs : List ℕ). bs ++ take (4 * n) (drop 4 o)) (sym head)
+    ∙ (ap (λ (bs : List ℕ). bytes_low_first 0 4 (start_of o 0) ++ bs) (sym behind)
+    ∙ (ap (λ (ws : List Value). bytes_low_first 0 4 (start_of o 0) ++ ends run (start_of o 0) ws) (take_all n vs (omega arith))
+    ∙ ap (λ (k : ℕ). bytes_low_first 0 4 k ++ ends run k vs) first))))
+
 module _ (s : Nested) (b : Buffers) (h : AreBuffers s b) (utf8 : Bool) (e : b.layout ≡ l.VariableBytes utf8)
     (some : 0 < length (slot_values s)) where
   contents_laid : s.column.layout ≡ l.VariableBytes utf8
@@ -454,16 +485,18 @@ module _ (s : Nested) (b : Buffers) (h : AreBuffers s b) (utf8 : Bool) (e : b.la
       (bytes_rise utf8 s.column.offsets (child_columns s) s.column.slots 0 (length s.column.values) (omega (arith, some, count))
       (rw contents_laid at (lent_offsets s b h)) (rw contents_laid at (lent_order s b h)))
 
+  -- which point into the values
+  pub starts_inside : ((k : ℕ) → get_or b.offsets.now k 0 < 256) → (i : ℕ) → i ≤ length (slot_values s)
+      → start_of b.offsets.now i ≤ length b.values.now
+  starts_inside small i m =
+      let p = places b.offsets.now (length (slot_values s)) (length b.values.now) i i ascend (omega arith) m in
+      let here = place_is b.offsets.now (length (slot_values s)) (length b.values.now) i small ascend m in
+      omega (arith, p.last, p.inside, here)
+
 module _ (s : Nested) (b : Buffers) (h : AreBuffers s b) (utf8 : Bool) (e : b.layout ≡ l.VariableBytes utf8)
     (some : 0 < length (slot_values s)) (small : (k : ℕ) → get_or b.offsets.now k 0 < 256)
     (empty : (i : ℕ) → i < length (slot_values s) → is_valid b.validity.now i ≡ false
     → start_of b.offsets.now (i + 1) ≡ start_of b.offsets.now i) where
-  starts_within : (i : ℕ) → i ≤ length (slot_values s) → start_of b.offsets.now i ≤ length b.values.now
-  starts_within i m =
-      let p = places b.offsets.now (length (slot_values s)) (length b.values.now) i i (ascend s b h utf8 e some) (omega arith) m in
-      let here = place_is b.offsets.now (length (slot_values s)) (length b.values.now) i small (ascend s b h utf8 e some) m in
-      omega (arith, p.last, p.inside, here)
-
   contents_joined : LieJoined Content (slot_values s) b.values.now (start_of b.offsets.now)
   contents_joined = record { each = λ i m. each i m (is_valid b.validity.now i) refl; rise = rise }
     where
@@ -508,47 +541,32 @@ module _ (s : Nested) (b : Buffers) (h : AreBuffers s b) (utf8 : Bool) (e : b.la
       let up = up_to Content vs b.values.now (start_of o) contents_joined i m in
       let whole = ap (λ (bs : List ℕ). length bs) (joined_front Content vs b.values.now (start_of o) contents_joined i m) in
       let size : length (slice_range b.values.now (start_of o 0) (start_of o i)) ≡ start_of o i - start_of o 0 =
-      range_size b.values.now (start_of o 0) (start_of o i) (starts_within i m) in
+      range_size b.values.now (start_of o 0) (start_of o i) (starts_inside s b h utf8 e some small i m) in
       let run = content_extents (take i vs) in
       omega (arith, up, whole, size, run)
 
-  -- the offsets behind the first are the ends of the slots
-  ends_lent : slice_range b.offsets.now 4 (4 * (length (slot_values s) + 1)) ≡ ends Bytes (start_of b.offsets.now 0) (slot_values s)
-  ends_lent =
-      let n = length (slot_values s) in
-      ap (λ (k : ℕ). take k (drop 4 b.offsets.now)) (let k : 4 * (n + 1) - 4 ≡ 4 * n = omega arith in k)
-      ∙ (sym (ends_lie Bytes (slot_values s) b.offsets.now small (offsets_there s b h utf8 e some) front_extents n (omega arith))
-      ∙ ap (ends Bytes (start_of b.offsets.now 0)) (take_all n (slot_values s) (omega arith)))
+  module _ (first : start_of b.offsets.now 0 ≡ 0) where
+    -- the offsets are those that are written
+    pub contents_offsets : take (4 * (length (slot_values s) + 1)) b.offsets.now ≡ offsets Bytes (slot_values s)
+    contents_offsets = offsets_lie Bytes (slot_values s) b.offsets.now small (offsets_there s b h utf8 e some) front_extents first
 
-  -- and the bytes are those from the first of them to the last
-  bytes_lent : slice_range b.values.now (start_of b.offsets.now 0) (start_of b.offsets.now (length (slot_values s)))
-      ≡ slots Content (slot_values s)
-  bytes_lent = sym (joined_slots Content (slot_values s) b.values.now (start_of b.offsets.now) contents_joined)
+    -- and so are the bytes up to the last of them
+    pub contents_lent : take (start_of b.offsets.now (length (slot_values s))) b.values.now ≡ slots Content (slot_values s)
+    contents_lent =
+        let end = start_of b.offsets.now (length (slot_values s)) in
+        let all : end ≡ end - 0 = omega arith in
+        ap (λ (k : ℕ). take k b.values.now) all
+        ∙ (ap (λ (k : ℕ). slice_range b.values.now k end) (sym first)
+        ∙ sym (joined_slots Content (slot_values s) b.values.now (start_of b.offsets.now) contents_joined))
 
--- where the bytes of so many slots lie, and where they end
-pub record LieWhole (s : Nested) (o w : List ℕ) (count : ℕ) : Type 0 where
-  pub inside : start_of o count ≤ length w
-  pub there : 4 * (count + 1) ≤ length o
-  pub bytes : take (start_of o count) w ≡ slots Content (slot_values s)
-  pub ends_are : slice_range o 4 (4 * (count + 1)) ≡ ends Bytes 0 (slot_values s)
-
-pub lie_whole : (s : Nested) (b : Buffers) → AreBuffers s b → (utf8 : Bool) → b.layout ≡ l.VariableBytes utf8 → (count : ℕ)
-    → count ≡ length (slot_values s) → (count ≡ 0 → ⊥) → ((k : ℕ) → get_or b.offsets.now k 0 < 256)
-    → ((i : ℕ) → i < count → is_valid b.validity.now i ≡ false → start_of b.offsets.now (i + 1) ≡ start_of b.offsets.now i)
-    → start_of b.offsets.now 0 ≡ 0 → LieWhole s b.offsets.now b.values.now count
-lie_whole s b h utf8 e count size some small empty first =
-    let n = length (slot_values s) in
-    let o = b.offsets.now in
-    let few : 0 < n = omega (arith, size, some) in
-    let nothing : (i : ℕ) → i < n → is_valid b.validity.now i ≡ false → start_of o (i + 1) ≡ start_of o i =
-    λ i m. empty i (omega (arith, size, m)) in
-    rw size (record {
-      inside = starts_within s b h utf8 e few small nothing n (omega arith);
-      there = offsets_there s b h utf8 e few;
-      bytes = ap (λ (k : ℕ). take k b.values.now) (let all : start_of o n ≡ start_of o n - 0 = omega arith in all)
-          ∙ (ap (λ (k : ℕ). slice_range b.values.now k (start_of o n)) (sym first) ∙ bytes_lent s b h utf8 e few small nothing);
-      ends_are = ends_lent s b h utf8 e few small nothing ∙ ap (λ (k : ℕ). ends Bytes k (slot_values s)) first;
-    })
+    -- which are so few that offsets reach them
+    pub contents_short : length (slots Content (slot_values s)) ≤ max_data
+    contents_short =
+        let n = length (slot_values s) in
+        let end = place_few b.offsets.now n (length b.values.now) n small (ascend s b h utf8 e some) (omega arith) in
+        let size = ap (λ (bs : List ℕ). length bs) contents_lent in
+        let most = length-take (start_of b.offsets.now n) b.values.now in
+        omega (arith, end, size, most)
 
 -- the texts of a column are UTF-8 where each of its slots spells them
 pub texts_hold : (s : Nested) (utf8 : Bool) → s.column.layout ≡ l.VariableBytes utf8

@@ -9,6 +9,7 @@ pub mod Inside
 pub mod NumberSlots
 pub mod LentBuffers
 pub mod NestedSlots
+pub mod WrittenBuffers
 pub mod Copied
 pub mod Indexed
 pub mod Agreeing

@@ -1,16 +1,13 @@
 -- Lists and structs that use all slots of their children.
 use Rattle.std.proofs.Common.{◌≡◌, ◌∙◌, refl, sym, ap, subst, ℕ, zero, suc, ◌+◌, ◌-◌, ◌*◌, ◌<◌, ◌≤◌, Bool, true, false, cond, List, []}
-use Rattle.std.proofs.Common.{◌∷◌, ◌++◌, length, map, get_or, take, drop, replicate, Option, Some, None, arith, inl, inr}
-use Rattle.std.proofs.Math.Seq.{take-add}
+use Rattle.std.proofs.Common.{◌∷◌, ◌++◌, length, map, get_or, take, replicate, Option, Some, None, arith, inl, inr}
 use Rattle.std.proofs.lemmas.Bool.{and_parts, false≢true, cases_lt}
 use Rattle.std.proofs.lemmas.List.{append-nil, take_all}
-use Rattle.std.specs.Int.{bytes_low_first}
 use Rattle.std.proofs.lemmas.Option.{none-some}
 use Rattle.std.specs.Prelude.{slice_get, ◌&&◌, not}
 use Rattle.ipc_model.specs.Limits.{max_data}
 use Rattle.ipc_model.specs.declared.layout.Layout.{Layout}
 use Rattle.ipc_model.specs.declared.layout.Layout.TheVariants as l
-use Rattle.ipc_model.specs.declared.schema.IntBits.TheVariants.{B32}
 use Rattle.ipc_model.specs.declared.value.Value.{Value, out-Value}
 use Rattle.ipc_model.specs.declared.value.Value.TheOpen.{Value-F}
 use Rattle.ipc_model.specs.declared.value.Value.TheVariants.{Null}
@@ -31,16 +28,16 @@ use Rattle.ipc_column.specs.Values.{first_of, is_valid, items, own_value, offset
 use Rattle.ipc_column.specs.Views.{part_columns, column_of, children_of}
 use Rattle.ipc_column.specs.declared.buffers.Buffers.{Buffers}
 use Rattle.ipc_column.specs.declared.ranges.ColumnRanges.{ColumnRanges}
-use Rattle.ipc_encode.specs.Cells.{all_items, all_parts, cell, ends, is_set, items_in, offsets, struct_member, part_in}
+use Rattle.ipc_encode.specs.Cells.{all_items, all_parts, cell, is_set, items_in, offsets, struct_member, part_in}
 use Rattle.ipc_encode.specs.Cells as cells
 use Rattle.ipc_encode.specs.Marks.{MarksNulls}
 use Rattle.ipc_encode.specs.Columns.{data_in}
 use Rattle.ipc_encode.specs.Pieces.{Items, Valid}
 use Rattle.ipc_encode.specs.WholeColumns.{AreFullColumns, IsFullColumn}
 use Rattle.ipc_encode.proofs.Growing.{IsAt}
-use Rattle.ipc_encode.proofs.LentBuffers.{buffers_at, ends_lie, list_out, slot_count, slot_is, struct_out, place_few, place_is}
+use Rattle.ipc_encode.proofs.LentBuffers.{offsets_lie, buffers_at, list_out, slot_count, slot_is, struct_out, place_few, place_is}
 use Rattle.ipc_encode.proofs.LentBuffers.{own_set, start_of}
-use Rattle.ipc_encode.proofs.NumberSlots.{null_out, unsigned_bytes}
+use Rattle.ipc_encode.proofs.NumberSlots.{null_out}
 use Rattle.ipc_encode.proofs.Steps.{below_append, extents, items_extents, items_next}
 
 -- ---- the slots of the children of a column that was read, where they are those that its slots lead to
@@ -230,20 +227,7 @@ module _ (s : Nested) (b : Buffers) (h : AreBuffers s b) (e : b.layout ≡ l.Lis
     -- lists that begin at 0 have the offsets that are written
     pub list_offsets_are : start_of b.offsets.now 0 ≡ 0
         → take (4 * (length (slot_values s) + 1)) b.offsets.now ≡ offsets Items (slot_values s)
-    list_offsets_are first =
-        let vs = slot_values s in
-        let o = b.offsets.now in
-        let n = length vs in
-        let there = list_offsets_there in
-        let head : bytes_low_first 0 4 (start_of o 0) ≡ take 4 (drop 0 o) = unsigned_bytes B32 o 0 small (omega (arith, there)) in
-        let size : 4 * (n + 1) ≡ 4 + 4 * n = omega arith in
-        let behind = ends_lie Items vs o small there list_far n (omega arith) in
-        ap (λ (k : ℕ). take k o) size
-        ∙ (take-add 4 (4 * n) o
-        ∙ (ap (λ (bs : List ℕ). bs ++ take (4 * n) (drop 4 o)) (sym head)
-        ∙ (ap (λ (bs : List ℕ). bytes_low_first 0 4 (start_of o 0) ++ bs) (sym behind)
-        ∙ (ap (λ (ws : List Value). bytes_low_first 0 4 (start_of o 0) ++ ends Items (start_of o 0) ws) (take_all n vs (omega arith))
-        ∙ ap (λ (k : ℕ). bytes_low_first 0 4 k ++ ends Items k vs) first))))
+    list_offsets_are first = offsets_lie Items (slot_values s) b.offsets.now small list_offsets_there list_far first
 
     -- and so many items that offsets reach them
     pub list_few : start_of b.offsets.now 0 ≡ 0 → data_in l.Lists (slot_values s) ≤ max_data

@@ -28,12 +28,11 @@ use Rattle.ipc_column.specs.Values as values
 use Rattle.ipc_column.specs.declared.buffers.Numbers.{Numbers}
 use Rattle.ipc_column.specs.declared.slot_view.Slot.{Slot}
 use Rattle.ipc_column.specs.declared.slot_view.Slot.TheVariants as slot
-use Rattle.ipc_encode.specs.Cells.{bits_in, is_null, is_set, nulls, slot_bytes, slots, bytes_in, content, fixed_bytes, fixed_in, is_true}
+use Rattle.ipc_encode.specs.Cells.{bits_in, is_null, is_set, slot_bytes, slots, fixed_bytes, fixed_in}
 use Rattle.ipc_encode.specs.Cells.{items, items_in}
 use Rattle.ipc_encode.specs.Columns.{data_in}
-use Rattle.ipc_encode.specs.Marks.{MarksNulls}
 use Rattle.ipc_encode.specs.Numbers.{index_unless_null, index_of, indices_of}
-use Rattle.ipc_encode.specs.Pieces.{Number, Valid, ValueSlot, True}
+use Rattle.ipc_encode.specs.Pieces.{Number, Valid, ValueSlot}
 use Rattle.ipc_encode.proofs.Steps.{not_of_size, of_size, slots_push}
 
 -- ---- the bytes of numbers that were read are those that are written (Arrow Columnar Format, "Byte Order")
@@ -154,13 +153,6 @@ pub grown : {T E : Type 0} (r : Result T E) (new more old : List ℕ) → new �
 grown (Ok x) new more old e = e
 grown (Err x) new more old e = tt
 
--- a number that stands in a slot
-valid_number : (bits : IntBits) (signed : Bool) (values : List ℕ) (i : ℕ)
-    → is_set Valid (own_value (l.Numbers bits signed) [] (λ _. []) [] values i) ≡ true
-valid_number bits true values i = ap (λ (f : Value-F Value). not (is_null f)) (signed_out (signed_at bits values (number_bytes bits * i)))
-valid_number bits false values i =
-    ap (λ (f : Value-F Value). not (is_null f)) (unsigned_out (num values (number_bytes bits * i) (number_bytes bits)))
-
 own_bytes : (bits : IntBits) (signed : Bool) (values : List ℕ) (i : ℕ) → ((k : ℕ) → get_or values k 0 < 256)
     → number_bytes bits * i + number_bytes bits ≤ length values
     → slot_bytes (Number bits) (own_value (l.Numbers bits signed) [] (λ _. []) [] values i)
@@ -177,15 +169,6 @@ own_bytes bits false values i small h =
 module _ (s : Nested) (n : Numbers) (h : AreNumbers s n) where
   number_at : (i : ℕ) → i < length (slot_values s) → get_or (slot_values s) i Null ≡ lent_number n i
   number_at i m = get_or_from_slice_get (slot_values s) i (lent_number n i) Null (h.each i m)
-
-  -- the bitmap says which are null
-  pub numbers_marked : MarksNulls n.validity.now (slot_values s)
-  numbers_marked = record { each = λ i m. ap (is_set Valid) (number_at i m) ∙ either i (is_valid n.validity.now i) }
-    where
-      either : (i : ℕ) (b : Bool)
-          → is_set Valid (cond b (own_value (l.Numbers n.bits n.signed) [] (λ _. []) [] n.values.now i) Null) ≡ b
-      either i true = valid_number n.bits n.signed n.values.now i
-      either i false = ap (λ (f : Value-F Value). not (is_null f)) null_out
 
   -- a null slot is zeros
   pub null_slot : (i : ℕ) → i < length (slot_values s) → is_valid n.validity.now i ≡ false
@@ -208,22 +191,6 @@ module _ (s : Nested) (n : Numbers) (h : AreNumbers s n) where
   valid_slot small i m e =
       let own : lent_number n i ≡ own_value (l.Numbers n.bits n.signed) [] (λ _. []) [] n.values.now i = rw e refl in
       ap (slot_bytes (Number n.bits)) (number_at i m ∙ own) ∙ own_bytes n.bits n.signed n.values.now i small (inside i m)
-
--- where no value is null each is valid
-pub valid_at : (vs : List Value) (i : ℕ) → nulls vs ≡ 0 → i < length vs → is_set Valid (get_or vs i Null) ≡ true
-valid_at [] i none l = absurd (omega arith)
-valid_at (v ∷ vs) i none l = first (is_set Valid v) refl (λ k e m. valid_at vs k e m) i none l
-  where
-    first : (b : Bool) → is_set Valid v ≡ b
-        → ((k : ℕ) → nulls vs ≡ 0 → k < length vs → is_set Valid (get_or vs k Null) ≡ true) → (i : ℕ)
-        → cond {A = ℕ} (is_set Valid v) 0 1 + nulls vs ≡ 0 → i < length (v ∷ vs) → is_set Valid (get_or (v ∷ vs) i Null) ≡ true
-    first true e rest zero none l = e
-    first true e rest (suc i) none l =
-        let one : cond {A = ℕ} (is_set Valid v) 0 1 ≡ 0 = ap (λ (b : Bool). cond {A = ℕ} b 0 1) e in
-        rest i (omega (arith, one, none)) (omega arith)
-    first false e rest i none l =
-        let one : cond {A = ℕ} (is_set Valid v) 0 1 ≡ 1 = ap (λ (b : Bool). cond {A = ℕ} b 0 1) e in
-        absurd (omega (arith, one, none))
 
 -- the slots of values and of others
 pub slots_append : (which : ValueSlot) (vs ws : List Value) → slots which (vs ++ ws) ≡ slots which vs ++ slots which ws
@@ -264,38 +231,8 @@ module _ (under : ℕ → List Value) (i : ℕ) where
       ap out-Value (sym (v.rolls-List vs)) ∙ out-roll-Value (Value-F.List vs)
   shown_out slot.Struct = ap out-Value (sym (v.rolls-Struct (under i))) ∙ out-roll-Value (Value-F.Struct (under i))
 
-  -- a flag of a slot
-  pub true_is : (x : Slot) → is_set True (value_in_slot under i x) ≡ is_true (opened x)
-  true_is x = ap is_true (shown_out x)
-
-  pub content_is : (x : Slot) → content (value_in_slot under i x) ≡ bytes_in (opened x)
-  content_is x = ap bytes_in (shown_out x)
-
   pub items_are : (x : Slot) → items (value_in_slot under i x) ≡ items_in (opened x)
   items_are x = ap items_in (shown_out x)
-
-  -- where it isn't a truth
-  pub no_truth : (x : Slot) → ((truth : Bool) → x ≡ slot.Bool truth → ⊥) → is_set True (value_in_slot under i x) ≡ false
-  no_truth (slot.Bool truth) h = absurd (h truth refl)
-  no_truth slot.Null h = true_is slot.Null
-  no_truth (slot.Int number) h = true_is (slot.Int number)
-  no_truth (slot.UInt number) h = true_is (slot.UInt number)
-  no_truth (slot.Bytes bytes) h = true_is (slot.Bytes bytes)
-  no_truth (slot.Text bytes) h = true_is (slot.Text bytes)
-  no_truth (slot.List from to) h = true_is (slot.List from to)
-  no_truth slot.Struct h = true_is slot.Struct
-
-  -- where it has no bytes
-  pub no_content : (x : Slot) → ((bytes : _) → x ≡ slot.Bytes bytes → ⊥) → ((bytes : _) → x ≡ slot.Text bytes → ⊥)
-      → [] ≡ content (value_in_slot under i x)
-  no_content (slot.Bytes bytes) h g = absurd (h bytes refl)
-  no_content (slot.Text bytes) h g = absurd (g bytes refl)
-  no_content slot.Null h g = sym (content_is slot.Null)
-  no_content (slot.Bool truth) h g = sym (content_is (slot.Bool truth))
-  no_content (slot.Int number) h g = sym (content_is (slot.Int number))
-  no_content (slot.UInt number) h g = sym (content_is (slot.UInt number))
-  no_content (slot.List from to) h g = sym (content_is (slot.List from to))
-  no_content slot.Struct h g = sym (content_is slot.Struct)
 
   -- where it isn't a list
   pub no_items : (x : Slot) → ((from to : ℕ) → x ≡ slot.List from to → ⊥) → items (value_in_slot under i x) ≡ []

@@ -23,7 +23,7 @@ use Rattle.ipc_encode.specs.Faults.{write_fault}
 use Rattle.ipc_encode.specs.Limits.{HasLongData, HasLongItems, HasLongNode, HasExcessData, AreRowsRefused, IsWithin, SomeExcessData}
 use Rattle.ipc_encode.specs.Numbers.{Numbering}
 use Rattle.ipc_encode.specs.Segments.{AddsBuffers, IsBodyRefused, bytes_of_segments, segment_bytes, AddsColumns, AreRefusedAfter}
-use Rattle.ipc_encode.specs.Segments.{ArePartsOf, AreSegmented, IsDataRefused, IsEmpty}
+use Rattle.ipc_encode.specs.Segments.{ArePartsOf, AreSegmented, IsEmpty}
 use Rattle.ipc_encode.specs.WholeColumns.{AreFullColumns, IsFullColumn, is_taken_whole}
 use Rattle.ipc_encode.specs.Writing.{AllStored, AreStored}
 use Rattle.ipc_encode.specs.declared.fault.PushFault.{PushFault}
@@ -125,22 +125,6 @@ refused_ended limits start len bs e size h =
     refused_longer limits (len + (8 - (len - start) % 8) % 8) (start + length (padded_bytes (bs ∷ []))) e
     (omega (arith, size, whole, end)) h
 
--- the first part of a buffer is refused
-pub refused_part : (limits : Limits) (len : ℕ) (xs ys : List ℕ) (e : PushFault) → IsBodyRefused limits (len + length xs) e
-    → IsBodyRefused limits (len + length (padded_bytes ((xs ++ ys) ∷ []))) e
-refused_part limits len xs ys e h =
-    let whole = length-append xs ys in
-    refused_begun limits len (xs ++ ys) e
-    (refused_longer limits (len + length xs) (len + length (xs ++ ys)) e (omega (arith, whole)) h)
-
--- the second part of a buffer is refused
-pub refused_rest : (limits : Limits) (len mid : ℕ) (xs ys : List ℕ) (e : PushFault) → mid ≡ len + length xs
-    → IsBodyRefused limits (mid + length ys) e → IsBodyRefused limits (len + length (padded_bytes ((xs ++ ys) ∷ []))) e
-refused_rest limits len mid xs ys e first h =
-    let whole = length-append xs ys in
-    refused_begun limits len (xs ++ ys) e
-    (refused_longer limits (mid + length ys) (len + length (xs ++ ys)) e (omega (arith, whole, first)) h)
-
 -- the first of several buffers is refused
 pub refused_first : (limits : Limits) (len : ℕ) (xs ys : List (List ℕ)) (e : PushFault)
     → IsBodyRefused limits (len + length (padded_bytes xs)) e
@@ -220,14 +204,12 @@ bitmap_refused limits d mid lay vs bs fault some same none h =
 
 -- its other buffers are refused
 pub data_refused : (limits : Limits) (d mid : Draft) (lay : Layout) (vs : List Value) (fault : PushFault)
-    → (lay ≡ l.Null → ⊥) → AddsBuffers d mid (validity_bytes vs ∷ []) → IsDataRefused limits mid.len lay vs fault
+    → (lay ≡ l.Null → ⊥) → AddsBuffers d mid (validity_bytes vs ∷ [])
+    → IsBodyRefused limits (mid.len + length (padded_bytes (data_buffers lay vs))) fault
     → AreRefusedAfter limits d.len (field lay bare bare) (λ j. vs) fault
-data_refused limits d mid lay vs push.TooLong some adds (inl long) = inl (inl long)
-data_refused limits d mid lay vs push.TooLong some adds (inr more) =
-    leaf_refused limits d.len lay vs (validity_bytes vs ∷ data_buffers lay vs) push.TooLong (bitmap_first lay vs some)
-    (refused_later limits d mid (validity_bytes vs ∷ []) (data_buffers lay vs) push.TooLong adds more)
-data_refused limits d mid lay vs push.TooMany some adds items = inr (inl items)
-data_refused limits d mid lay vs _ some adds h = h
+data_refused limits d mid lay vs fault some adds h =
+    leaf_refused limits d.len lay vs (validity_bytes vs ∷ data_buffers lay vs) fault (bitmap_first lay vs some)
+    (refused_later limits d mid (validity_bytes vs ∷ []) (data_buffers lay vs) fault adds h)
 
 -- ---- a column and those of its children
 

@@ -1,6 +1,5 @@
 -- Bodies as lists of segments (Arrow Columnar Format, "RecordBatch message").
 use Rattle.std.specs.Prelude.{◌≡◌, ℕ, ◌+◌, ◌<◌, ◌≤◌, List, [], ◌∷◌, ◌++◌, length, replicate, ◌⊎◌, ⊤}
-use Rattle.ipc_model.specs.declared.layout.Layout.{Layout}
 use Rattle.ipc_model.specs.declared.limits.Limits.{Limits}
 use Rattle.ipc_model.specs.declared.schema.Field.{Field}
 use Rattle.ipc_model.specs.declared.value.Value.{Value}
@@ -11,7 +10,7 @@ use Rattle.ipc_encode.specs.declared.segments.Segment.{Segment}
 use Rattle.ipc_encode.specs.declared.segments.Segment.TheVariants as segment
 use Rattle.ipc_encode.specs.declared.segments.SegmentedParts.{SegmentedParts}
 use Rattle.ipc_encode.specs.declared.segments.Draft.{Draft}
-use Rattle.ipc_encode.specs.Buffers.{body_with, buffers_of, buffers_with, data_buffers, nodes_of}
+use Rattle.ipc_encode.specs.Buffers.{body_with, buffers_of, buffers_with, nodes_of}
 use Rattle.ipc_encode.specs.Buffers.{padded_bytes, ranges_from, row_buffers_with, row_nodes}
 use Rattle.ipc_encode.specs.Limits.{HasLongData, HasLongItems, HasLongNode, SomeColumn}
 use Rattle.ipc_encode.specs.Limits.{SomeExcessData}
@@ -68,16 +67,6 @@ IsBodyRefused limits len fault.TooMany = ⊥
 IsBodyRefused limits len fault.OutOfMemory = ⊤
 IsBodyRefused limits len fault.DictionaryFull = ⊥
 IsBodyRefused limits len fault.Failed = ⊥
-
--- why the buffers of a column after its validity bitmap are not added to a body of `len` bytes:
--- more bytes or items than offsets can address, more bytes than a body may have, or out of memory
-abbrev pub IsDataRefused : Limits → ℕ → Layout → List Value → PushFault → Type 0
-IsDataRefused limits len layout values fault.TooLong = HasLongData layout values
-    ⊎ (limits.body < len + length (padded_bytes (data_buffers layout values)))
-IsDataRefused limits len layout values fault.TooMany = HasLongItems layout values
-IsDataRefused limits len layout values fault.OutOfMemory = ⊤
-IsDataRefused limits len layout values fault.DictionaryFull = ⊥
-IsDataRefused limits len layout values fault.Failed = ⊥
 
 -- why columns of this shape with these values are not added to a body of `len` bytes: too many
 -- slots or items of lists, more bytes than offsets can address or a body may have, or out of memory

@@ -1,13 +1,11 @@
 //! Packed bits, and the validity bitmaps of columns that were read.
 ghost use Rattle.std.specs.Prelude.{◌≡◌, ◌+◌, ◌++◌, Bool, true, List, [], ◌∷◌, length, replicate};
-ghost use Rattle.std.specs.Prelude.{OnOk, ◌≤◌, ◌<◌, take, IfOk, IsTrue, ℕ, ◌*◌};
+ghost use Rattle.std.specs.Prelude.{OnOk, ◌≤◌, ◌<◌, IsTrue, ℕ, ◌*◌};
 ghost use Rattle.ipc_scalar.specs.Bytes.{bit, clear};
-ghost use Rattle.ipc_model.specs.declared.value.Value.{Value};
 ghost use Rattle.ipc_column.specs.Values.{is_valid};
 ghost use Rattle.ipc_encode.specs.Bitmaps.{bitmap};
 ghost use Rattle.ipc_encode.specs.Cells.{flags};
-ghost use Rattle.ipc_encode.specs.Marks.{HasBits, MarksNulls};
-ghost use Rattle.ipc_encode.specs.Pieces.{Valid};
+ghost use Rattle.ipc_encode.specs.Marks.{HasBits};
 
 use ipc_scalar::bit;
 use std::alloc::AllocError;
@@ -72,35 +70,6 @@ pub(crate) fn is_valid_in_bitmap(marks: &[u8], slot: usize) -> bool
     ensures { result ≡ is_valid marks.now slot }
 {
     marks.is_empty() || bit(marks, slot)
-}
-
-// Appends whether slots are valid to an empty buffer, one byte at a time. Returns the number of
-// slots.
-fn push_bitmap_bytes(bits: &mut Vec<u8>, marks: &[u8], count: usize) -> Result<usize, AllocError>
-    requires { HasBits marks.now count }
-    ensures within { IfOk result (λ taken. taken ≤ count) }
-    ensures bits { (values : List Value) → length values ≡ count → MarksNulls marks.now values
-        → bits.old.items ≡ []
-        → IfOk result (λ taken. bits.new.items ≡ bitmap (flags Valid (take taken values))) }
-{
-    if marks.is_empty() {
-        return Ok(0);
-    }
-    bits.extend_from_slice(&marks[..count / 8])?;
-    Ok(count / 8 * 8)
-}
-
-/// Appends whether each of `count` slots is valid to an empty buffer.
-pub(crate) fn push_bitmap(bits: &mut Vec<u8>, marks: &[u8], count: usize) -> Result<(), AllocError>
-    requires { HasBits marks.now count }
-    ensures { (values : List Value) → length values ≡ count → MarksNulls marks.now values
-        → bits.old.items ≡ [] → OnOk result (bits.new.items ≡ bitmap (flags Valid values)) }
-{
-    let taken = push_bitmap_bytes(bits, marks, count)?;
-    for slot in taken..count {
-        push_bit(bits, slot, is_valid_in_bitmap(marks, slot))?;
-    }
-    Ok(())
 }
 
 // Whether each set bit of the first `count` bytes is also set in another bitmap.

@@ -23,8 +23,7 @@ ghost use Rattle.ipc_model.specs.declared.schema.DataType.TheVariants as kinds;
 ghost use Rattle.ipc_model.specs.declared.value.Value.TheOpen as values;
 
 use crate::bitmaps::valid_are_among;
-use crate::column_segments::borrowed_bitmap;
-use crate::whole_columns::lists_use_all_items;
+use crate::canonical::{borrowed_bitmap, lists_use_all_items};
 use ipc_column::{Batch, Slot, SlotView};
 use ipc_model::{
     DataType, DateUnit, Field, Layout, Schema, Value, WriteFault, conforms, layout_of,

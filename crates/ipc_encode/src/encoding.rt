@@ -56,9 +56,8 @@ fn add_anew<I: IndexOf, N: Renumber>(
     add_node(draft, &mut node, numbers, limits)
 }
 
-// Adds column `column` of a batch as that of a field. A column that has the layout of the field is
-// added whole. So are lists and structs whose children have exactly the slots that they refer to.
-// Columns of indices, lists of a fixed size and others are encoded anew.
+// Adds column `column` of a batch as that of a field: its own buffers if they are those that are
+// written, and else a column that is encoded anew.
 //
 // The errors are those of `add_own`, from the column or one below it.
 fn add_field<'a, I: IndexOf, N: Renumber>(
@@ -84,7 +83,7 @@ fn add_field<'a, I: IndexOf, N: Renumber>(
     if column < batch.columns() {
         let view = batch.column(column).slots();
         if has_field_layout(field, &view) {
-            return add_whole(alloc, pool, draft, field, &view, limits);
+            return add_whole(draft, field, &view, limits);
         }
     }
     add_anew(
@@ -138,14 +137,13 @@ fn add_fields<'a, I: IndexOf, N: Renumber>(
 /// number must fit the field's index type.
 ///
 /// Joined, the segments are the body that `Builder::finish` gives for the batch's rows with these
-/// indices and numbers. Numbers are borrowed if null slots are zeros, fixed-size binary values if
-/// none is null, and other binary values and texts with their offsets if these begin at 0 and null
-/// slots are empty. So are offsets of lists, and validity bitmaps of a multiple of 8 slots. Other
-/// buffers are copied, into memory from `pool` if it has any. These columns are encoded anew:
+/// indices and numbers. The bytes of a column are borrowed if its buffers already are those that are
+/// written: unused bits are 0, null slots are zeros or empty, and offsets begin at 0. Other columns
+/// are encoded anew from their values, into memory from `pool` if it has any. These are:
 ///
 /// - columns of a field with a dictionary;
-/// - lists and structs whose children have a dictionary, or slots that their parent does not refer
-///   to;
+/// - lists and structs with a child that is encoded anew, or whose children have slots that their
+///   parent does not refer to;
 /// - fixed-size lists, and columns of another layout than the field's.
 ///
 /// Errors:

@@ -5,9 +5,9 @@
 mod bitmaps;
 mod builder;
 mod built_columns;
+mod canonical;
 mod column;
 mod column_builder;
-mod column_segments;
 mod column_sizes;
 mod conforming;
 mod copying;
@@ -20,7 +20,6 @@ mod index;
 mod parts;
 mod pool;
 mod segments;
-mod slot_pushing;
 mod tree;
 mod whole_columns;
 

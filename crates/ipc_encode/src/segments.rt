@@ -210,23 +210,3 @@ pub(crate) fn add_buffer<'a>(
     append(draft, segment, limits)?;
     end_buffer(draft, start, limits)
 }
-
-/// Adds a buffer of two segments, as `add_buffer` adds one of one segment.
-pub(crate) fn add_joined<'a>(
-    draft: &mut Draft<'a>,
-    first: Segment<'a>,
-    second: Segment<'a>,
-    limits: &Limits,
-) -> Result<(), PushFault>
-    ensures nodes { OnOk result (draft.new.nodes.items ≡ draft.old.nodes.items) }
-    ensures adds { OnOk result (AddsBuffers draft.old draft.new
-        ((segment_bytes first.entry ++ segment_bytes second.entry) ∷ [])) }
-    ensures within { OnOk result (draft.new.len ≤ limits.now.body) }
-    ensures refused { IfErr result (IsBodyRefused limits.now (draft.old.len
-        + length (padded_bytes ((segment_bytes first.entry ++ segment_bytes second.entry) ∷ [])))) }
-{
-    let start = draft.len;
-    append(draft, first, limits)?;
-    append(draft, second, limits)?;
-    end_buffer(draft, start, limits)
-}

@@ -1,9 +1,8 @@
 //! Adds columns that were read with all their slots, where they have the layouts of a field and
 //! of its descendants.
 ghost use Rattle.std.specs.Prelude.{◌≡◌, ◌<◌, ℕ, Some, true, false, length, slice_get};
-ghost use Rattle.std.specs.Prelude.{slice_index_or, IsTrue, ◌≤◌, ◌+◌, ◌++◌, ◌⊎◌, [], ◌∷◌};
-ghost use Rattle.std.specs.Prelude.{replicate, IfErr, OnOk};
-ghost use Rattle.ipc_model.specs.Limits.{max_data};
+ghost use Rattle.std.specs.Prelude.{slice_index, slice_index_or, IsTrue, ◌≤◌, ◌+◌, ◌*◌, []};
+ghost use Rattle.std.specs.Prelude.{take, IfErr, OnOk};
 ghost use Rattle.ipc_model.specs.declared.layout.Layout.{Layout};
 ghost use Rattle.ipc_model.specs.declared.layout.Layout.TheVariants.{Lists};
 ghost use Rattle.ipc_model.specs.declared.limits.Limits.{Limits};
@@ -17,50 +16,21 @@ ghost use Rattle.ipc_column.specs.Slots.{nested_in};
 ghost use Rattle.ipc_column.specs.Values.{is_valid};
 ghost use Rattle.ipc_encode.specs.Buffers.{child_values, data_buffers, padded_bytes};
 ghost use Rattle.ipc_encode.specs.Cells.{all_parts, nulls};
-ghost use Rattle.ipc_encode.specs.Limits.{HasExcessData};
 ghost use Rattle.ipc_encode.specs.Marks.{HasBits};
 ghost use Rattle.ipc_encode.specs.Numbers.{Numbering};
 ghost use Rattle.ipc_encode.specs.Segments.{AddsBuffers, AddsColumns, AreRefusedAfter};
-ghost use Rattle.ipc_encode.specs.Segments.{IsBodyRefused, IsDataRefused, segment_bytes};
-ghost use Rattle.ipc_encode.specs.WholeColumns.{AreFullColumns, IsFullColumn, is_taken_whole};
-ghost use Rattle.ipc_encode.specs.WholeColumns.{IsLaidOutAs, UseAllItems};
+ghost use Rattle.ipc_encode.specs.Segments.{IsBodyRefused, segment_bytes};
+ghost use Rattle.ipc_encode.specs.Columns.{bits_length};
+ghost use Rattle.ipc_encode.specs.WholeColumns.{AreFullColumns, IsCanonical, IsFullColumn};
+ghost use Rattle.ipc_encode.specs.WholeColumns.{IsLaidOutAs, UseAllItems, last_offset};
+ghost use Rattle.ipc_encode.specs.WholeColumns.{lent_offsets};
 
 use crate::bitmaps::valid_are_among;
-use crate::column_builder::MAX_DATA;
-use crate::column_segments::{
-    VariableBinarySegments, bit_values, borrowed_bitmap, fixed_values, list_offsets,
-    marked_validity, nulls_are_empty, number_values, offset_at, variable_binary_segments,
-};
+use crate::canonical::{borrowed_bitmap, is_canonical, offset_at};
 use crate::fault::PushFault;
-use crate::pool::BufferPool;
-use crate::segments::{Draft, Segment, add_buffer, add_counts, add_joined};
-use ipc_column::{Numbers, SlotView};
+use crate::segments::{Draft, Segment, add_buffer, add_counts};
+use ipc_column::SlotView;
 use ipc_model::{Field, Layout, Limits, layout_of};
-use std::alloc::Global;
-
-/// Returns true only if lists use all slots of their child, one list after another.
-pub(crate) fn lists_use_all_items(view: &SlotView<'_>) -> bool
-    ensures { IsTrue result → UseAllItems view.now }
-{
-    let buffers = view.buffers();
-    let count = view.len();
-    let Layout::Lists = buffers.layout else {
-        return false;
-    };
-    if view.children() == 0 {
-        return false;
-    }
-    let child = view.child(0);
-    if count == 0 {
-        return child.len() == 0;
-    }
-    if !nulls_are_empty(buffers.validity, buffers.offsets, count) {
-        return false;
-    }
-    let start = offset_at(buffers.offsets, 0);
-    let end = offset_at(buffers.offsets, count);
-    start == 0 && end as usize == child.len()
-}
 
 // Whether each slot that is null in the column of a child is null in the child too.
 fn nulls_are_shared(marks: &[u8], child: &SlotView<'_>) -> bool
@@ -116,18 +86,6 @@ fn uses_all_slots(view: &SlotView<'_>, i: usize) -> bool
     }
 }
 
-// Whether the slots of a column can be taken all at once. Lists must use all slots of their child.
-fn is_taken_whole(view: &SlotView<'_>) -> bool
-    ensures whole { IsTrue result → is_taken_whole view.now.column.layout ≡ true }
-    ensures lists { IsTrue result → view.now.column.layout ≡ Lists → UseAllItems view.now }
-{
-    match view.layout() {
-        Layout::FixedLists(_) | Layout::Indices { .. } => false,
-        Layout::Lists => lists_use_all_items(view),
-        _ => true,
-    }
-}
-
 // The layout of a field.
 fn layout_at(field: &Field) -> Layout
     ensures { result ≡ field_layout field.now }
@@ -148,7 +106,7 @@ pub(crate) fn has_field_layout(field: &Field, view: &SlotView<'_>) -> bool
     if view.layout() != layout_at(field) || fields.len() != view.children() {
         return false;
     }
-    is_taken_whole(view) && have_field_layouts(fields, view)
+    is_canonical(view) && have_field_layouts(fields, view)
 }
 
 // Whether each child of a column that was read has the layouts of its field, as in
@@ -170,87 +128,96 @@ fn have_field_layouts(fields: &[Field], view: &SlotView<'_>) -> bool
     true
 }
 
-// Adds the offsets and the data of binary values or texts. Returns `TooLong` if 32-bit offsets do
-// not reach the end of the data. The other errors are those of `add_buffer`.
-fn add_variable<'a>(
-    draft: &mut Draft<'a>,
-    run: VariableBinarySegments<'a>,
-    limits: &Limits,
-) -> Result<(), PushFault>
-    ensures nodes { OnOk result (draft.new.nodes.items ≡ draft.old.nodes.items) }
-    ensures adds { OnOk result (AddsBuffers draft.old draft.new
-        ((replicate 4 0 ++ segment_bytes run.entry.ends) ∷ segment_bytes run.entry.values ∷ [])) }
-    ensures within { OnOk result (draft.new.len ≤ limits.now.body) }
-    ensures short { OnOk result (length (segment_bytes run.entry.values) ≤ max_data) }
-    ensures refused { IfErr result (λ fault.
-        ((fault ≡ PushFault.TooLong) × (max_data < length (segment_bytes run.entry.values)))
-        ⊎ IsBodyRefused limits.now (draft.old.len + length (padded_bytes
-        ((replicate 4 0 ++ segment_bytes run.entry.ends) ∷ segment_bytes run.entry.values ∷ [])))
-        fault) }
+// Lends the first bytes of a buffer.
+fn first_bytes(bytes: &[u8], len: usize) -> Segment<'_>
+    requires { len ≤ length bytes.now }
+    ensures { segment_bytes result ≡ take len bytes.now }
 {
-    if run.values.as_bytes().len() > MAX_DATA {
-        return Err(PushFault::TooLong);
-    }
-    add_joined(draft, Segment::Zeros(4), run.ends, limits)?;
-    add_buffer(draft, run.values, limits)
+    Segment::Borrowed(&bytes[..len])
 }
 
-// Adds the buffers of a column that follow its validity bitmap. The errors are those of `add_own`.
+// Returns the offsets of `count` slots as they are laid out: one zero if there is no slot.
+fn lent_offsets(offsets: &[u8], count: usize) -> Segment<'_>
+    requires { 0 < count → 4 * (count + 1) ≤ length offsets.now }
+    ensures { segment_bytes result ≡ lent_offsets offsets.now count }
+{
+    if count == 0 {
+        return Segment::Zeros(4);
+    }
+    first_bytes(offsets, 4 * (count + 1))
+}
+
+// Returns where the data of `count` slots ends.
+fn last_offset(offsets: &[u8], count: usize) -> usize
+    requires { 0 < count → 4 * (count + 1) ≤ length offsets.now }
+    ensures last { result ≡ last_offset offsets.now count }
+    ensures bytes { (i : ℕ) → slice_index offsets.now i < 256 }
+{
+    if count == 0 {
+        return 0;
+    }
+    offset_at(offsets, count) as usize
+}
+
+// Adds the buffers of a column that follow its validity bitmap. The errors are those of
+// `add_buffer`.
 fn add_data<'a>(
-    alloc: Global,
-    pool: &mut BufferPool,
     draft: &mut Draft<'a>,
-    layout: Layout,
     view: &SlotView<'a>,
-    null_count: usize,
     limits: &Limits,
 ) -> Result<(), PushFault>
-    requires lies { IsLaidOutAs layout view.now (slot_values view.now) }
-    requires nulls { null_count ≡ nulls (slot_values view.now) }
+    requires canonical { IsCanonical view.now }
     requires within { draft.old.len ≤ limits.now.body }
     ensures nodes { OnOk result (draft.new.nodes.items ≡ draft.old.nodes.items) }
-    ensures adds { OnOk result
-        (AddsBuffers draft.old draft.new (data_buffers layout (slot_values view.now))) }
+    ensures adds { OnOk result (AddsBuffers draft.old draft.new
+        (data_buffers view.now.column.layout (slot_values view.now))) }
     ensures within { OnOk result (draft.new.len ≤ limits.now.body) }
-    ensures short { OnOk result (¬ HasExcessData layout (slot_values view.now)) }
-    ensures refused { IfErr result
-        (IsDataRefused limits.now draft.old.len layout (slot_values view.now)) }
+    ensures refused { IfErr result (IsBodyRefused limits.now (draft.old.len + length (padded_bytes
+        (data_buffers view.now.column.layout (slot_values view.now))))) }
 {
-    match layout {
-        Layout::Bits => add_buffer(draft, bit_values(alloc, pool, view)?, limits),
-        Layout::Numbers { bits, signed } => {
-            let buffers = view.buffers();
-            let numbers = Numbers {
-                bits,
-                signed,
-                validity: buffers.validity,
-                values: buffers.values,
-            };
-            let values = number_values(alloc, pool, view, &numbers, buffers.values, null_count)?;
+    let buffers = view.buffers();
+    let count = view.len();
+    match view.layout() {
+        Layout::Bits => {
+            let values = first_bytes(buffers.values, count.div_ceil(8));
+            add_buffer(draft, values, limits)
+        }
+        Layout::Numbers { bits, .. } => {
+            let values = first_bytes(buffers.values, bits.bytes() * count);
             add_buffer(draft, values, limits)
         }
         Layout::FixedBytes(width) => {
-            let values = fixed_values(alloc, pool, view, width, null_count)?;
+            let values = first_bytes(buffers.values, width as usize * count);
             add_buffer(draft, values, limits)
         }
         Layout::VariableBytes { .. } => {
-            let run = variable_binary_segments(alloc, pool, view)?;
-            add_variable(draft, run, limits)
+            let values = first_bytes(buffers.values, last_offset(buffers.offsets, count));
+            add_buffer(draft, lent_offsets(buffers.offsets, count), limits)?;
+            add_buffer(draft, values, limits)
         }
-        Layout::Lists => add_buffer(draft, list_offsets(view), limits),
+        Layout::Lists => add_buffer(draft, lent_offsets(buffers.offsets, count), limits),
         Layout::Null | Layout::Structs | Layout::FixedLists(_) | Layout::Indices { .. } => Ok(()),
     }
 }
 
-/// Adds the node and the buffers of a column of this layout, without its descendants. The layout
-/// is neither of indices nor of lists of a fixed size.
+// Returns the validity bitmap of `count` slots with `null_count` nulls: no bytes if none is null.
+fn lent_validity(marks: &[u8], count: usize, null_count: usize) -> Segment<'_>
+    requires { 0 < null_count → count ≤ 8 * length marks.now }
+    ensures none { null_count ≡ 0 → segment_bytes result ≡ [] }
+    ensures some { 0 < null_count
+        → segment_bytes result ≡ take (bits_length count) marks.now }
+{
+    if null_count == 0 {
+        return Segment::Zeros(0);
+    }
+    first_bytes(marks, count.div_ceil(8))
+}
+
+/// Adds the node and the buffers of a column, without its descendants.
 ///
-/// Errors: `TooMany` if there are more than `limits.slots` slots, or more than 2^31 - 1 items of
-/// lists; `TooLong` if binary values or texts have more than 2^31 - 1 bytes, or the body would have
-/// more than `limits.body`; `OutOfMemory` if memory for a buffer ran out.
+/// Errors: `TooMany` if there are more than `limits.slots` slots; `TooLong` if the body would have
+/// more than `limits.body` bytes; `OutOfMemory` if memory for a buffer ran out.
 pub(crate) fn add_own<'a>(
-    alloc: Global,
-    pool: &mut BufferPool,
     draft: &mut Draft<'a>,
     layout: Layout,
     view: &SlotView<'a>,
@@ -272,11 +239,10 @@ pub(crate) fn add_own<'a>(
         return Ok(());
     }
     let null_count = view.null_count() as usize;
-    let marks = view.buffers().validity;
-    let validity = marked_validity(alloc, pool, marks, count, null_count)?;
+    let validity = lent_validity(view.buffers().validity, count, null_count);
     add_counts(draft, count, null_count)?;
     add_buffer(draft, validity, limits)?;
-    add_data(alloc, pool, draft, layout, view, null_count, limits)?;
+    add_data(draft, view, limits)?;
     Ok(())
 }
 
@@ -284,8 +250,6 @@ pub(crate) fn add_own<'a>(
 /// read. The errors are those of `add_own`, from any of these columns.
 #[cycle(add_whole)]
 pub(crate) fn add_whole<'a>(
-    alloc: Global,
-    pool: &mut BufferPool,
     draft: &mut Draft<'a>,
     field: &Field,
     view: &SlotView<'a>,
@@ -301,15 +265,13 @@ pub(crate) fn add_whole<'a>(
         (shapes.field (field_layout field.now) (field_children field.now) bare)
         (λ j. slot_values view.now)) }
 {
-    add_own(alloc, pool, draft, layout_at(field), view, limits)?;
-    add_children(alloc, pool, draft, field.children.as_slice(), view, limits)
+    add_own(draft, layout_at(field), view, limits)?;
+    add_children(draft, field.children.as_slice(), view, limits)
 }
 
 // Adds the columns of the children of a column that was read, one for each field.
 #[cycle(add_whole)]
 fn add_children<'a>(
-    alloc: Global,
-    pool: &mut BufferPool,
     draft: &mut Draft<'a>,
     fields: &[Field],
     view: &SlotView<'a>,
@@ -326,7 +288,7 @@ fn add_children<'a>(
 {
     for i in 0..fields.len() {
         let child = view.child(i);
-        add_whole(alloc, pool, draft, &fields[i], &child, limits)?;
+        add_whole(draft, &fields[i], &child, limits)?;
     }
     Ok(())
 }

@@ -1,27 +1,68 @@
-use Rattle.std.proofs.Common.{◌∙◌, refl, arith}
-use Rattle.std.proofs.lemmas.Result.{on_ok_weaker}
+use Rattle.std.proofs.Common.{◌≡◌, ◌∙◌, sym, refl, ℕ, ◌*◌, ◌≤◌, arith}
 use Rattle.ipc_model.specs.declared.layout.Layout.TheVariants as l
-use Rattle.ipc_column.specs.Nested.{slot_values}
-use Rattle.ipc_encode.proofs.LentBuffers.{buffers_bits, numbers_lent}
-use Rattle.ipc_encode.proofs.Sizes.{long_from}
+use Rattle.ipc_column.specs.Nested.{Nested}
+use Rattle.ipc_encode.proofs.LentBuffers.{offsets_there, truths_there, widths_there}
+use Rattle.ipc_encode.proofs.NestedSlots.{list_offsets_there}
+use Rattle.ipc_encode.proofs.WrittenBuffers.{last_inside, numbers_there}
 use Rattle.ipc_encode.proofs.whole_columns.add_data.Goals as goal
 
-pub number_values-requires-clause-numbers : goal.number_values-requires-clause-numbers
-number_values-requires-clause-numbers c =
-    numbers_lent c.args.view.now c.buffers-buffers.result _ c.buffers-buffers.ensures
-    (c.buffers-buffers.ensures.layout ∙ (c.requires.lies.laid ∙ c.in-Numbers.is)) refl refl
+-- ---- the bytes that are lent are there
 
-pub number_values-requires-clause-bits : goal.number_values-requires-clause-bits
-number_values-requires-clause-bits c = buffers_bits c.args.view.now c.buffers-buffers.result c.buffers-buffers.ensures
+pub first_bytes-values-requires : goal.first_bytes-values-requires
+first_bytes-values-requires c =
+    let there = truths_there c.args.view.now c.buffers-buffers.result c.buffers-buffers.ensures
+    (c.buffers-buffers.ensures.layout ∙ (sym c.layout.ensures.layout ∙ c.in-Bits.is)) in
+    omega (arith, there, c.len-count.ensures, c.div_ceil.ensures)
 
-pub list_offsets-requires-clause-lists : goal.list_offsets-requires-clause-lists
-list_offsets-requires-clause-lists c = c.requires.lies.lists (c.requires.lies.laid ∙ c.in-Lists.is)
+numbers_long : (s : Nested) (n count width w len : ℕ) → count ≡ n → width ≡ w → w * n ≤ len → width * count ≤ len
+numbers_long s n count width w len size wide there = rw (size, wide) there
 
-pub returns-in-Lists-clause-short : goal.returns-in-Lists-clause-short
-returns-in-Lists-clause-short c =
-    on_ok_weaker c.add_buffer-in-Lists.result
-    (λ _. rw c.in-Lists.is (λ long.
-    let more = long_from l.Lists (slot_values c.args.view.now) long in
-    let few = (c.requires.lies.lists (c.requires.lies.laid ∙ c.in-Lists.is)).few in
-    omega (arith, more, few)))
-    c.add_buffer-in-Lists.ensures.nodes
+pub overflow_mul-bytes : goal.overflow_mul-bytes
+overflow_mul-bytes c =
+    let there = numbers_there c.args.view.now c.buffers-buffers.result c.buffers-buffers.ensures c.in-Numbers.bits c.in-Numbers.signed
+    (c.buffers-buffers.ensures.layout ∙ (sym c.layout.ensures.layout ∙ c.in-Numbers.is)) in
+    let all = numbers_long c.args.view.now _ c.len-count.result c.bytes.result _ _ c.len-count.ensures c.bytes.ensures there in
+    omega (arith, all)
+
+pub first_bytes-values-requires-in-Numbers : goal.first_bytes-values-requires-in-Numbers
+first_bytes-values-requires-in-Numbers c =
+    numbers_long c.args.view.now _ c.len-count.result c.bytes.result _ _ c.len-count.ensures c.bytes.ensures
+    (numbers_there c.args.view.now c.buffers-buffers.result c.buffers-buffers.ensures c.in-Numbers.bits c.in-Numbers.signed
+    (c.buffers-buffers.ensures.layout ∙ (sym c.layout.ensures.layout ∙ c.in-Numbers.is)))
+
+pub overflow_mul-width : goal.overflow_mul-width
+overflow_mul-width c =
+    let there = widths_there c.args.view.now c.buffers-buffers.result c.buffers-buffers.ensures c.in-FixedBytes.width
+    (c.buffers-buffers.ensures.layout ∙ (sym c.layout.ensures.layout ∙ c.in-FixedBytes.is)) in
+    let all = numbers_long c.args.view.now _ c.len-count.result c.in-FixedBytes.width _ _ c.len-count.ensures refl there in
+    omega (arith, all)
+
+pub first_bytes-values-requires-in-FixedBytes : goal.first_bytes-values-requires-in-FixedBytes
+first_bytes-values-requires-in-FixedBytes c =
+    numbers_long c.args.view.now _ c.len-count.result c.in-FixedBytes.width _ _ c.len-count.ensures refl
+    (widths_there c.args.view.now c.buffers-buffers.result c.buffers-buffers.ensures c.in-FixedBytes.width
+    (c.buffers-buffers.ensures.layout ∙ (sym c.layout.ensures.layout ∙ c.in-FixedBytes.is)))
+
+pub last_offset-requires : goal.last_offset-requires
+last_offset-requires c = λ some.
+    let there = offsets_there c.args.view.now c.buffers-buffers.result c.buffers-buffers.ensures c.in-VariableBytes.utf8
+    (c.buffers-buffers.ensures.layout ∙ (sym c.layout.ensures.layout ∙ c.in-VariableBytes.is)) (omega (arith, some, c.len-count.ensures)) in
+    omega (arith, there, c.len-count.ensures)
+
+pub first_bytes-values-requires-in-VariableBytes : goal.first_bytes-values-requires-in-VariableBytes
+first_bytes-values-requires-in-VariableBytes c =
+    last_inside c.args.view.now c.buffers-buffers.result c.buffers-buffers.ensures c.in-VariableBytes.utf8
+    (c.buffers-buffers.ensures.layout ∙ (sym c.layout.ensures.layout ∙ c.in-VariableBytes.is)) c.last_offset.ensures.bytes
+    c.len-count.result c.last_offset.result c.len-count.ensures c.last_offset.ensures.last
+
+pub lent_offsets-requires : goal.lent_offsets-requires
+lent_offsets-requires c = λ some.
+    let there = offsets_there c.args.view.now c.buffers-buffers.result c.buffers-buffers.ensures c.in-VariableBytes.utf8
+    (c.buffers-buffers.ensures.layout ∙ (sym c.layout.ensures.layout ∙ c.in-VariableBytes.is)) (omega (arith, some, c.len-count.ensures)) in
+    omega (arith, there, c.len-count.ensures)
+
+pub lent_offsets-requires-in-Lists : goal.lent_offsets-requires-in-Lists
+lent_offsets-requires-in-Lists c = λ some.
+    let there = list_offsets_there c.args.view.now c.buffers-buffers.result c.buffers-buffers.ensures
+    (c.buffers-buffers.ensures.layout ∙ (sym c.layout.ensures.layout ∙ c.in-Lists.is)) (omega (arith, some, c.len-count.ensures)) in
+    omega (arith, there, c.len-count.ensures)
