@@ -21,11 +21,12 @@ use Rattle.ipc_encode.specs.Buffers.{data_buffers}
 use Rattle.ipc_encode.specs.Cells.{flags, nulls, offsets, slots}
 use Rattle.ipc_encode.specs.Columns.{bits_length, validity_bytes}
 use Rattle.ipc_encode.specs.Limits.{HasExcessData}
+use Rattle.ipc_encode.specs.Marks.{MarksNulls}
 use Rattle.ipc_encode.specs.Pieces.{Fixed, Items, True, Valid}
-use Rattle.ipc_encode.specs.WholeColumns.{HasWrittenValidity, IsCanonical, UseAllItems, is_taken_whole, last_offset, lent_buffers, lent_offsets}
+use Rattle.ipc_encode.specs.WholeColumns.{UseAllItems, last_offset, lent_buffers, lent_offsets}
 use Rattle.ipc_encode.proofs.Bits.{flag_at, flags_length, unmarked}
 use Rattle.ipc_encode.proofs.LentBuffers.{buffers_bits, contents_lent, contents_offsets, contents_short, numbers_lent, start_of, zeros_lent}
-use Rattle.ipc_encode.proofs.LentBuffers.{starts_inside, whole_marked}
+use Rattle.ipc_encode.proofs.LentBuffers.{starts_inside}
 use Rattle.ipc_encode.proofs.NestedSlots.{no_offsets}
 use Rattle.ipc_encode.proofs.Steps.{no_nulls, some_null}
 
@@ -57,14 +58,13 @@ no_contents s utf8 none = either s.column (slot_values s) none
 -- ---- the validity bitmap
 
 -- bits that mark the nulls, in bytes in which no bit is set behind them
-pub marked_written : (s : Nested) → is_taken_whole s.column.layout ≡ true → (s.column.layout ≡ l.Null → ⊥) → 0 < nulls (slot_values s)
+pub marked_written : (s : Nested) → MarksNulls s.column.validity (slot_values s) → 0 < nulls (slot_values s)
     → ((flags : List Bool) → length flags ≡ length (slot_values s)
     → ((i : ℕ) → i < length (slot_values s) → bit s.column.validity i ≡ get_or flags i false)
     → take (bits_length (length (slot_values s))) s.column.validity ≡ bitmap flags)
     → take (bits_length (length (slot_values s))) s.column.validity ≡ validity_bytes (slot_values s)
-marked_written s whole other some bits =
+marked_written s marks some bits =
     let vs = slot_values s in
-    let marks = whole_marked s whole other in
     let bytes : length s.column.validity ≡ 0 → ⊥ = λ none. let e = unmarked s.column.validity vs marks none in omega (arith, e, some) in
     bits (flags Valid vs) (flags_length Valid vs) (λ i m.
     let marked : is_valid s.column.validity i ≡ bit s.column.validity i = rw (ne_eqb (length s.column.validity) 0 bytes) refl in
@@ -83,10 +83,11 @@ module _ (s : Nested) (b : Buffers) (h : AreBuffers s b) where
       either (suc k) e = buffers_bits s b h (omega (arith, e))
 
   -- as many bytes as the slots need are the bitmap that is written
-  pub validity_is : (s.column.layout ≡ l.Null → ⊥) → HasWrittenValidity s → (count null_count : ℕ)
-      → count ≡ length (slot_values s) → null_count ≡ nulls (slot_values s) → (bytes : List ℕ) → (null_count ≡ 0 → bytes ≡ [])
-      → (0 < null_count → bytes ≡ take (bits_length count) b.validity.now) → bytes ≡ validity_bytes (slot_values s)
-  validity_is other written count null_count size same bytes none some = either null_count refl
+  pub validity_is : (0 < nulls (slot_values s) → take (bits_length (length (slot_values s))) s.column.validity ≡ validity_bytes (slot_values s))
+      → (count null_count : ℕ) → count ≡ length (slot_values s) → null_count ≡ nulls (slot_values s) → (bytes : List ℕ)
+      → (null_count ≡ 0 → bytes ≡ []) → (0 < null_count → bytes ≡ take (bits_length count) b.validity.now)
+      → bytes ≡ validity_bytes (slot_values s)
+  validity_is written count null_count size same bytes none some = either null_count refl
     where
       either : (k : ℕ) → null_count ≡ k → bytes ≡ validity_bytes (slot_values s)
       either zero e = none e ∙ sym (no_nulls (slot_values s) (sym same ∙ e))
@@ -95,7 +96,7 @@ module _ (s : Nested) (b : Buffers) (h : AreBuffers s b) where
           some more
           ∙ (ap (λ (n : ℕ). take (bits_length n) b.validity.now) size
           ∙ (ap (take (bits_length (length (slot_values s)))) h.validity
-          ∙ written other (omega (arith, more, same))))
+          ∙ written (omega (arith, more, same))))
 
   -- ---- the buffers that follow it
 
@@ -157,14 +158,6 @@ lists_written s laid all = written_as s l.Lists laid (ap (λ (bs : List ℕ). bs
     either (suc n) e =
         let more : length (slot_values s) == 0 ≡ false = ne_eqb (length (slot_values s)) 0 (omega (arith, e)) in
         rw more (all.offsets_are (omega (arith, e)))
-
--- ---- the buffers of a column that is canonical
-
--- bytes that are the first of its buffers are those that are written
-pub lent_is : (s : Nested) → IsCanonical s → (layout : Layout) → s.column.layout ≡ layout → (bs : List (List ℕ))
-    → bs ≡ lent_buffers layout s.column (length (slot_values s)) → bs ≡ data_buffers s.column.layout (slot_values s)
-lent_is s canonical layout laid bs same =
-    same ∙ (ap (λ (x : Layout). lent_buffers x s.column (length (slot_values s))) (sym laid) ∙ canonical.lent)
 
 -- where the data of slots ends
 pub last_inside : (s : Nested) (b : Buffers) → AreBuffers s b → (utf8 : Bool) → b.layout ≡ l.VariableBytes utf8

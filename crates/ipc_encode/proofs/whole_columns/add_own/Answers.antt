@@ -44,8 +44,8 @@ nulls_are c =
 bitmap_is : (c : After-lent_validity-validity)
     → segment_bytes c.lent_validity-validity.result ≡ validity_bytes (slot_values c.args.view.now)
 bitmap_is c =
-    validity_is c.args.view.now c.buffers.result c.buffers.ensures (not_null c.args.layout _ c.requires.lies.laid c.in_default.not-Null)
-    c.requires.lies.canonical.validity c.len-count.result c.null_count-null_count.result c.len-count.ensures
+    validity_is c.args.view.now c.buffers.result c.buffers.ensures
+    (c.requires.lies.canonical.validity (not_null c.args.layout _ c.requires.lies.laid c.in_default.not-Null)) c.len-count.result c.null_count-null_count.result c.len-count.ensures
     (whole_nulls c.args.view.now c.requires.lies.canonical.whole
     (not_null c.args.layout _ c.requires.lies.laid c.in_default.not-Null) c.null_count-null_count.result
     c.null_count-null_count.ensures.with_bitmap c.null_count-null_count.ensures.without_bitmap) _ c.lent_validity-validity.ensures.none c.lent_validity-validity.ensures.some
