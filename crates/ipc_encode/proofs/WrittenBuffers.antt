@@ -83,7 +83,8 @@ module _ (s : Nested) (b : Buffers) (h : AreBuffers s b) where
       either (suc k) e = buffers_bits s b h (omega (arith, e))
 
   -- as many bytes as the slots need are the bitmap that is written
-  pub validity_is : (0 < nulls (slot_values s) → take (bits_length (length (slot_values s))) s.column.validity ≡ validity_bytes (slot_values s))
+  pub validity_is : (0 < nulls (slot_values s)
+      → take (bits_length (length (slot_values s))) s.column.validity ≡ validity_bytes (slot_values s))
       → (count null_count : ℕ) → count ≡ length (slot_values s) → null_count ≡ nulls (slot_values s) → (bytes : List ℕ)
       → (null_count ≡ 0 → bytes ≡ []) → (0 < null_count → bytes ≡ take (bits_length count) b.validity.now)
       → bytes ≡ validity_bytes (slot_values s)

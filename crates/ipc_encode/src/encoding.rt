@@ -137,9 +137,9 @@ fn add_fields<'a, I: IndexOf, N: Renumber>(
 /// number must fit the field's index type.
 ///
 /// Joined, the segments are the body that `Builder::finish` gives for the batch's rows with these
-/// indices and numbers. The bytes of a column are borrowed if its buffers already are those that are
-/// written: unused bits are 0, null slots are zeros or empty, and offsets begin at 0. Other columns
-/// are encoded anew from their values, into memory from `pool` if it has any. These are:
+/// indices and numbers. The bytes of a column are borrowed if its buffers already are those that
+/// are written: unused bits are 0, null slots are zeros or empty, and offsets begin at 0. Other
+/// columns are encoded anew from their values, into memory from `pool` if it has any. These are:
 ///
 /// - columns of a field with a dictionary;
 /// - lists and structs with a child that is encoded anew, or whose children have slots that their

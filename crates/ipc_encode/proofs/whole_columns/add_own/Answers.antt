@@ -45,10 +45,12 @@ bitmap_is : (c : After-lent_validity-validity)
     → segment_bytes c.lent_validity-validity.result ≡ validity_bytes (slot_values c.args.view.now)
 bitmap_is c =
     validity_is c.args.view.now c.buffers.result c.buffers.ensures
-    (c.requires.lies.canonical.validity (not_null c.args.layout _ c.requires.lies.laid c.in_default.not-Null)) c.len-count.result c.null_count-null_count.result c.len-count.ensures
+    (c.requires.lies.canonical.validity (not_null c.args.layout _ c.requires.lies.laid c.in_default.not-Null))
+    c.len-count.result c.null_count-null_count.result c.len-count.ensures
     (whole_nulls c.args.view.now c.requires.lies.canonical.whole
     (not_null c.args.layout _ c.requires.lies.laid c.in_default.not-Null) c.null_count-null_count.result
-    c.null_count-null_count.ensures.with_bitmap c.null_count-null_count.ensures.without_bitmap) _ c.lent_validity-validity.ensures.none c.lent_validity-validity.ensures.some
+    c.null_count-null_count.ensures.with_bitmap c.null_count-null_count.ensures.without_bitmap) _
+    c.lent_validity-validity.ensures.none c.lent_validity-validity.ensures.some
 
 pub lent_validity-validity-requires : goal.lent_validity-validity-requires
 lent_validity-validity-requires c = λ some.
@@ -99,6 +101,7 @@ returns-clause-adds c = λ known.
     (adds_both d c.add_buffer.new.draft c.add_data.new.draft _ (data_buffers c.args.layout vs)
     (begun d c.add_counts-2.new.draft c.add_buffer.new.draft _ vs bitmap c.in_ok-add_counts-2.ensures.adds
     c.in_ok-add_buffer.ensures.adds)
-    (subst (λ (x : Layout). AddsBuffers c.add_buffer.new.draft c.add_data.new.draft (data_buffers x vs)) laid c.in_ok-add_data.ensures.adds))
+    (subst (λ (x : Layout). AddsBuffers c.add_buffer.new.draft c.add_data.new.draft (data_buffers x vs)) laid
+    c.in_ok-add_data.ensures.adds))
     (omega (arith, c.if-count-limits.false)) (subst (λ (x : Layout). HasExcessData x vs → ⊥) laid c.requires.lies.canonical.short)
     (slots_stored s c.args.layout laid c.requires.lies.texts) c.in_ok-add_data.ensures.within
