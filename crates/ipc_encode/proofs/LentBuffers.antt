@@ -35,8 +35,8 @@ use Rattle.ipc_column.specs.checks.Rules.{IsText, HasUtf8Texts}
 use Rattle.ipc_column.specs.Values.{between, is_valid, own_value, row, signed_at, value_of, offset_position}
 use Rattle.ipc_column.specs.declared.buffers.Buffers.{Buffers}
 use Rattle.ipc_column.specs.declared.buffers.Numbers.{Numbers}
-use Rattle.ipc_encode.specs.Cells.{fixed_in, is_null, is_set, is_true, nulls, slot_bytes, slots, ends, flags, offsets, HasUtf8, SpellsOut, bytes_in}
-use Rattle.ipc_encode.specs.Cells.{content}
+use Rattle.ipc_encode.specs.Cells.{fixed_in, is_null, is_set, is_true, nulls, slot_bytes, slots, ends, flags, offsets, HasUtf8}
+use Rattle.ipc_encode.specs.Cells.{SpellsOut, bytes_in, content}
 use Rattle.ipc_encode.specs.Marks.{HasBits, MarksNulls}
 use Rattle.ipc_encode.specs.Pieces.{Fixed, True, Valid, ValueSlot, Number, Bytes, Content, Run}
 use Rattle.ipc_encode.specs.WholeColumns.{is_taken_whole}

@@ -73,7 +73,8 @@ marked_written s marks some bits =
 
 module _ (s : Nested) (b : Buffers) (h : AreBuffers s b) where
   -- a column with nulls has a bit for each slot
-  pub marked_long : (count : ℕ) → (length s.column.validity ≡ 0 → count ≡ 0) → 0 < count → length (slot_values s) ≤ 8 * length b.validity.now
+  pub marked_long : (count : ℕ) → (length s.column.validity ≡ 0 → count ≡ 0) → 0 < count
+      → length (slot_values s) ≤ 8 * length b.validity.now
   marked_long count without some = either (length b.validity.now) refl
     where
       either : (k : ℕ) → length b.validity.now ≡ k → length (slot_values s) ≤ 8 * length b.validity.now
