@@ -1,9 +1,9 @@
 -- Columns that are added one after another to a list of segments.
 use Rattle.std.proofs.Common.{◌≡◌, ◌∙◌, refl, sym, ap, ℕ, zero, suc, ◌+◌, ◌<◌, ◌≤◌, List, [], ◌∷◌, ◌++◌, length, take, get_or}
-use Rattle.std.proofs.Common.{append_assoc, arith, Some, slice_get, length-append, ℤ, pos, subst, ◌-◌, ◌%◌, replicate, inl, inr}
+use Rattle.std.proofs.Common.{append_assoc, arith, Some, slice_get, length-append, ℤ, pos, subst, ◌-◌, inl, inr}
 use Rattle.std.proofs.Common.{true}
 use Rattle.std.proofs.lemmas.Bool.{cases_lt, false≢true}
-use Rattle.std.proofs.lemmas.List.{append-nil, length-replicate, take_more}
+use Rattle.std.proofs.lemmas.List.{append-nil, take_more}
 use Rattle.std.proofs.lemmas.Option.{get_or_from_slice_get}
 use Rattle.ipc_model.specs.Layouts.{layout}
 use Rattle.ipc_model.specs.declared.layout.Layout.{Layout}
@@ -94,36 +94,12 @@ adds_both d e f xs ys a b =
 pub adds_as : (d e : Draft) (xs ys : List (List ℕ)) → xs ≡ ys → AddsBuffers d e xs → AddsBuffers d e ys
 adds_as d e xs ys same a = subst (λ (bs : List (List ℕ)). AddsBuffers d e bs) same a
 
--- the bytes of one buffer
-pub padded_one : (bs : List ℕ) → length (padded_bytes (bs ∷ [])) ≡ length bs + (8 - length bs % 8) % 8
-padded_one bs =
-    let zeros = replicate {A = ℕ} ((8 - length bs % 8) % 8) 0 in
-    let pad : length zeros ≡ (8 - length bs % 8) % 8 = length-replicate ((8 - length bs % 8) % 8) 0 in
-    ap (λ (xs : List ℕ). length xs) (append-nil (bs ++ zeros)) ∙ (length-append bs zeros ∙ ap (λ (n : ℕ). length bs + n) pad)
-
 -- ---- refusals
 
 -- what is refused of a body is refused of a longer one
 pub refused_longer : (limits : Limits) (m n : ℕ) (e : PushFault) → m ≤ n → IsBodyRefused limits m e → IsBodyRefused limits n e
 refused_longer limits m n push.TooLong le h = omega (arith, le, h)
 refused_longer limits m n _ le h = h
-
--- a buffer that is refused before it ends
-pub refused_begun : (limits : Limits) (len : ℕ) (bs : List ℕ) (e : PushFault) → IsBodyRefused limits (len + length bs) e
-    → IsBodyRefused limits (len + length (padded_bytes (bs ∷ []))) e
-refused_begun limits len bs e h =
-    let size = padded_one bs in
-    refused_longer limits (len + length bs) (len + length (padded_bytes (bs ∷ []))) e (omega (arith, size)) h
-
--- a buffer whose end is refused
-pub refused_ended : (limits : Limits) (start len : ℕ) (bs : List ℕ) (e : PushFault) → len ≡ start + length bs
-    → IsBodyRefused limits (len + (8 - (len - start) % 8) % 8) e → IsBodyRefused limits (start + length (padded_bytes (bs ∷ []))) e
-refused_ended limits start len bs e size h =
-    let own : len - start ≡ length bs = omega (arith, size) in
-    let whole = padded_one bs in
-    let end : len + (8 - (len - start) % 8) % 8 ≡ len + (8 - length bs % 8) % 8 = ap (λ (k : ℕ). len + (8 - k % 8) % 8) own in
-    refused_longer limits (len + (8 - (len - start) % 8) % 8) (start + length (padded_bytes (bs ∷ []))) e
-    (omega (arith, size, whole, end)) h
 
 -- the first of several buffers is refused
 pub refused_first : (limits : Limits) (len : ℕ) (xs ys : List (List ℕ)) (e : PushFault)

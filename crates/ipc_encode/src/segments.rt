@@ -147,49 +147,6 @@ fn has_room(len: usize, more: usize, limits: &Limits) -> bool
     len <= most && more <= most - len
 }
 
-// Appends a segment to the body. The errors are those of `add_buffer`.
-fn append<'a>(draft: &mut Draft<'a>, segment: Segment<'a>, limits: &Limits) -> Result<(), PushFault>
-    ensures nodes { OnOk result (draft.new.nodes.items ≡ draft.old.nodes.items) }
-    ensures buffers { OnOk result (draft.new.buffers.items ≡ draft.old.buffers.items) }
-    ensures body { OnOk result (bytes_of_segments draft.new.segments.items
-        ≡ bytes_of_segments draft.old.segments.items ++ segment_bytes segment.entry) }
-    ensures len { OnOk result
-        (draft.new.len ≡ draft.old.len + length (segment_bytes segment.entry)) }
-    ensures within { OnOk result (draft.new.len ≤ limits.now.body) }
-    ensures small { OnOk result (draft.new.len < 2 ^ 63) }
-    ensures refused { IfErr result (IsBodyRefused limits.now
-        (draft.old.len + length (segment_bytes segment.entry))) }
-{
-    let count = segment.as_bytes().len();
-    if !has_room(draft.len, count, limits) {
-        return Err(PushFault::TooLong);
-    }
-    push_segment(&mut draft.segments, segment)?;
-    draft.len += count;
-    Ok(())
-}
-
-// Ends the buffer that began at offset `start`: adds its range, and pads it with zeros to a
-// multiple of 8 bytes.
-fn end_buffer(draft: &mut Draft<'_>, start: usize, limits: &Limits) -> Result<(), PushFault>
-    requires order { start ≤ draft.old.len }
-    requires within { draft.old.len ≤ limits.now.body }
-    ensures nodes { OnOk result (draft.new.nodes.items ≡ draft.old.nodes.items) }
-    ensures buffers { OnOk result (draft.new.buffers.items
-        ≡ draft.old.buffers.items ++ (pos start, pos (draft.old.len - start)) ∷ []) }
-    ensures body { OnOk result (bytes_of_segments draft.new.segments.items ≡ bytes_of_segments
-        draft.old.segments.items ++ replicate ((8 - (draft.old.len - start) % 8) % 8) 0) }
-    ensures len { OnOk result
-        (draft.new.len ≡ draft.old.len + (8 - (draft.old.len - start) % 8) % 8) }
-    ensures padded { OnOk result (draft.new.len ≤ limits.now.body) }
-    ensures refused { IfErr result (IsBodyRefused limits.now
-        (draft.old.len + (8 - (draft.old.len - start) % 8) % 8)) }
-{
-    let len = draft.len - start;
-    push_pair(&mut draft.buffers, start, len)?;
-    append(draft, Segment::Zeros(((8 - len % 8) % 8) as u8), limits)
-}
-
 /// Adds a buffer of one segment, padded to a multiple of 8 bytes.
 ///
 /// Errors: `TooLong` if the body would have more than `limits.body` bytes; `OutOfMemory` if memory
@@ -206,7 +163,14 @@ pub(crate) fn add_buffer<'a>(
     ensures refused { IfErr result (IsBodyRefused limits.now
         (draft.old.len + length (padded_bytes (segment_bytes segment.entry ∷ [])))) }
 {
-    let start = draft.len;
-    append(draft, segment, limits)?;
-    end_buffer(draft, start, limits)
+    let len = segment.as_bytes().len();
+    let padding = (8 - len % 8) % 8;
+    if !has_room(draft.len, len + padding, limits) {
+        return Err(PushFault::TooLong);
+    }
+    push_pair(&mut draft.buffers, draft.len, len)?;
+    push_segment(&mut draft.segments, segment)?;
+    push_segment(&mut draft.segments, Segment::Zeros(padding as u8))?;
+    draft.len += len + padding;
+    Ok(())
 }
