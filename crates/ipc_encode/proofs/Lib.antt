@@ -20,3 +20,4 @@ pub mod HeldValues
 pub mod Reading
 pub mod FittingColumns
 pub mod SegmentColumns
+pub mod EntryNumbers

@@ -21,6 +21,7 @@ use crate::built_columns::add_node;
 use crate::copying::take_column;
 use crate::fault::PushFault;
 use crate::index::{IndexOf, Renumber};
+use crate::indexed_columns::add_indexed;
 use crate::pool::BufferPool;
 use crate::segments::{Draft, SegmentedParts};
 use crate::tree::new_node;
@@ -58,7 +59,7 @@ fn add_anew<I: IndexOf, N: Renumber>(
 
 // Adds column `column` of a batch as that of a field. A column that has the layout of the field is
 // added whole. So are lists and structs whose children have exactly the slots that they refer to.
-// Columns of indices, lists of a fixed size and others are encoded anew.
+// Indices get new numbers. Lists of a fixed size and others are encoded anew.
 //
 // The errors are those of `add_own`, from the column or one below it.
 fn add_field<'a, I: IndexOf, N: Renumber>(
@@ -86,6 +87,12 @@ fn add_field<'a, I: IndexOf, N: Renumber>(
         if has_field_layout(field, &view) {
             return add_whole(alloc, pool, draft, field, &view, limits);
         }
+    }
+    let is_added = add_indexed(
+        alloc, pool, draft, field, batch, column, limits, indices, numbers,
+    )?;
+    if is_added {
+        return Ok(());
     }
     add_anew(
         alloc, pool, draft, field, batch, column, limits, indices, numbers,
@@ -141,9 +148,11 @@ fn add_fields<'a, I: IndexOf, N: Renumber>(
 /// indices and numbers. Numbers are borrowed if null slots are zeros, fixed-size binary values if
 /// none is null, and other binary values and texts with their offsets if these begin at 0 and null
 /// slots are empty. So are offsets of lists, and validity bitmaps of a multiple of 8 slots. Other
-/// buffers are copied, into memory from `pool` if it has any. These columns are encoded anew:
+/// buffers are copied, into memory from `pool` if it has any. Each value of a dictionary is looked
+/// up once. These columns are encoded anew, value by value:
 ///
-/// - columns of a field with a dictionary;
+/// - columns of a field with a dictionary, if the batch has their values without one, or a slot
+///   refers to a null in it;
 /// - lists and structs whose children have a dictionary, or slots that their parent does not refer
 ///   to;
 /// - fixed-size lists, and columns of another layout than the field's.
