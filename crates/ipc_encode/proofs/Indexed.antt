@@ -138,24 +138,23 @@ body_within limits known fields rows body e h =
 
 -- ---- other numbers
 
--- indices that are changed one by one are those that are told otherwise
+-- the changed index of a value is the one that it is told otherwise
+pub changed_is : (number : ℤ → ℕ → Option ℕ) (known : Numbering) (id : ℤ) (value : Value)
+    → new_index (number id) (index_of (known id) value) ≡ index_of (new_indices number known id) value
+changed_is number known id value = by (known id value) (out-Value value)
+  where
+    by : (i : ℕ) (w : Value-F Value) → new_index (number id) (index_unless_null i w) ≡ index_unless_null (number_or (number id i) i) w
+    by i Value-F.Null = refl
+    by i _ = refl
+
+-- and so are those of values
 pub changed_are : (number : ℤ → ℕ → Option ℕ) (known : Numbering) (id : ℤ) (vs : List Value)
     → map as_number (map (new_index (number id)) (indices_of (known id) vs)) ≡ numbers_of (new_indices number known id) vs
 changed_are number known id [] = refl
 changed_are number known id (value ∷ vs) =
-    let here = one (known id value) (out-Value value) in
+    let here = changed_is number known id value in
     let rest = changed_are number known id vs in
     λ q. as_number (here q) ∷ rest q
-  where
-    one : (i : ℕ) (w : Value-F Value) → new_index (number id) (index_unless_null i w) ≡ index_unless_null (number_or (number id i) i) w
-    one i Value-F.Null = refl
-    one i (Value-F.Bool truth) = refl
-    one i (Value-F.Int z) = refl
-    one i (Value-F.UInt n) = refl
-    one i (Value-F.Bytes bytes) = refl
-    one i (Value-F.Text text) = refl
-    one i (Value-F.List values) = refl
-    one i (Value-F.Struct values) = refl
 
 -- numbers that agree on a value give it one index
 one_agrees : (known others : Numbering) (id : ℤ) (value : Value) (w : Value-F Value) → out-Value value ≡ w

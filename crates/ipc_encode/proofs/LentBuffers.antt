@@ -142,23 +142,22 @@ module _ (s : Nested) (b : Buffers) (h : AreBuffers s b) where
           let most = leb-true ((n + 7) / 8) bytes (either (bytes == 0) (nat_le ((n + 7) / 8) bytes) e (ne_eqb bytes 0 (omega arith))) in
           omega (arith, most)
 
--- a column that is taken whole and has a bitmap
-module _ (s : Nested) (whole : is_taken_whole s.column.layout ≡ true) (some : s.column.layout ≡ l.Null → ⊥) where
-  -- its bitmap says which slots are null
-  pub whole_marked : MarksNulls s.column.validity (slot_values s)
-  whole_marked = column_marked s
-      (some, λ bits signed id is. absurd (false≢true (subst (λ (x : Layout). is_taken_whole x ≡ true) is whole)))
+-- where the bitmap marks the nulls, its clear bits are their number
+pub marked_count : (marks : List ℕ) (vs : List Value) (count : ℕ) → MarksNulls marks vs
+    → (0 < length marks → count ≡ clear marks (length vs)) → (length marks ≡ 0 → count ≡ 0) → count ≡ nulls vs
+marked_count marks vs count h with_bits without = either (length marks == 0) refl
+  where
+    either : (e : Bool) → (length marks == 0) ≡ e → count ≡ nulls vs
+    either true e = without (eqb-true _ _ e) ∙ sym (unmarked marks vs h (eqb-true _ _ e))
+    either false e =
+        let bytes = eqb-false (length marks) 0 e in
+        with_bits (omega (arith, bytes)) ∙ clear_nulls marks vs h bytes
 
-  -- the clear bits are the nulls
-  pub whole_nulls : (count : ℕ) → (0 < length s.column.validity → count ≡ clear s.column.validity (length (slot_values s)))
-      → (length s.column.validity ≡ 0 → count ≡ 0) → count ≡ nulls (slot_values s)
-  whole_nulls count with_bits without = either (length s.column.validity == 0) refl
-    where
-      either : (e : Bool) → (length s.column.validity == 0) ≡ e → count ≡ nulls (slot_values s)
-      either true e = without (eqb-true _ _ e) ∙ sym (unmarked s.column.validity (slot_values s) whole_marked (eqb-true _ _ e))
-      either false e =
-          let bytes = eqb-false (length s.column.validity) 0 e in
-          with_bits (omega (arith, bytes)) ∙ clear_nulls s.column.validity (slot_values s) whole_marked bytes
+-- the bitmap of a column that is taken whole says which slots are null
+pub whole_marked : (s : Nested) → is_taken_whole s.column.layout ≡ true → (s.column.layout ≡ l.Null → ⊥)
+    → MarksNulls s.column.validity (slot_values s)
+whole_marked s whole some = column_marked s
+    (some, λ bits signed id is. absurd (false≢true (subst (λ (x : Layout). is_taken_whole x ≡ true) is whole)))
 
 -- a column of nulls has nothing but nulls
 pub nothing_stands : (s : Nested) → s.column.layout ≡ l.Null → (i : ℕ) → i < length (slot_values s) → get_or (slot_values s) i Null ≡ Null

@@ -21,3 +21,4 @@ pub mod HeldValues
 pub mod Reading
 pub mod FittingColumns
 pub mod SegmentColumns
+pub mod EntryNumbers

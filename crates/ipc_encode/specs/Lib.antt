@@ -14,6 +14,6 @@ pub mod ColumnSizes
 pub mod Marks
 pub mod WholeColumns
 pub mod PlainColumns
-pub mod EntryIndices
+pub mod EntryNumbers
 pub mod Segments
 pub mod Mismatches

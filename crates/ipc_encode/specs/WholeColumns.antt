@@ -70,7 +70,7 @@ lent_buffers (l.Indices bits signed id) column count = []
 
 -- the validity bitmap of a column begins with the one that is written for its values, if one is
 abbrev pub HasWrittenValidity : Nested → Type 0
-HasWrittenValidity view = ¬ (view.column.layout ≡ l.Null) → 0 < nulls (slot_values view)
+HasWrittenValidity view = 0 < nulls (slot_values view)
     → take (bits_length (length (slot_values view))) view.column.validity
     ≡ validity_bytes (slot_values view)
 
@@ -79,7 +79,7 @@ HasWrittenValidity view = ¬ (view.column.layout ≡ l.Null) → 0 < nulls (slot
 pub record IsCanonical (view : Nested) : Type 0 where
   pub whole : is_taken_whole view.column.layout ≡ true
   pub lists : view.column.layout ≡ l.Lists → UseAllItems view
-  pub validity : HasWrittenValidity view
+  pub validity : ¬ (view.column.layout ≡ l.Null) → HasWrittenValidity view
   pub lent : lent_buffers view.column.layout view.column (length (slot_values view))
       ≡ data_buffers view.column.layout (slot_values view)
   pub short : ¬ HasExcessData view.column.layout (slot_values view)

@@ -1,6 +1,6 @@
 //! Whether the buffers of a column that was read are those that are written for its values.
 ghost use Rattle.std.specs.Prelude.{◌≡◌, ◌≤◌, ◌<◌, ◌+◌, ◌*◌, ℕ, List, Bool, false, true, length};
-ghost use Rattle.std.specs.Prelude.{IfSome, IsTrue, drop, replicate, slice_index, slice_index_or};
+ghost use Rattle.std.specs.Prelude.{IfSome, IsTrue, [], drop, replicate, slice_index, slice_index_or};
 ghost use Rattle.std.specs.Prelude.{take};
 ghost use Rattle.ipc_scalar.specs.Bytes.{bit, num};
 ghost use Rattle.ipc_column.specs.Nested.{slot_values};
@@ -11,10 +11,12 @@ ghost use Rattle.ipc_encode.specs.Marks.{HasBits, MarksNulls};
 ghost use Rattle.ipc_model.specs.declared.layout.Layout.TheVariants.{Lists};
 ghost use Rattle.ipc_encode.specs.Buffers.{data_buffers};
 ghost use Rattle.ipc_encode.specs.Limits.{HasExcessData};
+ghost use Rattle.ipc_encode.specs.Segments.{segment_bytes};
 ghost use Rattle.ipc_encode.specs.WholeColumns.{HasWrittenValidity, IsCanonical, UseAllItems};
 ghost use Rattle.ipc_encode.specs.WholeColumns.{is_taken_whole, lent_buffers};
 
 use crate::bitmaps::{is_valid_in_bitmap, valid_are_among};
+use crate::segments::Segment;
 use ipc_column::SlotView;
 use ipc_model::Layout;
 use ipc_scalar::get_u32;
@@ -128,9 +130,10 @@ fn unused_bits_are_zeros(bits: &[u8], count: usize) -> bool
     count % 8 == 0 || bits[count / 8] < 1 << (count % 8)
 }
 
-// Whether the validity bitmap of a column is the one that is written.
-fn has_written_validity(view: &SlotView<'_>) -> bool
-    ensures { IsTrue result → is_taken_whole view.now.column.layout ≡ true
+/// Returns true only if the validity bitmap of a column, if it marks exactly the null slots, begins
+/// with the one that is written: unused bits are 0.
+pub(crate) fn has_written_validity(view: &SlotView<'_>) -> bool
+    ensures { IsTrue result → MarksNulls view.now.column.validity (slot_values view.now)
         → HasWrittenValidity view.now }
 {
     view.null_count() == 0 || unused_bits_are_zeros(view.buffers().validity, view.len())
@@ -177,4 +180,25 @@ pub(crate) fn is_canonical(view: &SlotView<'_>) -> bool
     ensures { IsTrue result → IsCanonical view.now }
 {
     has_written_data(view) && has_written_validity(view)
+}
+
+/// Lends the first bytes of a buffer.
+pub(crate) fn first_bytes(bytes: &[u8], len: usize) -> Segment<'_>
+    requires { len ≤ length bytes.now }
+    ensures { segment_bytes result ≡ take len bytes.now }
+{
+    Segment::Borrowed(&bytes[..len])
+}
+
+/// Returns the validity bitmap of `count` slots with `null_count` nulls: no bytes if none is null.
+pub(crate) fn lent_validity(marks: &[u8], count: usize, null_count: usize) -> Segment<'_>
+    requires { 0 < null_count → count ≤ 8 * length marks.now }
+    ensures none { null_count ≡ 0 → segment_bytes result ≡ [] }
+    ensures some { 0 < null_count
+        → segment_bytes result ≡ take (bits_length count) marks.now }
+{
+    if null_count == 0 {
+        return Segment::Zeros(0);
+    }
+    first_bytes(marks, count.div_ceil(8))
 }

@@ -21,6 +21,7 @@ use crate::built_columns::add_node;
 use crate::copying::take_column;
 use crate::fault::PushFault;
 use crate::index::{IndexOf, Renumber};
+use crate::indexed_columns::add_indexed;
 use crate::pool::BufferPool;
 use crate::segments::{Draft, SegmentedParts};
 use crate::tree::new_node;
@@ -57,7 +58,7 @@ fn add_anew<I: IndexOf, N: Renumber>(
 }
 
 // Adds column `column` of a batch as that of a field: its own buffers if they are those that are
-// written, and else a column that is encoded anew.
+// written, with new numbers in place of indices, and else a column that is encoded anew.
 //
 // The errors are those of `add_own`, from the column or one below it.
 fn add_field<'a, I: IndexOf, N: Renumber>(
@@ -85,6 +86,12 @@ fn add_field<'a, I: IndexOf, N: Renumber>(
         if has_field_layout(field, &view) {
             return add_whole(draft, field, &view, limits);
         }
+    }
+    let is_added = add_indexed(
+        alloc, pool, draft, field, batch, column, limits, indices, numbers,
+    )?;
+    if is_added {
+        return Ok(());
     }
     add_anew(
         alloc, pool, draft, field, batch, column, limits, indices, numbers,
@@ -138,12 +145,14 @@ fn add_fields<'a, I: IndexOf, N: Renumber>(
 ///
 /// Joined, the segments are the body that `Builder::finish` gives for the batch's rows with these
 /// indices and numbers. The bytes of a column are borrowed if its buffers already are those that
-/// are written: unused bits are 0, null slots are zeros or empty, and offsets begin at 0. Other
-/// columns are encoded anew from their values, into memory from `pool` if it has any. These are:
+/// are written: unused bits are 0, null slots are zeros or empty, and offsets begin at 0. A column of
+/// indices gets the numbers in memory from `pool` if it has any; each value of its dictionary is
+/// looked up once. Other columns are encoded anew from their values, in such memory too. These are:
 ///
-/// - columns of a field with a dictionary;
-/// - lists and structs with a child that is encoded anew, or whose children have slots that their
-///   parent does not refer to;
+/// - columns of a field with a dictionary, if the batch has their values without one, if a slot
+///   refers to a null in it, or if unused bits are set;
+/// - lists and structs with a child that is encoded anew or has a dictionary, or whose children have
+///   slots that their parent does not refer to;
 /// - fixed-size lists, and columns of another layout than the field's.
 ///
 /// Errors:

@@ -17,6 +17,7 @@ mod encoding;
 mod fault;
 mod fitting;
 mod index;
+mod indexed_columns;
 mod parts;
 mod pool;
 mod segments;

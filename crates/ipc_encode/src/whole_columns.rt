@@ -1,8 +1,8 @@
 //! Adds columns that were read with all their slots, where they have the layouts of a field and
 //! of its descendants.
 ghost use Rattle.std.specs.Prelude.{◌≡◌, ◌<◌, ℕ, Some, true, false, length, slice_get};
-ghost use Rattle.std.specs.Prelude.{slice_index, slice_index_or, IsTrue, ◌≤◌, ◌+◌, ◌*◌, []};
-ghost use Rattle.std.specs.Prelude.{take, IfErr, OnOk};
+ghost use Rattle.std.specs.Prelude.{slice_index, slice_index_or, IsTrue, ◌≤◌, ◌+◌, ◌*◌};
+ghost use Rattle.std.specs.Prelude.{IfErr, OnOk};
 ghost use Rattle.ipc_model.specs.declared.layout.Layout.{Layout};
 ghost use Rattle.ipc_model.specs.declared.layout.Layout.TheVariants.{Lists};
 ghost use Rattle.ipc_model.specs.declared.limits.Limits.{Limits};
@@ -15,18 +15,17 @@ ghost use Rattle.ipc_column.specs.Shapes.{shape_of};
 ghost use Rattle.ipc_column.specs.Slots.{nested_in};
 ghost use Rattle.ipc_column.specs.Values.{is_valid};
 ghost use Rattle.ipc_encode.specs.Buffers.{child_values, data_buffers, padded_bytes};
-ghost use Rattle.ipc_encode.specs.Cells.{all_parts, nulls};
+ghost use Rattle.ipc_encode.specs.Cells.{all_parts};
 ghost use Rattle.ipc_encode.specs.Marks.{HasBits};
 ghost use Rattle.ipc_encode.specs.Numbers.{Numbering};
 ghost use Rattle.ipc_encode.specs.Segments.{AddsBuffers, AddsColumns, AreRefusedAfter};
 ghost use Rattle.ipc_encode.specs.Segments.{IsBodyRefused, segment_bytes};
-ghost use Rattle.ipc_encode.specs.Columns.{bits_length};
 ghost use Rattle.ipc_encode.specs.WholeColumns.{AreFullColumns, IsCanonical, IsFullColumn};
 ghost use Rattle.ipc_encode.specs.WholeColumns.{IsLaidOutAs, UseAllItems, last_offset};
 ghost use Rattle.ipc_encode.specs.WholeColumns.{lent_offsets};
 
 use crate::bitmaps::valid_are_among;
-use crate::canonical::{borrowed_bitmap, is_canonical, offset_at};
+use crate::canonical::{borrowed_bitmap, first_bytes, is_canonical, lent_validity, offset_at};
 use crate::fault::PushFault;
 use crate::segments::{Draft, Segment, add_buffer, add_counts};
 use ipc_column::SlotView;
@@ -128,14 +127,6 @@ fn have_field_layouts(fields: &[Field], view: &SlotView<'_>) -> bool
     true
 }
 
-// Lends the first bytes of a buffer.
-fn first_bytes(bytes: &[u8], len: usize) -> Segment<'_>
-    requires { len ≤ length bytes.now }
-    ensures { segment_bytes result ≡ take len bytes.now }
-{
-    Segment::Borrowed(&bytes[..len])
-}
-
 // Returns the offsets of `count` slots as they are laid out: one zero if there is no slot.
 fn lent_offsets(offsets: &[u8], count: usize) -> Segment<'_>
     requires { 0 < count → 4 * (count + 1) ≤ length offsets.now }
@@ -198,19 +189,6 @@ fn add_data<'a>(
         Layout::Lists => add_buffer(draft, lent_offsets(buffers.offsets, count), limits),
         Layout::Null | Layout::Structs | Layout::FixedLists(_) | Layout::Indices { .. } => Ok(()),
     }
-}
-
-// Returns the validity bitmap of `count` slots with `null_count` nulls: no bytes if none is null.
-fn lent_validity(marks: &[u8], count: usize, null_count: usize) -> Segment<'_>
-    requires { 0 < null_count → count ≤ 8 * length marks.now }
-    ensures none { null_count ≡ 0 → segment_bytes result ≡ [] }
-    ensures some { 0 < null_count
-        → segment_bytes result ≡ take (bits_length count) marks.now }
-{
-    if null_count == 0 {
-        return Segment::Zeros(0);
-    }
-    first_bytes(marks, count.div_ceil(8))
 }
 
 /// Adds the node and the buffers of a column, without its descendants.

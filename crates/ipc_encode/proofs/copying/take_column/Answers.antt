@@ -1,43 +1,50 @@
-use Rattle.std.proofs.Common.{◌≡◌, ◌∙◌, sym, ap, subst, [], ℤ, of_z, to_z, w64, rules}
-use Rattle.std.proofs.lemmas.Result.{on_ok_weaker, IfErr-weaker}
-use Rattle.ipc_model.specs.declared.layout.Layout.{Layout}
-use Rattle.ipc_model.specs.declared.layout.Layout.TheVariants as l
-use Rattle.ipc_column.specs.Shapes.{bare}
-use Rattle.ipc_encode.specs.declared.tree.Node.{out-Node}
-use Rattle.ipc_encode.specs.Buffers.{child_values}
-use Rattle.ipc_encode.specs.Built.{IsColumn, IsPushRefused}
-use Rattle.ipc_encode.specs.Cells.{cells}
+use Rattle.std.proofs.Common.{◌≡◌, ◌∙◌, ◌<◌, ap, subst, ◌+◌, ◌++◌, List, [], ◌∷◌, length, take, get_or, arith}
+use Rattle.std.proofs.lemmas.List.{take_all}
+use Rattle.std.proofs.lemmas.Result.{err_from_is_err_and}
+use Rattle.ipc_model.specs.declared.value.Value.{Value}
+use Rattle.ipc_column.specs.Shapes.{bare, field}
+use Rattle.ipc_encode.specs.Cells.{cell, cells}
+use Rattle.ipc_encode.specs.Built.{ArePushesRefused, IsColumn, IsNode}
 use Rattle.ipc_encode.specs.Numbers.{index_or_zero}
-use Rattle.ipc_encode.proofs.Growing.{own_refused, node_is, leaf_has}
-use Rattle.ipc_encode.proofs.Steps.{laid_as}
+use Rattle.ipc_encode.proofs.Copied.{cells_next}
+use Rattle.ipc_encode.proofs.Growing.{all_refused}
+use Rattle.ipc_encode.proofs.Steps.{cells_length}
 use Rattle.ipc_encode.proofs.copying.take_column.Goals as goal
 
-pub returns-in-Indices-clause-taken : goal.returns-in-Indices-clause-taken
-returns-in-Indices-clause-taken g c = λ layout children h.
-    let known = index_or_zero (g.I.IndexOf.index c.args.indices.now) in
+pub returns-in_err-append-clause-refused : goal.returns-in_err-append-clause-refused
+returns-in_err-append-clause-refused g c = λ layout children h.
     let limits = c.args.limits.now in
-    let values = cells c.args.column c.args.batch.now.rows in
-    let own = l.Indices c.in-Indices.bits c.in-Indices.signed (to_z w64 (of_z w64 c.in-Indices.id)) in
-    let read : to_z w64 (of_z w64 c.in-Indices.id) ≡ c.in-Indices.id = search rules in
-    let is : layout ≡ own = sym h.0.laid ∙ (sym c.layout.ensures ∙ (c.in-Indices.is
-    ∙ ap (λ (z : ℤ). l.Indices c.in-Indices.bits c.in-Indices.signed z) (sym read))) in
-    let inner = leaf_has (IsColumn known limits) children (out-Node c.args.node.now).children.items (child_values layout [])
-    (child_values layout values)
-    (c.is_leaf.ensures.0 c.if-is_leaf.true) h.1 in
-    on_ok_weaker c.take_indices.result
-    (λ taken. node_is (IsColumn known limits) layout children values _ (laid_as known limits own layout values (sym is) taken) inner)
-    (c.take_indices.ensures.taken (laid_as known limits layout own [] is h.0))
+    let rows = c.args.batch.now.rows in
+    let column = c.args.column in
+    let row = c.loop-row.row in
+    let inside : row < length rows = omega (arith, c.loop-row-test.true, c.rows-row-end.ensures) in
+    let is : c.in_ok-value.value ≡ cell column (get_or rows row []) = c.in_ok-value.ensures.value in
+    let so_far = take row (cells column rows) in
+    let fault = c.in_err-append.field-0.0 in
+    let refused = (c.in_err-append.ensures.appended layout children so_far (c.loop-row.invariant layout children h)).refused in
+    let p = err_from_is_err_and c.from_residual-in_err-append.result c.from_residual-in_err-append.ensures.1 in
+    rw (p.1, p.2) (all_refused limits layout children [] (cells column rows) (row + 1) fault
+    (subst (λ (vs : List Value). ArePushesRefused limits (field layout children bare) (λ j. vs) fault)
+    (ap (λ (v : Value). so_far ++ v ∷ []) is ∙ cells_next column rows row inside) refused))
 
-pub returns-in-Indices-clause-refused : goal.returns-in-Indices-clause-refused
-returns-in-Indices-clause-refused g c = λ layout children h.
-    let known = index_or_zero (g.I.IndexOf.index c.args.indices.now) in
-    let limits = c.args.limits.now in
-    let values = cells c.args.column c.args.batch.now.rows in
-    let own = l.Indices c.in-Indices.bits c.in-Indices.signed (to_z w64 (of_z w64 c.in-Indices.id)) in
-    let read : to_z w64 (of_z w64 c.in-Indices.id) ≡ c.in-Indices.id = search rules in
-    let is : layout ≡ own = sym h.0.laid ∙ (sym c.layout.ensures ∙ (c.in-Indices.is
-    ∙ ap (λ (z : ℤ). l.Indices c.in-Indices.bits c.in-Indices.signed z) (sym read))) in
-    IfErr-weaker c.take_indices.result _ _
-    (λ fault refused. own_refused limits layout children bare (λ j. values) fault
-    (subst (λ (lay : Layout). IsPushRefused limits lay values fault) (sym is) refused))
-    c.take_indices.ensures.refused
+pub loop-row-preserved : goal.loop-row-preserved
+loop-row-preserved g c = λ layout children h.
+    let rows = c.args.batch.now.rows in
+    let column = c.args.column in
+    let row = c.loop-row.row in
+    let inside : row < length rows = omega (arith, c.loop-row-test.true, c.rows-row-end.ensures) in
+    let is : c.in_ok-value.value ≡ cell column (get_or rows row []) = c.in_ok-value.ensures.value in
+    let so_far = take row (cells column rows) in
+    subst (λ (vs : List Value). IsNode (IsColumn (index_or_zero (g.I.IndexOf.index c.args.indices.now)) c.args.limits.now) layout children
+    c.append.new.node vs) (ap (λ (v : Value). so_far ++ v ∷ []) is ∙ cells_next column rows row inside)
+    (c.in_ok-append.ensures.appended layout children so_far (c.loop-row.invariant layout children h)).appended
+
+pub returns-clause-taken : goal.returns-clause-taken
+returns-clause-taken g c = λ layout children h.
+    let rows = c.args.batch.now.rows in
+    let column = c.args.column in
+    let size = cells_length column rows in
+    let whole : take c.loop-row.row (cells column rows) ≡ cells column rows =
+    take_all c.loop-row.row (cells column rows) (omega (arith, size, c.loop-row-test.false, c.loop-row.auto.row-end)) in
+    subst (λ (vs : List Value). IsNode (IsColumn (index_or_zero (g.I.IndexOf.index c.args.indices.now)) c.args.limits.now) layout children
+    c.loop-row.node vs) whole (c.loop-row.invariant layout children h)

@@ -10,7 +10,7 @@ use Rattle.ipc_encode.specs.Limits.{HasExcessData}
 use Rattle.ipc_encode.specs.Segments.{AddsBuffers, IsBodyRefused, segment_bytes}
 use Rattle.ipc_encode.specs.WholeColumns.{is_taken_whole}
 use Rattle.ipc_encode.proofs.WrittenBuffers.{marked_long, validity_is}
-use Rattle.ipc_encode.proofs.LentBuffers.{slots_stored, whole_nulls}
+use Rattle.ipc_encode.proofs.LentBuffers.{marked_count, slots_stored, whole_marked}
 use Rattle.ipc_encode.proofs.ReadbackParts.{nulls_most}
 use Rattle.ipc_encode.proofs.SegmentColumns.{adds_both, begun, bitmap_and_data, bitmap_refused, data_refused, leaf_added}
 use Rattle.ipc_encode.proofs.Steps.{other_nulls}
@@ -36,20 +36,21 @@ not_null layout own laid other is = other (sym laid ∙ is)
 -- the count is that of the nulls
 nulls_are : (c : After-null_count-null_count) → c.null_count-null_count.result ≡ nulls (slot_values c.args.view.now)
 nulls_are c =
-    whole_nulls c.args.view.now c.requires.lies.canonical.whole
-    (not_null c.args.layout _ c.requires.lies.laid c.in_default.not-Null) c.null_count-null_count.result
+    marked_count c.args.view.now.column.validity (slot_values c.args.view.now) c.null_count-null_count.result
+    (whole_marked c.args.view.now c.requires.lies.canonical.whole
+    (not_null c.args.layout _ c.requires.lies.laid c.in_default.not-Null))
     c.null_count-null_count.ensures.with_bitmap c.null_count-null_count.ensures.without_bitmap
 
 -- the bytes are the bitmap that is written
 bitmap_is : (c : After-lent_validity-validity)
     → segment_bytes c.lent_validity-validity.result ≡ validity_bytes (slot_values c.args.view.now)
 bitmap_is c =
-    validity_is c.args.view.now c.buffers.result c.buffers.ensures
-    (c.requires.lies.canonical.validity (not_null c.args.layout _ c.requires.lies.laid c.in_default.not-Null))
-    c.len-count.result c.null_count-null_count.result c.len-count.ensures
-    (whole_nulls c.args.view.now c.requires.lies.canonical.whole
-    (not_null c.args.layout _ c.requires.lies.laid c.in_default.not-Null) c.null_count-null_count.result
-    c.null_count-null_count.ensures.with_bitmap c.null_count-null_count.ensures.without_bitmap) _
+    let other = not_null c.args.layout _ c.requires.lies.laid c.in_default.not-Null in
+    let nulls = marked_count c.args.view.now.column.validity (slot_values c.args.view.now) c.null_count-null_count.result
+    (whole_marked c.args.view.now c.requires.lies.canonical.whole other)
+    c.null_count-null_count.ensures.with_bitmap c.null_count-null_count.ensures.without_bitmap in
+    validity_is c.args.view.now c.buffers.result c.buffers.ensures (c.requires.lies.canonical.validity other)
+    c.len-count.result c.null_count-null_count.result c.len-count.ensures nulls _
     c.lent_validity-validity.ensures.none c.lent_validity-validity.ensures.some
 
 pub lent_validity-validity-requires : goal.lent_validity-validity-requires
