@@ -1,7 +1,7 @@
 //! Whether the buffers of a column that was read are those that are written for its values.
 ghost use Rattle.std.specs.Prelude.{◌≡◌, ◌≤◌, ◌<◌, ◌+◌, ◌*◌, ℕ, List, Bool, false, true, length};
-ghost use Rattle.std.specs.Prelude.{IfSome, IsTrue, [], drop, replicate, slice_index, slice_index_or};
-ghost use Rattle.std.specs.Prelude.{take};
+ghost use Rattle.std.specs.Prelude.{IfSome, IsTrue, [], drop, replicate, slice_index};
+ghost use Rattle.std.specs.Prelude.{slice_index_or, take};
 ghost use Rattle.ipc_scalar.specs.Bytes.{bit, num};
 ghost use Rattle.ipc_column.specs.Nested.{slot_values};
 ghost use Rattle.ipc_column.specs.Values.{is_valid};

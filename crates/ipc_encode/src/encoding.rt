@@ -1,6 +1,6 @@
 //! Encodes a batch that was read, column by column, as parts whose body is a sequence of segments.
-ghost use Rattle.std.specs.Prelude.{◌≡◌, ◌<◌, ◌≤◌, length};
-ghost use Rattle.std.specs.Prelude.{pos, slice_get, Some, IfErr, IfOk, OnOk};
+ghost use Rattle.std.specs.Prelude.{◌≡◌, ◌<◌, ◌≤◌, length, pos, slice_get, Some, IfErr, IfOk, OnOk};
+ghost use Rattle.std.specs.Prelude.{[], slice_index_or};
 ghost use Rattle.std.specs.List.{AllByRecursion};
 ghost use Rattle.ipc_model.specs.Entries.{entries};
 ghost use Rattle.ipc_model.specs.Fits.{RowFits};
@@ -9,26 +9,72 @@ ghost use Rattle.ipc_column.specs.Dictionaries.{Dictionaries};
 ghost use Rattle.ipc_column.specs.Rows.{Rows};
 ghost use Rattle.ipc_column.specs.Shapes as shapes;
 ghost use Rattle.ipc_column.specs.Shapes.{bare, field, field_children, field_layout, shape_of};
+ghost use Rattle.ipc_column.specs.Shapes.{Shape};
 ghost use Rattle.ipc_encode.specs.Buffers.{row_columns};
-ghost use Rattle.ipc_encode.specs.Cells.{cells};
+ghost use Rattle.ipc_encode.specs.Cells.{cells, cell};
 ghost use Rattle.ipc_encode.specs.Indices.{FindsRows};
 ghost use Rattle.ipc_encode.specs.Limits.{AreRowsRefused, IsWithin};
 ghost use Rattle.ipc_encode.specs.Numbers.{new_indices, index_or_zero};
-ghost use Rattle.ipc_encode.specs.Segments.{AddsColumns, AreRefusedAfter};
-ghost use Rattle.ipc_encode.specs.Segments.{AreSegmented, bytes_of_segments};
+ghost use Rattle.ipc_encode.specs.Segments.{AddsColumns, AreRefusedAfter, AreSegmented};
+ghost use Rattle.ipc_encode.specs.Segments.{bytes_of_segments};
+ghost use Rattle.ipc_model.specs.declared.layout.Layout.{Layout};
+ghost use Rattle.ipc_encode.specs.Built.{ArePushesRefused, IsColumn, IsNode};
 
 use crate::built_columns::add_node;
-use crate::copying::take_column;
 use crate::fault::PushFault;
 use crate::index::{IndexOf, Renumber};
 use crate::indexed_columns::add_indexed;
 use crate::pool::BufferPool;
 use crate::segments::{Draft, SegmentedParts};
-use crate::tree::new_node;
+use crate::tree::{Node, append, new_node};
 use crate::whole_columns::{add_whole, has_field_layout};
 use ipc_column::Batch;
-use ipc_model::{Field, Limits, WriteFault};
+use ipc_model::{Field, Limits, Value, WriteFault};
 use std::alloc::Global;
+
+// The value of a batch in a row and a column, or null if the batch has no such column.
+fn cell_at(alloc: Global, batch: &Batch, row: usize, column: usize) -> Result<Value, PushFault>
+    requires { row < length batch.now.rows }
+    ensures value { IfOk result
+        (λ value. value ≡ cell column (slice_index_or batch.now.rows row [])) }
+    ensures memory { IfErr result (λ fault. fault ≡ PushFault.OutOfMemory) }
+{
+    if column >= batch.columns() {
+        return Ok(Value::Null);
+    }
+    Ok(batch.read_cell(alloc, row, column)?)
+}
+
+// Takes the values of a column of a batch one by one into a node without values, or nulls if the
+// batch has no such column. The errors are those of `append`.
+fn take_column<I: IndexOf>(
+    node: &mut Node,
+    batch: &Batch,
+    column: usize,
+    limits: &Limits,
+    indices: &I,
+) -> Result<(), PushFault>
+    ensures taken { (layout : Layout) (children : Shape)
+        → IsNode (IsColumn (index_or_zero (I.IndexOf.index indices.now)) limits.now) layout children
+        node.old
+        []
+        → OnOk result (IsNode (IsColumn (index_or_zero (I.IndexOf.index indices.now)) limits.now)
+        layout
+        children node.new (cells column batch.now.rows)) }
+    ensures refused { (layout : Layout) (children : Shape)
+        → IsNode (IsColumn (index_or_zero (I.IndexOf.index indices.now)) limits.now) layout children
+        node.old
+        []
+        → IfErr result (ArePushesRefused limits.now (field layout children bare)
+        (λ j. cells column batch.now.rows)) }
+{
+    let alloc = *node.children.allocator();
+    for row in 0..batch.rows() {
+        let value = cell_at(alloc, batch, row, column)?;
+        append(&value, node, None, limits, indices)?;
+    }
+    Ok(())
+}
 
 // Adds a column of any kind, with its descendants: it is built anew from its values, which are null
 // if the batch has no such column. The errors are those of `add_field`.

@@ -10,7 +10,6 @@ mod column;
 mod column_builder;
 mod column_sizes;
 mod conforming;
-mod copying;
 mod counting;
 mod cut;
 mod encoding;

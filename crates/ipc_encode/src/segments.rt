@@ -3,8 +3,7 @@ ghost use Rattle.std.specs.Prelude.{◌≡◌, ◌+◌, ◌-◌, ◌%◌, ◌≤
 ghost use Rattle.std.specs.Prelude.{length, replicate, IfErr, IsTrue, OnOk};
 ghost use Rattle.ipc_encode.specs.Buffers.{padded_bytes};
 ghost use Rattle.ipc_encode.specs.Segments.{AddsBuffers, ArePartsOf, IsBodyRefused, IsEmpty};
-ghost use Rattle.ipc_encode.specs.Segments.{bytes_of_segments};
-ghost use Rattle.ipc_encode.specs.Segments.{segment_bytes};
+ghost use Rattle.ipc_encode.specs.Segments.{bytes_of_segments, segment_bytes};
 
 use crate::fault::PushFault;
 use ipc_model::{Items, Limits};

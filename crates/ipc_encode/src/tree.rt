@@ -1,7 +1,6 @@
 //! Columns with their children: what a value adds to them.
 ghost use Rattle.std.specs.Prelude.{◌≡◌, ◌≤◌, ◌↔◌, length, IsTrue, [], IfOk, ◌<◌, ◌^◌, ◌++◌, ℕ};
-ghost use Rattle.std.specs.Prelude.{List};
-ghost use Rattle.std.specs.Prelude.{◌∷◌, IfErr, IfSome, OnOk, option_copied, replicate};
+ghost use Rattle.std.specs.Prelude.{List, ◌∷◌, IfErr, IfSome, OnOk, option_copied, replicate};
 ghost use Rattle.std.specs.List.{AllByRecursion};
 ghost use Rattle.ipc_model.specs.Fits.{RowFits};
 ghost use Rattle.ipc_model.specs.declared.layout.Layout.{Layout};

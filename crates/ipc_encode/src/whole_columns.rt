@@ -1,8 +1,7 @@
 //! Adds columns that were read with all their slots, where they have the layouts of a field and
 //! of its descendants.
-ghost use Rattle.std.specs.Prelude.{◌≡◌, ◌<◌, ℕ, Some, true, false, length, slice_get};
-ghost use Rattle.std.specs.Prelude.{slice_index, slice_index_or, IsTrue, ◌≤◌, ◌+◌, ◌*◌};
-ghost use Rattle.std.specs.Prelude.{IfErr, OnOk};
+ghost use Rattle.std.specs.Prelude.{◌≡◌, ◌<◌, ℕ, Some, true, false, length, slice_get, slice_index};
+ghost use Rattle.std.specs.Prelude.{slice_index_or, IsTrue, ◌≤◌, ◌+◌, ◌*◌, IfErr, OnOk};
 ghost use Rattle.ipc_model.specs.declared.layout.Layout.{Layout};
 ghost use Rattle.ipc_model.specs.declared.layout.Layout.TheVariants.{Lists};
 ghost use Rattle.ipc_model.specs.declared.limits.Limits.{Limits};
@@ -10,8 +9,7 @@ ghost use Rattle.ipc_model.specs.declared.value.Value.TheVariants.{Null};
 ghost use Rattle.ipc_column.specs.Nested.{Nested, only_column, slot_values};
 ghost use Rattle.ipc_column.specs.checks.Rules.{HasUtf8Texts};
 ghost use Rattle.ipc_column.specs.Shapes as shapes;
-ghost use Rattle.ipc_column.specs.Shapes.{bare, field, field_children, field_layout};
-ghost use Rattle.ipc_column.specs.Shapes.{shape_of};
+ghost use Rattle.ipc_column.specs.Shapes.{bare, field, field_children, field_layout, shape_of};
 ghost use Rattle.ipc_column.specs.Slots.{nested_in};
 ghost use Rattle.ipc_column.specs.Values.{is_valid};
 ghost use Rattle.ipc_encode.specs.Buffers.{child_values, data_buffers, padded_bytes};

@@ -2,7 +2,7 @@ use Rattle.std.proofs.Common.{[], sym, get_or}
 use Rattle.std.proofs.lemmas.Option.{get_or_from_slice_get}
 use Rattle.ipc_model.specs.declared.value.Value.TheVariants.{Null}
 use Rattle.ipc_encode.proofs.Copied.{no_cell}
-use Rattle.ipc_encode.proofs.copying.cell_at.Goals as goal
+use Rattle.ipc_encode.proofs.encoding.cell_at.Goals as goal
 
 pub returns-then-column-columns-clause-value : goal.returns-then-column-columns-clause-value
 returns-then-column-columns-clause-value c =

@@ -9,7 +9,7 @@ use Rattle.ipc_encode.specs.Numbers.{index_or_zero}
 use Rattle.ipc_encode.proofs.Copied.{cells_next}
 use Rattle.ipc_encode.proofs.Growing.{all_refused}
 use Rattle.ipc_encode.proofs.Steps.{cells_length}
-use Rattle.ipc_encode.proofs.copying.take_column.Goals as goal
+use Rattle.ipc_encode.proofs.encoding.take_column.Goals as goal
 
 pub returns-in_err-append-clause-refused : goal.returns-in_err-append-clause-refused
 returns-in_err-append-clause-refused g c = λ layout children h.

@@ -4,7 +4,7 @@ use Rattle.ipc_column.specs.Shapes.{Shape}
 use Rattle.ipc_encode.specs.Built.{IsColumn, IsNode}
 use Rattle.ipc_encode.specs.Cells.{cells}
 use Rattle.ipc_encode.specs.Numbers.{index_or_zero}
-use Rattle.ipc_encode.proofs.copying.take_column.Given as goal
+use Rattle.ipc_encode.proofs.encoding.take_column.Given as goal
 
 -- the column has the values of the first rows
 abbrev pub invariant-loop-row : goal.invariant-loop-row
