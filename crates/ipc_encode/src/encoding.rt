@@ -191,14 +191,14 @@ fn add_fields<'a, I: IndexOf, N: Renumber>(
 ///
 /// Joined, the segments are the body that `Builder::finish` gives for the batch's rows with these
 /// indices and numbers. The bytes of a column are borrowed if its buffers already are those that
-/// are written: unused bits are 0, null slots are zeros or empty, and offsets begin at 0. A column of
-/// indices gets the numbers in memory from `pool` if it has any; each value of its dictionary is
+/// are written: unused bits are 0, null slots are zeros or empty, and offsets begin at 0. A column
+/// of indices gets the numbers in memory from `pool` if it has any; each value of its dictionary is
 /// looked up once. Other columns are encoded anew from their values, in such memory too. These are:
 ///
 /// - columns of a field with a dictionary, if the batch has their values without one, if a slot
 ///   refers to a null in it, or if unused bits are set;
-/// - lists and structs with a child that is encoded anew or has a dictionary, or whose children have
-///   slots that their parent does not refer to;
+/// - lists and structs with a child that is encoded anew or has a dictionary, or whose children
+///   have slots that their parent does not refer to;
 /// - fixed-size lists, and columns of another layout than the field's.
 ///
 /// Errors:
