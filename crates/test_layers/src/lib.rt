@@ -1,7 +1,7 @@
 //! Tests of the crates below the stream: bits, lists, FlatBuffers in place, rows, limits, printed
 //! words, messages whose bytes come one by one, batches of one column, rows taken one at a time,
-//! nested ones too, columns of lists and structs, dictionaries, columns of their indices, and
-//! tallies that are cut.
+//! nested ones too, columns of lists and structs, dictionaries, columns of their indices, plans of
+//! rows, and tallies that are cut.
 #![tactic(auto)]
 
 #[cfg(test)]
@@ -30,6 +30,8 @@ mod lists;
 mod model;
 #[cfg(test)]
 mod nested;
+#[cfg(test)]
+mod plans;
 #[cfg(test)]
 mod tally;
 #[cfg(test)]
