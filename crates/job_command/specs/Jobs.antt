@@ -2,6 +2,7 @@
 use Rattle.std.specs.Prelude.{◌≡◌, ◌⊎◌, ℕ, List, Option, Some, Result, Ok, Err, ⊤}
 use Rattle.std.specs.Prelude.{Bool, IfSome, None, option_and_then, string_bytes, true, false}
 use Rattle.serde_json.specs.Read.{read}
+use Rattle.ipc_device.specs.Reports.{Report}
 use Rattle.ipc_model.specs.Limits.{IsStandard}
 use Rattle.ipc_model.specs.Numbering.{fault_status, write_fault_status}
 use Rattle.ipc_model.specs.WellFormed.{WellFormed}
@@ -13,6 +14,7 @@ use Rattle.ipc_text_json.specs.SchemaJson.{schema_json}
 use Rattle.ipc_text_json.specs.SchemaTexts.{StatesNoSchema}
 use Rattle.ipc_text_temporal.specs.declared.fault.TextFault.{TextFault}
 use Rattle.ipc_text_temporal.specs.declared.fault.TextFault.TheVariants as x
+use Rattle.job_print.specs.Reporting.{ReportsPrintedBatches}
 use Rattle.job_print.specs.Streams.{Prints, PrintsSchema, CountsPrintFailures as PrintTells}
 use Rattle.ipc_text_csv.specs.RowCsv.{null_text}
 use Rattle.ipc_text_csv.specs.declared.dialect.Dialect.{Dialect}
@@ -22,6 +24,7 @@ use Rattle.job_print.specs.declared.form.PrintOptions.{PrintOptions}
 use Rattle.job_print.specs.declared.form.Form.TheVariants.{Counts, Rows, Records}
 use Rattle.job_print.specs.declared.stop.PrintStop.{PrintStop}
 use Rattle.job_print.specs.declared.stop.PrintStop.TheVariants as print
+use Rattle.job_rewrite.specs.Reporting.{ReportsSentBatches}
 use Rattle.job_rewrite.specs.Rewriting.{Rewrites, CountsRewriteFailures as RewriteTells}
 use Rattle.job_rewrite.specs.declared.options.RewriteOptions.{RewriteOptions}
 use Rattle.job_rewrite.specs.declared.stop.RewriteStop.{RewriteStop}
@@ -204,3 +207,33 @@ Answers (job.FromCsv path size dialect) bytes failures old new written_old writt
     source_new sink_old sink_new r = (d : Dialect) × IsDialectOf dialect d
     × AnswersCsv d bytes failures size old written_old written_new source_old source_new sink_old
     sink_new r
+
+-- which batches of a stream that is printed were reported, as `print` states it
+abbrev pub ReportsPrint : Limits → Option (List ℕ) → Option (List ℕ) → Option (List Report)
+    → Option (List Report) → Result ⊤ Stop → Type 0
+ReportsPrint limits old new reports_old reports_new r =
+    (p : Result ⊤ PrintStop) × (r ≡ job_result stop_of_print p)
+    × ReportsPrintedBatches limits old new reports_old reports_new p
+
+-- which batches of a stream that is rewritten were reported, as `rewrite` states it
+abbrev pub ReportsRewrite : Limits → Option (List ℕ) → Option (List ℕ) → Option (List Report)
+    → Option (List Report) → Result ⊤ Stop → Type 0
+ReportsRewrite limits old new reports_old reports_new r =
+    (p : Result ⊤ RewriteStop) × (r ≡ job_result stop_of_rewrite p)
+    × ReportsSentBatches limits old new reports_old reports_new p
+
+-- which batches a job reported: those of the stream that it printed or rewrote; any other job
+-- reports none
+abbrev pub ReportsBatches : Job → Option (List ℕ) → Option (List ℕ) → Option (List Report)
+    → Option (List Report) → Result ⊤ Stop → Type 0
+ReportsBatches (job.Check limits mark) old new reports_old reports_new r =
+    ReportsPrint limits old new reports_old reports_new r
+ReportsBatches (job.Show limits objects pairs count mark) old new reports_old reports_new r =
+    ReportsPrint limits old new reports_old reports_new r
+ReportsBatches (job.ToCsv limits dialect count mark) old new reports_old reports_new r =
+    ReportsPrint limits old new reports_old reports_new r
+ReportsBatches (job.Rewrite limits output mark) old new reports_old reports_new r =
+    ReportsRewrite limits old new reports_old reports_new r
+ReportsBatches (job.Schema limits) old new reports_old reports_new r = reports_new ≡ reports_old
+ReportsBatches (job.FromCsv path size dialect) old new reports_old reports_new r =
+    reports_new ≡ reports_old

@@ -5,6 +5,7 @@ ghost use Rattle.std.specs.Prelude.{IfSome, IsTrue};
 ghost use Rattle.ipc_device.specs.Failures.{CountsFailures};
 ghost use Rattle.job_command.specs.Jobs.{Answers, AnswersCsv, AnswersPrint, AnswersRewrite};
 ghost use Rattle.job_command.specs.Jobs.{AnswersSchemaJob, shape_of, file_bytes, exit_status};
+ghost use Rattle.job_command.specs.Jobs.{ReportsBatches, ReportsPrint, ReportsRewrite};
 ghost use Rattle.job_command.specs.Jobs.{failures_of, job_result, rewrite_options, stop_of_csv};
 ghost use Rattle.job_command.specs.Lines.{ExplainsStop, PrintsStopLines, stop_text};
 ghost use Rattle.job_arguments.specs.Arguments.{HasGoodSize, IsBatchSize};
@@ -61,6 +62,8 @@ fn print_job<S: Source, W: Sink, N: Progress>(
         (W.failures sink) (W.failures result.2) result.0 }
     ensures handed_on { OnOk result.0 (W.held_back result.2 ≡ Some []) }
     ensures works { exit_status result.0 ≢ 3 → W.failures sink ≡ 0 → W.failures result.2 ≡ 0 }
+    ensures reports { ReportsPrint limits (S.remaining input) (S.remaining result.1)
+        (N.reports progress.old) (N.reports progress.new) result.0 }
 {
     let mut sink = sink;
     let (result, source) = print(alloc, limits, options, input, &mut sink, progress);
@@ -86,6 +89,8 @@ fn rewrite_job<S: Source, W: Sink, N: Progress>(
         (W.failures sink) (W.failures result.2) result.0 }
     ensures handed_on { OnOk result.0 (W.held_back result.2 ≡ Some []) }
     ensures works { exit_status result.0 ≢ 3 → W.failures sink ≡ 0 → W.failures result.2 ≡ 0 }
+    ensures reports { ReportsRewrite limits (S.remaining input) (S.remaining result.1)
+        (N.reports progress.old) (N.reports progress.new) result.0 }
 {
     let (result, source, sink) = rewrite(alloc, seed, options, limits, input, sink, progress);
     let result = match result {
@@ -189,6 +194,8 @@ fn do_job<P: Source, S: Source, W: Sink, N: Progress>(
     ensures handed_on { OnOk result.0 (W.held_back result.2 ≡ Some []) }
     ensures works { exit_status result.0 ≢ 3 → W.failures sink ≡ 0 → W.failures result.2 ≡ 0 }
     ensures file { is_some result.3 ≡ is_some schema }
+    ensures reports { ReportsBatches job (S.remaining input) (S.remaining result.1)
+        (N.reports progress.old) (N.reports progress.new) result.0 }
 {
     let (result, input, sink) = match job {
         Job::Schema(limits) => schema_job(alloc, limits, input, sink),
@@ -324,9 +331,10 @@ fn report<S: Source, E: Sink>(
 /// is read.
 ///
 /// `schema` is the file that the job names, or `None` if it cannot be opened. Only `FromCsv` reads
-/// it. The batch size must be from 1 to 2^31 - 1, as `read_words` returns it. The code hashes the
-/// values of dictionaries with `seed`; no clause says so. With a random seed nobody who does not
-/// know it can choose values whose hashes collide.
+/// it. The batch size must be from 1 to 2^31 - 1, as `read_words` returns it. `progress` receives
+/// the reports that `print` and `rewrite` make; other jobs make none. The code hashes the values of
+/// dictionaries with `seed`; no clause says so. With a random seed nobody who does not know it can
+/// choose values whose hashes collide.
 ///
 /// Returns the exit status, the input, the sink and the schema's file. A failing `messages` changes
 /// nothing. The exit status is:
@@ -348,13 +356,16 @@ pub fn run<P: Source, S: Source, W: Sink, N: Progress, E: Sink>(
     requires { HasGoodSize invocation.job }
     // The status is that of an answer, which says what was read, what went out and which device
     // failed. Exactly its line was printed, and with `explain` the lines that explain it; at
-    // success nothing.
+    // success nothing. Each batch of a stream that was read was reported, as `print` and `rewrite`
+    // state it.
     ensures answers { (r : Result ⊤ Stop) × (result.0 ≡ exit_status r)
         × Answers invocation.job (file_bytes P.remaining schema) (failures_of P.failures result.3)
         (S.remaining input) (S.remaining result.1) (W.written sink) (W.written result.2)
         (S.failures input) (S.failures result.1) (W.failures sink) (W.failures result.2) r
         × PrintsStopLines invocation.explain (E.written messages.old) (E.written messages.new)
-        (E.failures messages.new) r }
+        (E.failures messages.new) r
+        × ReportsBatches invocation.job (S.remaining input) (S.remaining result.1)
+        (N.reports progress.old) (N.reports progress.new) r }
     // Where all was done the sink holds nothing back.
     ensures handed_on { result.0 ≡ 0 → W.held_back result.2 ≡ Some [] }
     // A sink fails only at 3.

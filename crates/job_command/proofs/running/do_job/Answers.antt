@@ -1,3 +1,4 @@
+use Rattle.std.proofs.Common.{refl}
 use Rattle.job_command.proofs.running.do_job.Goals.{in-Schema, in-Check, in-Show, in-ToCsv, in-Rewrite}
 use Rattle.job_command.proofs.running.do_job.Goals as goal
 
@@ -21,3 +22,12 @@ returns-in-FromCsv-clause-answers g c = rw c.in-FromCsv.is (
   (c.dialect-in-FromCsv.ensures.delimiter, c.dialect-in-FromCsv.ensures.null),
   c.csv_job.ensures.answers,
 )
+
+pub returns-clause-reports : goal.returns-clause-reports
+returns-clause-reports g c = elim c.match-job.branch [
+  | in-Schema w ↦ rw (w.in-Schema.is, w.progress-is) refl
+  | in-Check w ↦ rw (w.in-Check.is, w.result-is, w.progress-is) w.print_job.ensures.reports
+  | in-Show w ↦ rw (w.in-Show.is, w.result-is, w.progress-is) w.print_job-in-Show.ensures.reports
+  | in-ToCsv w ↦ rw (w.in-ToCsv.is, w.result-is, w.progress-is) w.print_job-in-ToCsv.ensures.reports
+  | in-Rewrite w ↦ rw (w.in-Rewrite.is, w.result-is, w.progress-is) w.rewrite_job.ensures.reports
+]
