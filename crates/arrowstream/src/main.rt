@@ -4,12 +4,14 @@
 ghost use Rattle.std.specs.Prelude.{IfOk};
 ghost use Rattle.job_arguments.specs.Arguments.{HasGoodSize};
 
+mod descriptors;
 mod progress;
 mod schema_file;
 
+use descriptors::fill_closed;
 use ipc_device::{Device, Retry, Sink};
 use ipc_stream::Seed;
-use job_arguments::{Invocation, Usage, read_words};
+use job_arguments::{Invocation, Job, Usage, read_words};
 use job_command::run;
 use progress::ProgressLine;
 use schema_file::{SchemaFile, open_schema};
@@ -42,25 +44,32 @@ fn read_command_line(rt: &HostRuntime) -> Result<Invocation, Usage>
     }
 }
 
-// The words of a command line that asks for the usage.
-fn help_words(alloc: Global) -> Result<Vec<String>, AllocError> {
-    let mut words = Vec::new(alloc);
-    words.push(String::from_str(alloc, "arrowstream")?)?;
-    words.push(String::from_str(alloc, "--help")?)?;
-    Ok(words)
+// The job's subcommand.
+fn subcommand_of(job: &Job) -> &'static str {
+    match job {
+        Job::Schema(_) | Job::Check { .. } => "check",
+        Job::Show { .. } => "show",
+        Job::ToCsv { .. } => "to-csv",
+        Job::Rewrite { .. } => "rewrite",
+        Job::FromCsv { .. } => "from-csv --schema PATH",
+    }
 }
 
-// If standard input is a terminal, there is no stream: the usage is printed, as for wrong
-// arguments.
-fn ask_input(rt: &HostRuntime) -> Result<(), Usage> {
-    if !rt.stdin().is_terminal() {
-        return Ok(());
+// Refuses a terminal as standard input, and as standard output of a job that writes a stream.
+fn check_terminals(rt: &HostRuntime, job: &Job) -> Result<(), Usage> {
+    let name = subcommand_of(job);
+    if rt.stdin().is_terminal() {
+        return Err(Usage::Wrong(format!(in rt.alloc();
+            "error: standard input is a terminal; use: arrowstream {name} < FILE\n"
+        )?));
     }
-    match read_words(rt.alloc(), help_words(rt.alloc())?) {
-        Err(Usage::Help(text)) => Err(Usage::Wrong(text)),
-        Err(usage) => Err(usage),
-        Ok(_) => Ok(()),
+    let writes_stream = matches!(job, Job::Rewrite { .. } | Job::FromCsv { .. });
+    if writes_stream && rt.stdout().is_terminal() {
+        return Err(Usage::Wrong(format!(in rt.alloc();
+            "error: standard output is a terminal; use: arrowstream {name} < FILE > STREAM\n"
+        )?));
     }
+    Ok(())
 }
 
 // What the command line asks for, with its schema's file.
@@ -68,7 +77,7 @@ fn read_invocation_and_schema(rt: &HostRuntime) -> Result<(Invocation, SchemaFil
     ensures { IfOk result (λ read. HasGoodSize read.0.job) }
 {
     let invocation = read_command_line(rt)?;
-    ask_input(rt)?;
+    check_terminals(rt, &invocation.job)?;
     let schema = open_schema(rt, &invocation.job)?;
     Ok((invocation, schema))
 }
@@ -153,6 +162,7 @@ fn run_job(rt: &HostRuntime, invocation: Invocation, schema: SchemaFile) -> Resu
 }
 
 fn main(rt: HostRuntime) -> ExitCode {
+    let _closed = fill_closed(&rt);
     let result = match read_invocation_and_schema(&rt) {
         Ok((invocation, schema)) => run_job(&rt, invocation, schema),
         Err(usage) => Err(usage),

@@ -2,11 +2,14 @@
 ghost use Rattle.std.specs.Prelude.{None};
 
 use ipc_device::{Progress, Retry};
-use std::io::Write;
+use std::io::{IsTerminal, Write};
 use std::time::{Duration, Instant};
 
-// The least time between two writes of the line, in milliseconds.
-const PAUSE: u64 = 500;
+// The least time between two lines, in milliseconds.
+const PAUSE: u64 = 5_000;
+
+// The same at a terminal.
+const TERMINAL_PAUSE: u64 = 500;
 
 // How far a stream is read.
 #[derive(Clone, Copy, Drop)]
@@ -23,14 +26,16 @@ struct Times {
     last_write: Instant,
 }
 
-/// Writes one line to standard error, each time over the one before: the bytes that were read, the
-/// batches, the rows, and the speed in MB/s.
+/// Writes lines to standard error: the bytes that were read, the batches, the rows, and the speed
+/// in MB/s.
 ///
-/// It is written after a batch, and at most twice a second; `finish` writes the last state. An
-/// error of the clock or of standard error changes nothing else.
+/// A line is written after a batch, and at most every five seconds. At a terminal it is written
+/// over the one before, and at most twice a second. `finish` writes the last state. An error of the
+/// clock or of standard error changes nothing else.
 #[derive(Drop)]
 pub struct ProgressLine<'a> {
     rt: &'a HostRuntime,
+    is_terminal: bool,
     times: Option<Times>,
     counts: Option<Counts>,
 }
@@ -47,12 +52,13 @@ impl<'a> ProgressLine<'a> {
         };
         ProgressLine {
             rt,
+            is_terminal: rt.stderr().is_terminal(),
             times,
             counts: None,
         }
     }
 
-    // Writes the line over the one before.
+    // Writes a line, at a terminal over the one before.
     fn write(&self, elapsed: Duration, counts: Counts) {
         let Counts {
             bytes,
@@ -60,8 +66,13 @@ impl<'a> ProgressLine<'a> {
             rows,
         } = counts;
         let speed = bytes as u128 / elapsed.as_micros().max(1);
+        let (start, end) = if self.is_terminal {
+            ("\r", "  ")
+        } else {
+            ("", "\n")
+        };
         let line = format!(in self.rt.alloc();
-            "\r{bytes} bytes, {batches} batches, {rows} rows, {speed} MB/s  "
+            "{start}{bytes} bytes, {batches} batches, {rows} rows, {speed} MB/s{end}"
         );
         if let Ok(line) = line {
             let _ = Retry::new(self.rt.stderr()).write_all(line.as_bytes());
@@ -75,7 +86,9 @@ impl<'a> ProgressLine<'a> {
         };
         let now = Instant::now(self.rt).unwrap_or(times.last_write);
         self.write(now.duration_since(times.start), counts);
-        let _ = Retry::new(self.rt.stderr()).write_all(b"\n");
+        if self.is_terminal {
+            let _ = Retry::new(self.rt.stderr()).write_all(b"\n");
+        }
     }
 }
 
@@ -92,7 +105,12 @@ impl Progress for ProgressLine<'_> {
         let (Some(times), Ok(now)) = (self.times, Instant::now(self.rt)) else {
             return;
         };
-        if now.duration_since(times.last_write) >= Duration::from_millis(PAUSE) {
+        let pause = if self.is_terminal {
+            TERMINAL_PAUSE
+        } else {
+            PAUSE
+        };
+        if now.duration_since(times.last_write) >= Duration::from_millis(pause) {
             self.times = Some(Times {
                 start: times.start,
                 last_write: now,

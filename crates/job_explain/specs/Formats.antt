@@ -18,7 +18,9 @@ begins_text (a ∷ b ∷ c ∷ d ∷ rest) =
 begins_text z = false
 
 -- the words for the format of input with these first bytes, by the mark of the format; none if it
--- is not known. Gzip begins with 31 139 (RFC 1952), Zstandard with 40 181 47 253 (RFC 8878)
+-- is not known. Gzip begins with 31 139 (RFC 1952), Zstandard with 40 181 47 253 (RFC 8878), LZ4
+-- with 4 34 77 24 (LZ4 Frame Format), xz with 253 55 122 88 (The .xz File Format, section 2.1.1.1),
+-- an Avro file with "Obj" and 1 (Apache Avro Specification, "Object Container Files")
 abbrev pub format_words : List ℕ → List ℕ
 format_words z =
     if begins z (codes "ARRO")
@@ -27,10 +29,15 @@ format_words z =
     else (if begins z (codes "PAR1") then codes "a Parquet file"
     else (if begins z (31 ∷ 139 ∷ []) then codes "gzip; decompress it first"
     else (if begins z (40 ∷ 181 ∷ 47 ∷ 253 ∷ []) then codes "Zstandard; decompress it first"
+    else (if begins z (4 ∷ 34 ∷ 77 ∷ 24 ∷ []) then codes "LZ4; decompress it first"
+    else (if begins z (253 ∷ 55 ∷ 122 ∷ 88 ∷ []) then codes "xz; decompress it first"
+    else (if begins z (codes "BZh") then codes "bzip2; decompress it first"
+    else (if begins z (79 ∷ 98 ∷ 106 ∷ 1 ∷ []) then codes "an Avro file"
+    else (if begins z (codes "<") then codes "XML, such as HTML or SVG"
     else (if begins z (codes "{") then codes "JSON text"
     else (if begins z (codes "[") then codes "JSON text"
     else (if begins_text z then codes "text; arrowstream from-csv reads CSV"
-    else [])))))))
+    else []))))))))))))
 
 -- the line with these words; no line without words
 abbrev pub format_line : List ℕ → List ℕ

@@ -37,6 +37,16 @@ fn format_words(front: &[u8]) -> &'static [u8]
         b"gzip; decompress it first"
     } else if front.starts_with(&[0x28, 0xb5, 0x2f, 0xfd]) {
         b"Zstandard; decompress it first"
+    } else if front.starts_with(&[0x04, 0x22, 0x4d, 0x18]) {
+        b"LZ4; decompress it first"
+    } else if front.starts_with(&[0xfd, 0x37, 0x7a, 0x58]) {
+        b"xz; decompress it first"
+    } else if front.starts_with(b"BZh") {
+        b"bzip2; decompress it first"
+    } else if front.starts_with(b"Obj\x01") {
+        b"an Avro file"
+    } else if front.starts_with(b"<") {
+        b"XML, such as HTML or SVG"
     } else if front.starts_with(b"{") {
         b"JSON text"
     } else if front.starts_with(b"[") {
@@ -48,12 +58,10 @@ fn format_words(front: &[u8]) -> &'static [u8]
     }
 }
 
-/// Returns the line for input with these first bytes, which is empty if its format is not known.
-pub(crate) fn format_line(alloc: Global, front: &[u8]) -> Result<Vec<u8>, AllocError>
-    ensures line { IfOk result
-        (λ line. line.items ≡ spec.format_line (spec.format_words front.now)) }
+// The line with these words, which is empty without words.
+fn line_with(alloc: Global, words: &[u8]) -> Result<Vec<u8>, AllocError>
+    ensures { IfOk result (λ line. line.items ≡ spec.format_line words.now) }
 {
-    let words = format_words(front);
     let mut line = Vec::new(alloc);
     if !words.is_empty() {
         line.extend_from_slice(b"the input looks like ")?;
@@ -61,4 +69,12 @@ pub(crate) fn format_line(alloc: Global, front: &[u8]) -> Result<Vec<u8>, AllocE
         line.extend_from_slice(b"\n")?;
     }
     Ok(line)
+}
+
+/// Returns the line for input with these first bytes, which is empty if its format is not known.
+pub(crate) fn format_line(alloc: Global, front: &[u8]) -> Result<Vec<u8>, AllocError>
+    ensures line { IfOk result
+        (λ line. line.items ≡ spec.format_line (spec.format_words front.now)) }
+{
+    line_with(alloc, format_words(front))
 }
