@@ -30,17 +30,19 @@ pub part_read : (options : PrintOptions) (front : List ℕ) (old new : Reader) (
     ≤ length (last_lines front (batch_heading options.form) (line_of options.form old.schema.fields) (within options.limit batches))
     → (e ≢ Write → old.failures ≡ 0 → new.failures ≡ 0) → PrintsPart options front old new before w n e
 part_read options front old new before w n e x batches state bytes run wanted puts few works = record {
-  x = x;
-  batches = batches;
-  bytes = bytes;
-  rest = [];
-  whole = x;
-  joined = sym (append-nil x);
-  state = state;
-  run = run;
-  tail = [];
-  inside = wanted_within options.limit batches wanted;
-  ends = inl refl;
+  read = record {
+    x = x;
+    batches = batches;
+    bytes = bytes;
+    rest = [];
+    whole = x;
+    joined = sym (append-nil x);
+    state = state;
+    run = run;
+    tail = [];
+    inside = wanted_within options.limit batches wanted;
+    ends = inl refl;
+  };
   puts = puts;
   few = omega (
     arith,

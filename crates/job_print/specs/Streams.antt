@@ -305,13 +305,9 @@ IsReadToEnd o.Limited = ⊥
 IsReadToEnd (o.Broken fault) = ⊥
 IsReadToEnd (o.Refused fault) = ⊥
 
-module _ (options : PrintOptions) (front : List ℕ) (old new : Reader) (before : Output) where
-  abbrev line : List Value → List ℕ
-  line = line_of options.form old.schema.fields
-
-  -- the batches that were read after the schema, how reading ended below the limit, and that their
-  -- rows were put after `front`; nothing of them is kept
-  pub record PrintsRows (after : Output) (answer : Result End Fault) : Type 0 where
+module _ (options : PrintOptions) (old new : Reader) where
+  -- the batches that were read after the schema, how reading ended, and that a row more is wanted
+  pub record BatchesBelow (answer : Result End Fault) : Type 0 where
     pub x : List ℕ
     pub batches : List BatchRows
     pub bytes : Consumes old.remaining new.remaining x
@@ -323,28 +319,20 @@ module _ (options : PrintOptions) (front : List ℕ) (old new : Reader) (before 
         + messages_in reads.run)
     pub below : WantsMoreRows options.limit (row_count batches)
     pub have : HaveAllLines options.form old.schema.fields batches
-    pub puts : Puts before after (front ++ batch_lines (batch_heading options.form) line batches)
-    pub sent : after.kept ≡ []
 
-  -- the batches that were read after the schema, whose rows reach the limit, and that the rows up
-  -- to it were put after `front`; nothing of them is kept
-  pub record PrintsLimited (after : Output) : Type 0 where
+  -- batches that were read after the schema, each because it was wanted, up to this state
+  pub record BatchesWanted (state : State) : Type 0 where
     pub x : List ℕ
     pub batches : List BatchRows
     pub bytes : Consumes old.remaining new.remaining x
-    pub state : State
     pub run : Run old.limits (Some (in_force_of old)) x (map batch batches) state
     pub shortest : AreShortest old.limits (Some (in_force_of old)) x (map batch batches)
-    pub reached : HasReached options.limit (row_count batches)
     pub wanted : AreWanted options.limit batches
     pub have : HaveAllLines options.form old.schema.fields (within options.limit batches)
-    pub puts : Puts before after
-        (front ++ batch_lines (batch_heading options.form) line (within options.limit batches))
-    pub sent : after.kept ≡ []
 
   -- the batches that were read after the schema, and a row of the last of them, below the limit,
-  -- that cannot be printed; all text before it was put, and at most that of the last batch is kept
-  pub record StopsAtRow (after : Output) (fault : TextFault) : Type 0 where
+  -- that cannot be printed
+  pub record BatchesToRow (fault : TextFault) : Type 0 where
     pub x : List ℕ
     pub batches : List BatchRows
     pub last : BatchRows
@@ -355,16 +343,10 @@ module _ (options : PrintOptions) (front : List ℕ) (old new : Reader) (before 
     pub below : WantsMoreRows options.limit (row_count batches + count)
     pub have : HaveAllLines options.form old.schema.fields batches
     pub refuses : RefusesFirstRow options.form old.schema.fields last.rows count fault
-    pub puts : Puts before after
-        ((front ++ batch_lines (batch_heading options.form) line batches)
-        ++ (batch_heading options.form last.pairs ++ lines line (take count last.rows)))
-    pub few : length after.kept ≤ length
-        (batch_heading options.form last.pairs ++ lines line (take count last.rows))
 
-  -- batches that were read after the schema; the output failed while `front`, their text or the
-  -- text at the end was put, and only the last part of it is missing
-  pub record PrintsPart (written : Option (List ℕ)) (failures : ℕ)
-      (fault : PrintFault) : Type 0 where
+  -- batches that were read after the schema, what was taken behind their messages, and the text
+  -- that belongs at the end
+  pub record BatchesInPart : Type 0 where
     pub x : List ℕ
     pub batches : List BatchRows
     pub bytes : Consumes old.remaining new.remaining x
@@ -376,6 +358,46 @@ module _ (options : PrintOptions) (front : List ℕ) (old new : Reader) (before 
     pub tail : List ℕ
     pub inside : IsWithinRowLimit options.limit batches rest tail
     pub ends : IsTail options.form batches tail
+
+module _ (options : PrintOptions) (front : List ℕ) (old new : Reader) (before : Output) where
+  abbrev line : List Value → List ℕ
+  line = line_of options.form old.schema.fields
+
+  -- the rows of all batches were put after `front`; nothing of them is kept
+  pub record PrintsRows (after : Output) (answer : Result End Fault) : Type 0 where
+    pub read : BatchesBelow options old new answer
+    pub open read use *
+    pub puts : Puts before after (front ++ batch_lines (batch_heading options.form) line batches)
+    pub sent : after.kept ≡ []
+
+  -- the rows of the batches reach the limit, and those up to it were put after `front`; nothing of
+  -- them is kept
+  pub record PrintsLimited (after : Output) : Type 0 where
+    pub state : State
+    pub read : BatchesWanted options old new state
+    pub open read use *
+    pub reached : HasReached options.limit (row_count batches)
+    pub puts : Puts before after
+        (front ++ batch_lines (batch_heading options.form) line (within options.limit batches))
+    pub sent : after.kept ≡ []
+
+  -- all text before the row that cannot be printed was put, and at most that of the last batch is
+  -- kept
+  pub record StopsAtRow (after : Output) (fault : TextFault) : Type 0 where
+    pub read : BatchesToRow options old new fault
+    pub open read use *
+    pub puts : Puts before after
+        ((front ++ batch_lines (batch_heading options.form) line batches)
+        ++ (batch_heading options.form last.pairs ++ lines line (take count last.rows)))
+    pub few : length after.kept ≤ length
+        (batch_heading options.form last.pairs ++ lines line (take count last.rows))
+
+  -- the output failed while `front`, the text of the batches or the text at the end was put, and
+  -- only the last part of it is missing
+  pub record PrintsPart (written : Option (List ℕ)) (failures : ℕ)
+      (fault : PrintFault) : Type 0 where
+    pub read : BatchesInPart options old new
+    pub open read use *
     pub puts :
         PutFails before written failures
         ((front ++ batch_lines (batch_heading options.form) line (within options.limit batches))

@@ -1,5 +1,5 @@
 -- How many zeros stand in front of eight digits, by the lowest bit that is set.
-use Rattle.std.proofs.Common.{◌≡◌, ◌∙◌, ℕ, zero, suc, ◌+◌, ◌-◌, ◌*◌, ◌/◌, ◌%◌, ◌^◌, ◌<◌, ◌≤◌, length, refl, sym, ap, arith, inl, inr}
+use Rattle.std.proofs.Common.{◌≡◌, ◌∙◌, ℕ, zero, suc, ◌+◌, ◌-◌, ◌*◌, ◌/◌, ◌%◌, ◌^◌, ◌<◌, length, refl, sym, ap, arith, inl, inr}
 use Rattle.std.proofs.Math.Nat.{mul_assoc}
 use Rattle.std.proofs.lemmas.Bool.{cases_lt}
 use Rattle.std.proofs.lemmas.Nat.{from_le_bytes-to_le_bytes_8}
@@ -75,75 +75,37 @@ first_byte (suc j) k n q e h =
 abbrev pub marked : ℕ → ℕ
 marked x = x - 3400270702189752368
 
-digits_are : (n x : ℕ) → x < 2 ^ 64 → to_le_bytes w64 x ≡ last_digits 8 n → x ≡ from_le_bytes w64 (last_digits 8 n)
-digits_are n x s e = sym (from_le_bytes-to_le_bytes_8 x s) ∙ ap (from_le_bytes w64) e
-
-front_7 : (n x : ℕ) → x < 2 ^ 64 → to_le_bytes w64 x ≡ last_digits 8 n → 0 ≤ n → n < 10 → count 64 (marked x) / 8 ≡ 7
-front_7 n x s e low high =
-    let is = digits_are n x s e in
-    first_byte 7 0 (marked x) ((n % 10 + 1)) (omega (arith, is, low, high)) (omega (arith, low, high))
-
-front_6 : (n x : ℕ) → x < 2 ^ 64 → to_le_bytes w64 x ≡ last_digits 8 n → 10 ≤ n → n < 100 → count 64 (marked x) / 8 ≡ 6
-front_6 n x s e low high =
-    let is = digits_are n x s e in
-    first_byte 6 8 (marked x) ((n / 10 % 10) + (n % 10 + 1) * 256) (omega (arith, is, low, high)) (omega (arith, low, high))
-
-front_5 : (n x : ℕ) → x < 2 ^ 64 → to_le_bytes w64 x ≡ last_digits 8 n → 100 ≤ n → n < 1000 → count 64 (marked x) / 8 ≡ 5
-front_5 n x s e low high =
-    let is = digits_are n x s e in
-    first_byte 5 16 (marked x) ((n / 100 % 10) + (n / 10 % 10) * 256 + (n % 10 + 1) * 65536) (omega (arith, is, low, high))
-    (omega (arith, low, high))
-
-front_4 : (n x : ℕ) → x < 2 ^ 64 → to_le_bytes w64 x ≡ last_digits 8 n → 1000 ≤ n → n < 10000 → count 64 (marked x) / 8 ≡ 4
-front_4 n x s e low high =
-    let is = digits_are n x s e in
-    first_byte 4 24 (marked x) ((n / 1000 % 10) + (n / 100 % 10) * 256 + (n / 10 % 10) * 65536 + (n % 10 + 1) * 16777216)
-    (omega (arith, is, low, high)) (omega (arith, low, high))
-
-front_3 : (n x : ℕ) → x < 2 ^ 64 → to_le_bytes w64 x ≡ last_digits 8 n → 10000 ≤ n → n < 100000 → count 64 (marked x) / 8 ≡ 3
-front_3 n x s e low high =
-    let is = digits_are n x s e in
-    first_byte 3 32 (marked x) ((n / 10000 % 10) + (n / 1000 % 10) * 256 + (n / 100 % 10) * 65536 + (n / 10 % 10) * 16777216
-    + (n % 10 + 1) * 4294967296) (omega (arith, is, low, high)) (omega (arith, low, high))
-
-front_2 : (n x : ℕ) → x < 2 ^ 64 → to_le_bytes w64 x ≡ last_digits 8 n → 100000 ≤ n → n < 1000000 → count 64 (marked x) / 8 ≡ 2
-front_2 n x s e low high =
-    let is = digits_are n x s e in
-    first_byte 2 40 (marked x) ((n / 100000 % 10) + (n / 10000 % 10) * 256 + (n / 1000 % 10) * 65536 + (n / 100 % 10) * 16777216
-    + (n / 10 % 10) * 4294967296 + (n % 10 + 1) * 1099511627776) (omega (arith, is, low, high)) (omega (arith, low, high))
-
-front_1 : (n x : ℕ) → x < 2 ^ 64 → to_le_bytes w64 x ≡ last_digits 8 n → 1000000 ≤ n → n < 10000000 → count 64 (marked x) / 8 ≡ 1
-front_1 n x s e low high =
-    let is = digits_are n x s e in
-    first_byte 1 48 (marked x) ((n / 1000000 % 10) + (n / 100000 % 10) * 256 + (n / 10000 % 10) * 65536 + (n / 1000 % 10) * 16777216
-    + (n / 100 % 10) * 4294967296 + (n / 10 % 10) * 1099511627776 + (n % 10 + 1) * 281474976710656) (omega (arith, is, low, high))
-    (omega (arith, low, high))
-
-front_0 : (n x : ℕ) → x < 2 ^ 64 → to_le_bytes w64 x ≡ last_digits 8 n → 10000000 ≤ n → n < 100000000 → count 64 (marked x) / 8 ≡ 0
-front_0 n x s e low high =
-    let is = digits_are n x s e in
-    first_byte 0 56 (marked x) ((n / 10000000 % 10) + (n / 1000000 % 10) * 256 + (n / 100000 % 10) * 65536 + (n / 10000 % 10) * 16777216
-    + (n / 1000 % 10) * 4294967296 + (n / 100 % 10) * 1099511627776 + (n / 10 % 10) * 281474976710656
-    + (n % 10 + 1) * 72057594037927936) (omega (arith, is, low, high)) (omega (arith, low, high))
-
 -- as many zeros as there are clear bytes
 pub zeros_are : (n x : ℕ) → x < 2 ^ 64 → n < 100000000 → to_le_bytes w64 x ≡ last_digits 8 n
     → trailing_zeros w64 (marked x) / 8 + length (decimal n) ≡ 8
 zeros_are n x s top e = elim (cases_lt n 10) [
-  | inl a ↦ omega (arith, front_7 n x s e (omega arith) a, seven n a)
+  | inl a ↦ by_byte 7 0 (n % 10 + 1) refl (omega (arith, is, a)) (omega (arith, a)) (seven n a)
   | inr a ↦ elim (cases_lt n 100) [
-    | inl b ↦ omega (arith, front_6 n x s e a b, fewer 6 1 n refl a b (omega (arith, top)))
+    | inl b ↦ by_byte 6 8 ((n / 10 % 10) + (n % 10 + 1) * 256) refl (omega (arith, is, a, b)) (omega (arith, a, b))
+        (fewer 6 1 n refl a b (omega (arith, top)))
     | inr b ↦ elim (cases_lt n 1000) [
-      | inl c ↦ omega (arith, front_5 n x s e b c, fewer 5 2 n refl b c (omega (arith, top)))
+      | inl c ↦ by_byte 5 16 ((n / 100 % 10) + (n / 10 % 10) * 256 + (n % 10 + 1) * 65536)
+          refl (omega (arith, is, b, c)) (omega (arith, b, c)) (fewer 5 2 n refl b c (omega (arith, top)))
       | inr c ↦ elim (cases_lt n 10000) [
-        | inl d ↦ omega (arith, front_4 n x s e c d, fewer 4 3 n refl c d (omega (arith, top)))
+        | inl d ↦ by_byte 4 24 ((n / 1000 % 10) + (n / 100 % 10) * 256 + (n / 10 % 10) * 65536 + (n % 10 + 1) * 16777216)
+            refl (omega (arith, is, c, d)) (omega (arith, c, d)) (fewer 4 3 n refl c d (omega (arith, top)))
         | inr d ↦ elim (cases_lt n 100000) [
-          | inl f ↦ omega (arith, front_3 n x s e d f, fewer 3 4 n refl d f (omega (arith, top)))
+          | inl f ↦ by_byte 3 32 ((n / 10000 % 10) + (n / 1000 % 10) * 256 + (n / 100 % 10) * 65536 + (n / 10 % 10) * 16777216
+              + (n % 10 + 1) * 4294967296) refl (omega (arith, is, d, f)) (omega (arith, d, f))
+              (fewer 3 4 n refl d f (omega (arith, top)))
           | inr f ↦ elim (cases_lt n 1000000) [
-            | inl g ↦ omega (arith, front_2 n x s e f g, fewer 2 5 n refl f g (omega (arith, top)))
+            | inl g ↦ by_byte 2 40 ((n / 100000 % 10) + (n / 10000 % 10) * 256 + (n / 1000 % 10) * 65536 + (n / 100 % 10) * 16777216
+                + (n / 10 % 10) * 4294967296 + (n % 10 + 1) * 1099511627776) refl (omega (arith, is, f, g)) (omega (arith, f, g))
+                (fewer 2 5 n refl f g (omega (arith, top)))
             | inr g ↦ elim (cases_lt n 10000000) [
-              | inl h ↦ omega (arith, front_1 n x s e g h, fewer 1 6 n refl g h (omega (arith, top)))
-              | inr h ↦ omega (arith, front_0 n x s e h top, fewer 0 7 n refl h top (omega (arith, top)))
+              | inl h ↦ by_byte 1 48 ((n / 1000000 % 10) + (n / 100000 % 10) * 256 + (n / 10000 % 10) * 65536
+                  + (n / 1000 % 10) * 16777216 + (n / 100 % 10) * 4294967296 + (n / 10 % 10) * 1099511627776
+                  + (n % 10 + 1) * 281474976710656) refl (omega (arith, is, g, h)) (omega (arith, g, h))
+                  (fewer 1 6 n refl g h (omega (arith, top)))
+              | inr h ↦ by_byte 0 56 ((n / 10000000 % 10) + (n / 1000000 % 10) * 256 + (n / 100000 % 10) * 65536
+                  + (n / 10000 % 10) * 16777216 + (n / 1000 % 10) * 4294967296 + (n / 100 % 10) * 1099511627776
+                  + (n / 10 % 10) * 281474976710656 + (n % 10 + 1) * 72057594037927936)
+                  refl (omega (arith, is, h, top)) (omega (arith, h, top)) (fewer 0 7 n refl h top (omega (arith, top)))
             ]
           ]
         ]
@@ -151,3 +113,11 @@ zeros_are n x s top e = elim (cases_lt n 10) [
     ]
   ]
 ]
+  where
+    is : x ≡ from_le_bytes w64 (last_digits 8 n)
+    is = sym (from_le_bytes-to_le_bytes_8 x s) ∙ ap (from_le_bytes w64) e
+
+    by_byte : (j k q : ℕ) → 8 * j + 8 + k ≡ 64 → marked x ≡ 256 ^ j * q → 0 < q % 256 → j + length (decimal n) ≡ 8
+        → trailing_zeros w64 (marked x) / 8 + length (decimal n) ≡ 8
+    by_byte j k q bits front some long =
+        omega (arith, long, ap (λ b. count b (marked x)) bits, first_byte j k (marked x) q front some)

@@ -1,7 +1,7 @@
 -- Batches that are read and printed.
 use Rattle.ipc_model.specs.declared.table.BatchRows.{BatchRows}
 use Rattle.std.proofs.Common.{◌≡◌, ◌∙◌, refl, sym, ap, subst, ℕ, List, [], ◌∷◌, ◌++◌, map, take, Option, Some}
-use Rattle.std.proofs.Common.{None, Result, Ok, Err, append-nil, ◌+◌, ◌<◌, length, inl, arith}
+use Rattle.std.proofs.Common.{None, Result, Ok, Err, append-nil, ◌+◌, ◌<◌, length, arith}
 use Rattle.std.specs.Io.KnownBytes.{Consumes}
 use Rattle.std.proofs.KnownBytes.{Consumes-nil, Consumes-trans}
 use Rattle.std.proofs.lemmas.List.{length-append, length-take, map-append}
@@ -13,7 +13,7 @@ use Rattle.ipc_stream_read.specs.declared.stream_phase.StreamPhase.{StreamPhase}
 use Rattle.ipc_stream_read.specs.declared.stream_phase.StreamPhase.TheVariants.{Reading}
 use Rattle.ipc_stream_read.specs.Failures.{CountsFault}
 use Rattle.ipc_stream_read.specs.Reader.{EndsBehind, Reader, in_force_of, NextCall, end_of}
-use Rattle.ipc_stream_read.specs.Stream.{batch, Run, done}
+use Rattle.ipc_stream_read.specs.Stream.{batch, done}
 use Rattle.job_print.specs.declared.line_buffer.PrintFault.{PrintFault}
 use Rattle.job_print.specs.declared.line_buffer.PrintFault.TheVariants.{Write}
 use Rattle.ipc_model.specs.declared.schema.Field.{Field}
@@ -21,13 +21,13 @@ use Rattle.ipc_model.specs.declared.schema.Schema.{Schema}
 use Rattle.ipc_text_temporal.specs.declared.fault.TextFault.{TextFault}
 use Rattle.job_print.specs.declared.form.PrintOptions.{PrintOptions}
 use Rattle.job_print.specs.declared.stop.Outcome.TheVariants.{Whole, Limited, Broken, Refused as Lacking}
-use Rattle.job_print.specs.FirstRows.{batch_prefix, within, AreWanted, HasReached, WantsMoreRows, wanted_rows}
+use Rattle.job_print.specs.FirstRows.{batch_prefix, within, HasReached, WantsMoreRows, wanted_rows}
 use Rattle.job_print.specs.Forms.{batch_heading as heading, line_of, HaveLines, HaveAllLines, row_count}
 use Rattle.job_print.specs.Output.{Output, output, Puts, PutFails}
 use Rattle.job_print.specs.Rows.{lines, batch_lines, last_lines}
 use Rattle.ipc_stream_read.specs.Decoding.{ReportsLastEvent}
 use Rattle.job_print.proofs.streams.Shortest.{last_shortest, none_shorter}
-use Rattle.job_print.specs.Streams.{AreShortest, IsTally, PrintsRows, PrintsPart, PrintsBatches, PutsRows}
+use Rattle.job_print.specs.Streams.{AreShortest, BatchesWanted, IsTally, PrintsRows, PrintsPart, PrintsBatches, PutsRows}
 use Rattle.ipc_stream_read.specs.Ends.{as_required}
 use Rattle.job_print.proofs.streams.FirstRows.{within_none, within_all, within_more, wanted_more, wanted_none, below_refused}
 use Rattle.job_print.proofs.streams.FirstRows.{refuses_all, row_count_last, take_fewer}
@@ -45,11 +45,8 @@ use Rattle.job_print.specs.declared.stop.PrintCounts.{PrintCounts}
 
 -- these batches were read after the schema and printed up to the limit, and nothing of them is kept
 pub record Batches (options : PrintOptions) (tally : PrintCounts) (old now : Reader) (before after : Output) : Type 0 where
-  pub x : List ℕ
-  pub batches : List BatchRows
-  pub bytes : Consumes old.remaining now.remaining x
-  pub run : Run old.limits (Some (in_force_of old)) x (map batch batches) (Some (in_force_of now))
-  pub shortest : AreShortest old.limits (Some (in_force_of old)) x (map batch batches)
+  pub read : BatchesWanted options old now (Some (in_force_of now))
+  pub open read use *
   pub reading : now.phase ≡ Reading
   pub same : now.schema ≡ old.schema
   pub same_limits : now.limits ≡ old.limits
@@ -57,8 +54,6 @@ pub record Batches (options : PrintOptions) (tally : PrintCounts) (old now : Rea
   pub counted : (k : ℕ) → old.taken ≡ count_up 0 k → now.taken ≡ count_up 0 (k + length x)
   pub numbered : (k : ℕ) → old.messages ≡ count_up 0 k → now.messages ≡ count_up 0 (k + messages_in run)
   pub tallies : IsTally tally batches
-  pub wanted : AreWanted options.limit batches
-  pub have : HaveAllLines options.form old.schema.fields (within options.limit batches)
   pub puts : Puts before after
       (batch_lines (heading options.form) (line_of options.form old.schema.fields) (within options.limit batches))
   pub sent : after.kept ≡ []
@@ -82,11 +77,15 @@ zero_more k = omega arith
 pub batches_none : (options : PrintOptions) (r : Reader) (o : Output) → r.phase ≡ Reading → o.kept ≡ []
     → Batches options (record { batches = 0; rows = 0 }) r r o o
 batches_none options r o reading empty = record {
-  x = [];
-  batches = [];
-  bytes = Consumes-nil r.remaining;
-  run = done;
-  shortest = none_shorter (Some (in_force_of r));
+  read = record {
+    x = [];
+    batches = [];
+    bytes = Consumes-nil r.remaining;
+    run = done;
+    shortest = none_shorter (Some (in_force_of r));
+    wanted = wanted_none options.limit;
+    have = subst (HaveAllLines options.form r.schema.fields) (sym (within_none options.limit)) tt;
+  };
   reading = reading;
   same = refl;
   same_limits = refl;
@@ -94,8 +93,6 @@ batches_none options r o reading empty = record {
   counted = λ k is. is ∙ ap (count_up 0) (sym (zero_more k));
   numbered = λ k is. is ∙ ap (count_up 0) (sym (zero_more k));
   tallies = (omega arith, omega arith);
-  wanted = wanted_none options.limit;
-  have = subst (HaveAllLines options.form r.schema.fields) (sym (within_none options.limit)) tt;
   puts = put_at o o _ _
       (ap (batch_lines (heading options.form) (line_of options.form r.schema.fields)) (sym (within_none options.limit))) (puts_none o);
   sent = empty;
@@ -107,15 +104,9 @@ pub batches_limited : (options : PrintOptions) (tally : PrintCounts) (old now : 
     → PrintsBatches options [] old now before after (Ok Limited)
 batches_limited options tally old now before after b reached = (
   record {
-    x = b.x;
-    batches = b.batches;
-    bytes = b.bytes;
     state = Some (in_force_of now);
-    run = b.run;
-    shortest = b.shortest;
+    read = b.read;
     reached = reached_tally options.limit tally.rows (row_count b.batches) b.tallies.1 reached;
-    wanted = b.wanted;
-    have = b.have;
     puts = b.puts;
     sent = b.sent;
   },
@@ -130,9 +121,7 @@ batches_limited options tally old now before after b reached = (
 tally_more : (tally next : PrintCounts) (batches : List BatchRows) (rows : BatchRows) → IsTally tally batches
     → next.batches ≡ count_up tally.batches 1 → next.rows ≡ count_up tally.rows (length rows.rows) → IsTally next (batches ++ rows ∷ [])
 tally_more tally next batches rows (some, few) one all =
-    let long = length-append batches (rows ∷ []) in
-    let sum = row_count_last batches rows in
-    (omega (arith, some, one, long), omega (arith, few, all, sum))
+    (omega (arith, some, one, length-append batches (rows ∷ [])), omega (arith, few, all, row_count_last batches rows))
 
 module _ (options : PrintOptions) (tally : PrintCounts) (old now new : Reader) (before after : Output)
     (b : Batches options tally old now before after) (below : WantsMoreRows options.limit (row_count b.batches)) where
@@ -202,10 +191,7 @@ module _ (options : PrintOptions) (tally : PrintCounts) (old now new : Reader) (
 
   counted_more : (found : ReadRows) (t : NextCall now new (Ok (Some found))) (k : ℕ) → old.taken ≡ count_up 0 k
       → new.taken ≡ count_up 0 (k + length (b.x ++ t.x))
-  counted_more found t k is =
-      let before = b.counted k is in
-      let long = length-append b.x t.x in
-      omega (arith, before, long, t.counted)
+  counted_more found t k is = omega (arith, b.counted k is, length-append b.x t.x, t.counted)
 
   numbered_more : (found : ReadRows) (t : NextCall now new (Ok (Some found))) (k : ℕ) → old.messages ≡ count_up 0 k
       → new.messages ≡ count_up 0 (k + messages_in (more_run found t).0)
@@ -222,11 +208,17 @@ module _ (options : PrintOptions) (tally : PrintCounts) (old now new : Reader) (
       let q = same_puts fields found count w n k (Ok None) is t p in
       let rows = heading options.form found.1 ++ lines line (take count found.0.rows) in
       record {
-        x = b.x ++ t.x;
-        batches = b.batches ++ batch_rows found ∷ [];
-        bytes = Consumes-trans old.remaining now.remaining new.remaining b.x t.x b.bytes t.bytes;
-        run = (more_run found t).0;
-        shortest = more_shortest found t;
+        read = record {
+          x = b.x ++ t.x;
+          batches = b.batches ++ batch_rows found ∷ [];
+          bytes = Consumes-trans old.remaining now.remaining new.remaining b.x t.x b.bytes t.bytes;
+          run = (more_run found t).0;
+          shortest = more_shortest found t;
+          wanted = wanted_more options.limit b.batches (batch_rows found) below;
+          have = subst (HaveAllLines options.form old.schema.fields) (sym (all_now found count wants))
+              (all_more (λ q. HaveLines options.form old.schema.fields q.rows) b.batches (batch_prefix count (batch_rows found)) have_before
+              q.0);
+        };
         reading = (found_run found t).0;
         same = t.same_schema ∙ b.same;
         same_limits = t.same_limits ∙ b.same_limits;
@@ -234,10 +226,6 @@ module _ (options : PrintOptions) (tally : PrintCounts) (old now new : Reader) (
         counted = counted_more found t;
         numbered = numbered_more found t;
         tallies = tally_more tally next b.batches (batch_rows found) b.tallies one all;
-        wanted = wanted_more options.limit b.batches (batch_rows found) below;
-        have = subst (HaveAllLines options.form old.schema.fields) (sym (all_now found count wants))
-            (all_more (λ q. HaveLines options.form old.schema.fields q.rows) b.batches (batch_prefix count (batch_rows found)) have_before
-            q.0);
         puts = put_at before last _ _ (text_now found count wants)
             (puts_then before after last (batch_lines (heading options.form) line b.batches) rows puts_before
             (put_at after last _ _ (append-nil rows) (puts_then after (output w n k) last rows [] q.1 flushed)));
@@ -257,16 +245,18 @@ module _ (options : PrintOptions) (tally : PrintCounts) (old now new : Reader) (
       let put =
       subst (λ (rows : List (List Value)). Puts after (output w n k) (heading options.form found.1 ++ lines line rows)) fewer q.2 in (
         record {
-          x = b.x ++ t.x;
-          batches = b.batches;
-          last = batch_rows found;
-          count = q.0;
-          bytes = Consumes-trans old.remaining now.remaining new.remaining b.x t.x b.bytes t.bytes;
-          state = Some (in_force_of new);
-          run = (more_run found t).0;
-          below = below_refused options.limit (row_count b.batches) count (length found.0.rows) q.0 below wants less;
-          have = have_before;
-          refuses = refuses_all options.form old.schema.fields found.0.rows count q.0 fault q.1;
+          read = record {
+            x = b.x ++ t.x;
+            batches = b.batches;
+            last = batch_rows found;
+            count = q.0;
+            bytes = Consumes-trans old.remaining now.remaining new.remaining b.x t.x b.bytes t.bytes;
+            state = Some (in_force_of new);
+            run = (more_run found t).0;
+            below = below_refused options.limit (row_count b.batches) count (length found.0.rows) q.0 below wants less;
+            have = have_before;
+            refuses = refuses_all options.form old.schema.fields found.0.rows count q.0 fault q.1;
+          };
           puts = puts_then before after (output w n k) (batch_lines (heading options.form) line b.batches) _ puts_before put;
           few = omega (
             arith,
@@ -321,17 +311,16 @@ module _ (options : PrintOptions) (tally : PrintCounts) (old now new : Reader) (
   printed : (y : List ℕ) (r : Result End Fault) → Consumes now.remaining new.remaining y → new.taken ≡ count_up now.taken (length y)
       → EndsBehind now new y r → PrintsRows options [] old new before after r
   printed y r bytes more h = record {
-    x = b.x ++ y;
-    batches = b.batches;
-    bytes = Consumes-trans old.remaining now.remaining new.remaining b.x y b.bytes bytes;
-    reads = (behind y r h).0;
-    counted = λ k is.
-        let before = b.counted k is in
-        let long = length-append b.x y in
-        omega (arith, before, long, more);
-    numbered = λ k is. omega (arith, b.numbered k is, h.messages, (behind y r h).1);
-    below = below;
-    have = have_before;
+    read = record {
+      x = b.x ++ y;
+      batches = b.batches;
+      bytes = Consumes-trans old.remaining now.remaining new.remaining b.x y b.bytes bytes;
+      reads = (behind y r h).0;
+      counted = λ k is. omega (arith, b.counted k is, length-append b.x y, more);
+      numbered = λ k is. omega (arith, b.numbered k is, h.messages, (behind y r h).1);
+      below = below;
+      have = have_before;
+    };
     puts = puts_before;
     sent = b.sent;
   }

@@ -14,18 +14,16 @@ use Rattle.job_print.specs.declared.stop.Outcome.TheVariants.{Whole, Limited, Br
 use Rattle.job_print.specs.FirstRows.{batch_prefix, within, WantsMoreRows, wanted_rows}
 use Rattle.job_print.specs.Forms.{IsTail, batch_heading, line_of, row_count, tail_of, tail_text}
 use Rattle.std.specs.Prelude.{◌≢◌}
-use Rattle.ipc_text_temporal.specs.declared.fault.TextFault.{TextFault}
 use Rattle.job_print.specs.Output.{Output, Puts, PutFails}
 use Rattle.job_print.specs.Rows.{lines, batch_lines, last_lines}
 use Rattle.std.proofs.lemmas.List.{nil_from_length}
-use Rattle.job_print.specs.Streams.{AreLast, IsReadToEnd, IsTally, PrintsAll, PrintsBatches, PrintsLimited, PrintsPart, PrintsRows}
-use Rattle.job_print.specs.Streams.{StopsAtRow, outcome_tail}
-use Rattle.job_print.proofs.streams.FirstRows.{below_less, below_within, refused_inside, take_fewer, wanted_more}
-use Rattle.job_print.proofs.streams.FirstRows.{within_all, within_more}
+use Rattle.job_print.specs.Streams.{AreLast, IsReadToEnd, IsTally, PrintsAll, PrintsBatches, PrintsPart, PrintsRows}
+use Rattle.job_print.specs.Streams.{outcome_tail}
+use Rattle.job_print.proofs.streams.FirstRows.{below_less, below_within, refused_inside, take_fewer, wanted_more, within_all, within_more}
 use Rattle.job_print.proofs.Puts.{puts_then, puts_not_then, missing_all, missing_at, missing_more, missing_then}
 use Rattle.job_print.proofs.FrontPuts.{part_read}
 use Rattle.job_print.proofs.Lines.{put_at, not_at}
-use Rattle.job_print.proofs.texts.Texts.{batch_lines_more, head_rest, last_lines_front, last_lines_more}
+use Rattle.job_print.proofs.texts.Texts.{batches_rest, head_rest, last_lines_front, last_lines_more}
 use Rattle.ipc_stream_read.specs.Counts.{count_up}
 use Rattle.job_print.specs.declared.stop.PrintCounts.{PrintCounts}
 
@@ -33,78 +31,24 @@ module _ (options : PrintOptions) (front : List ℕ) (old new : Reader) where
   abbrev line_in : List Value → List ℕ
   line_in = line_of options.form old.schema.fields
 
-  -- rows that were put after another front, with this one
-  moved_rows : (other : List ℕ) (r : Result End Fault) (b m before after : Output) (q : PrintsRows options other old new b m r)
-      → Puts before after (front ++ batch_lines (batch_heading options.form) line_in q.batches) → after.kept ≡ []
-      → PrintsRows options front old new before after r
-  moved_rows other r b m before after q puts sent = record {
-    x = q.x;
-    batches = q.batches;
-    bytes = q.bytes;
-    reads = q.reads;
-    counted = q.counted;
-    numbered = q.numbered;
-    below = q.below;
-    have = q.have;
-    puts = puts;
-    sent = sent;
-  }
-
-  moved_limited : (other : List ℕ) (b m before after : Output) (h : PrintsLimited options other old new b m)
-      → Puts before after (front ++ batch_lines (batch_heading options.form) line_in (within options.limit h.batches)) → after.kept ≡ []
-      → PrintsLimited options front old new before after
-  moved_limited other b m before after h puts sent = record {
-    x = h.x;
-    batches = h.batches;
-    bytes = h.bytes;
-    state = h.state;
-    run = h.run;
-    shortest = h.shortest;
-    reached = h.reached;
-    wanted = h.wanted;
-    have = h.have;
-    puts = puts;
-    sent = sent;
-  }
-
-  moved_stop : (other : List ℕ) (b m before after : Output) (fault : TextFault) (h : StopsAtRow options other old new b m fault)
-      → Puts before after ((front ++ batch_lines (batch_heading options.form) line_in h.batches)
-      ++ (batch_heading options.form h.last.pairs ++ lines line_in (take h.count h.last.rows)))
-      → length after.kept ≤ length (batch_heading options.form h.last.pairs ++ lines line_in (take h.count h.last.rows))
-      → StopsAtRow options front old new before after fault
-  moved_stop other b m before after fault h puts few = record {
-    x = h.x;
-    batches = h.batches;
-    last = h.last;
-    count = h.count;
-    bytes = h.bytes;
-    state = h.state;
-    run = h.run;
-    below = h.below;
-    have = h.have;
-    refuses = h.refuses;
-    puts = puts;
-    few = few;
-  }
-
   -- what was put after the front, with the front
   pub behind_front : (before mid after : Output) (r : Result Outcome PrintFault) → Puts before mid front
       → PrintsBatches options [] old new mid after r → PrintsBatches options front old new before after r
-  unfolding moved_rows
   behind_front before mid after (Ok (Whole e tally)) p q =
-      ((moved_rows [] (Ok e) mid after before after q.0.0 (puts_then before mid after front _ p q.0.0.puts) q.0.0.sent, q.0.1), q.1, q.2)
+      let r = q.0.0 in
+      ((record { read = r.read; puts = puts_then before mid after front _ p r.puts; sent = r.sent }, q.0.1), q.1, q.2)
   behind_front before mid after (Ok Limited) p q =
-      (moved_limited [] mid after before after q.0 (puts_then before mid after front _ p q.0.puts) q.0.sent, q.1)
+      let h = q.0 in
+      let puts = puts_then before mid after front _ p h.puts in
+      (record { state = h.state; read = h.read; reached = h.reached; puts = puts; sent = h.sent }, q.1)
   behind_front before mid after (Ok (Broken f)) p q =
-      (q.0, moved_rows [] q.0 mid after before after q.1 (puts_then before mid after front _ p q.1.puts) q.1.sent, q.2, q.3)
+      let r = q.1 in (q.0, record { read = r.read; puts = puts_then before mid after front _ p r.puts; sent = r.sent }, q.2, q.3)
   behind_front before mid after (Ok (Lacking f)) p q =
-      let h = q.0 in (
-        moved_stop [] mid after before after f h
-            (put_at before after _ _ (sym (append_assoc front (batch_lines (batch_heading options.form) line_in h.batches)
-            (batch_heading options.form h.last.pairs ++ lines line_in (take h.count h.last.rows))))
-            (puts_then before mid after front _ p h.puts)) h.few,
-        q.1,
-      )
+      let h = q.0 in
+      let puts = put_at before after _ _ (sym (append_assoc front (batch_lines (batch_heading options.form) line_in h.batches)
+      (batch_heading options.form h.last.pairs ++ lines line_in (take h.count h.last.rows))))
+      (puts_then before mid after front _ p h.puts) in
+      (record { read = h.read; puts = puts; few = h.few }, q.1)
   behind_front before mid after (Err e) p q = by_last q.last
     where
       cut : (most : ℕ) → length q.puts.behind ≤ most
@@ -117,17 +61,7 @@ module _ (options : PrintOptions) (front : List ℕ) (old new : Reader) where
           let missing = missing_at before after.written after.failures _ _ e most (sym (append_assoc front texts q.tail))
           (missing_then before mid after.written after.failures front (texts ++ q.tail) e most p (q.puts, small)) in
           record {
-            x = q.x;
-            batches = q.batches;
-            bytes = q.bytes;
-            rest = q.rest;
-            whole = q.whole;
-            joined = q.joined;
-            state = q.state;
-            run = q.run;
-            tail = q.tail;
-            inside = q.inside;
-            ends = q.ends;
+            read = q.read;
             puts = missing.0;
             few = omega (
               arith,
@@ -149,11 +83,10 @@ module _ (options : PrintOptions) (front : List ℕ) (old new : Reader) where
       by_last (inr (inr end)) = cut _ q.few (omega arith) (λ b few. inr (inr end))
 
   module _ (before mid : Output) where
-    rows_flushed : (r : Result End Fault) (after : Output) → after.kept ≡ [] → PrintsRows options front old new before mid r
-        → Puts mid after [] → PrintsRows options front old new before after r
-    rows_flushed r after empty p q =
-        moved_rows front r before mid before after p
-        (put_at before after _ _ (append-nil _) (puts_then before mid after _ [] p.puts q)) empty
+    -- what was put, and then was sent
+    then_flushed : {t : List ℕ} → (last after : Output) → Puts before mid t → Puts mid last [] → Puts last after [] → Puts before after t
+    then_flushed last after p tail q =
+        put_at before after _ _ (append-nil _) (puts_then before mid after _ [] p (puts_then mid last after [] [] tail q))
 
     -- the tail of counts is that of the batches
     tail_is : (e : End) (tally : PrintCounts) (batches : List BatchRows) → IsTally tally batches
@@ -175,19 +108,14 @@ module _ (options : PrintOptions) (front : List ℕ) (old new : Reader) where
       p.1,
       p.2,
     )
-    flushed Limited last after empty p tail q = (
-      moved_limited front before mid before after p.0
-          (put_at before after _ _ (append-nil _) (puts_then before mid after _ [] p.0.puts (puts_then mid last after [] [] tail q))) empty,
-      p.1,
-    )
+    flushed Limited last after empty p tail q =
+        let h = p.0 in
+        let puts = then_flushed last after h.puts tail q in
+        (record { state = h.state; read = h.read; reached = h.reached; puts = puts; sent = empty }, p.1)
     flushed (Broken f) last after empty p tail q =
-        (p.0, rows_flushed p.0 after empty p.1 (puts_then mid last after [] [] tail q), p.2, p.3)
-    flushed (Lacking f) last after empty p tail q = (
-      moved_stop front before mid before after f p.0
-          (put_at before after _ _ (append-nil _) (puts_then before mid after _ [] p.0.puts (puts_then mid last after [] [] tail q)))
-          (omega (arith, ap length empty)),
-      p.1,
-    )
+        (p.0, record { read = p.1.read; puts = then_flushed last after p.1.puts tail q; sent = empty }, p.2, p.3)
+    flushed (Lacking f) last after empty p tail q =
+        (record { read = p.0.read; puts = then_flushed last after p.0.puts tail q; few = omega (arith, ap length empty) }, p.1)
 
     -- the text of batches whose rows are below the limit
     all_shown : (batches : List BatchRows) → WantsMoreRows options.limit (row_count batches) → (tail : List ℕ)
@@ -206,17 +134,19 @@ module _ (options : PrintOptions) (front : List ℕ) (old new : Reader) where
         let missing = missing_at before w n _ _ e (length tail) (all_shown p.batches p.below tail)
         (missing_then before mid w n _ tail e (length tail) p.puts (missing_all mid w n tail e p.sent q)) in
         record {
-          x = p.x;
-          batches = p.batches;
-          bytes = p.bytes;
-          rest = p.reads.rest;
-          whole = p.reads.whole;
-          joined = p.reads.joined;
-          state = p.reads.state;
-          run = p.reads.run;
-          tail = tail;
-          inside = below_within options.limit p.batches p.reads.rest tail p.below;
-          ends = ends;
+          read = record {
+            x = p.x;
+            batches = p.batches;
+            bytes = p.bytes;
+            rest = p.reads.rest;
+            whole = p.reads.whole;
+            joined = p.reads.joined;
+            state = p.reads.state;
+            run = p.reads.run;
+            tail = tail;
+            inside = below_within options.limit p.batches p.reads.rest tail p.below;
+            ends = ends;
+          };
           puts = missing.0;
           few = omega (
             arith,
@@ -231,19 +161,6 @@ module _ (options : PrintOptions) (front : List ℕ) (old new : Reader) where
         → PutFails mid w n [] Write → PrintsPart options front old new before w n Write
     rows_unflushed r w n p q =
         rows_left r [] w n Write p (inl refl) q (λ b few. inr (inl (nil_from_length b (omega (arith, few))))) (λ other. absurd (other refl))
-
-    -- the text of batches and of the first rows of one more is a beginning of the text with all its rows
-    all_rows : (batches : List BatchRows) (rows : BatchRows) (count : ℕ)
-        → front ++ batch_lines (batch_heading options.form) line_in (batches ++ rows ∷ [])
-        ≡ ((front ++ batch_lines (batch_heading options.form) line_in batches)
-        ++ (batch_heading options.form rows.pairs ++ lines line_in (take count rows.rows))) ++ lines line_in (drop count rows.rows)
-    all_rows batches rows count =
-        let texts = batch_lines (batch_heading options.form) line_in batches in
-        let head = batch_heading options.form rows.pairs in
-        ap (λ (t : List ℕ). front ++ t) (sym (batch_lines_more line_in (batch_heading options.form) batches rows))
-        ∙ (sym (append_assoc front texts (head ++ lines line_in rows.rows))
-        ∙ (ap (λ (t : List ℕ). (front ++ texts) ++ t) (head_rest line_in head rows.rows count)
-        ∙ sym (append_assoc (front ++ texts) (head ++ lines line_in (take count rows.rows)) (lines line_in (drop count rows.rows)))))
 
     -- the tail of a stream that was read to its end was not put
     pub tail_cut : (outcome : Outcome) (w : Option (List ℕ)) (n : ℕ) (e : PrintFault) → IsReadToEnd outcome
@@ -289,7 +206,8 @@ module _ (options : PrintOptions) (front : List ℕ) (old new : Reader) where
         let text = front ++ batch_lines (batch_heading options.form) line_in h.batches in
         let first = missing_at before w n _ _ Write (length mid.kept) (append-nil _ ∙ ap (λ (t : List ℕ). text ++ t) same)
         (missing_then before mid w n _ [] Write (length mid.kept) h.puts (cut, omega (arith, cut.few, length-append mid.kept []))) in
-        let missing = missing_at before w n _ _ Write (length mid.kept + length unsent) (sym (all_rows h.batches cut_last h.count)
+        let missing = missing_at before w n _ _ Write (length mid.kept + length unsent)
+        (sym (batches_rest line_in (batch_heading options.form) front h.batches cut_last h.count)
         ∙ (ap (λ (bs : List BatchRows). front ++ batch_lines (batch_heading options.form) line_in bs) (sym shown) ∙ sym (append-nil _)))
         (missing_more before w n _ unsent Write (length mid.kept) first) in
         part_read options front old new before w n Write h.x (h.batches ++ h.last ∷ []) h.state h.bytes h.run

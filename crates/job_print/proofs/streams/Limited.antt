@@ -9,14 +9,13 @@ use Rattle.ipc_model.specs.declared.limits.Limits.{Limits}
 use Rattle.ipc_model.specs.declared.schema.Schema.{Schema}
 use Rattle.ipc_model.specs.declared.table.BatchRows.{BatchRows}
 use Rattle.ipc_model.specs.declared.table.Table.{Table}
-use Rattle.ipc_frame.proofs.OneFrame.{frame_one}
 use Rattle.ipc_stream_read.specs.declared.end.End.{End}
 use Rattle.ipc_stream_read.specs.declared.end.End.TheVariants.{Mark, Closed}
 use Rattle.ipc_stream_read.specs.Ends.{as_required}
 use Rattle.ipc_stream_read.specs.Failures.{CountsFault}
 use Rattle.ipc_stream_read.specs.Reasons.{EndsReading as BreaksOff, IsOutside, Reads}
-use Rattle.ipc_stream_read.specs.Stream.{State, Event, schema, Step, Run, done, more, Denotes, events_of}
-use Rattle.ipc_stream_read.proofs.OneReading.{step_one}
+use Rattle.ipc_stream_read.specs.Stream.{State, Event, schema, Run, done, more, Denotes, events_of}
+use Rattle.job_print.proofs.streams.Shortest.{one_message}
 use Rattle.ipc_stream_read.proofs.Reasons.{told_breaks}
 use Rattle.ipc_text_temporal.specs.declared.fault.TextFault.{TextFault}
 use Rattle.ipc_stream_read.proofs.Beginnings.{Holds, front_begins, holds_closed, holds_marked, left_of, schema_begins, table_begins}
@@ -36,15 +35,12 @@ fronts : {limits : Limits} → {σ τ υ : State} {x y : List ℕ} {es gs : List
     → Run limits σ y gs υ → x ++ a ≡ y ++ b → ((rest : List Event) × (gs ≡ es ++ rest)) ⊎ ((rest : List Event) × (es ≡ gs ++ rest))
 fronts {gs = gs} a b done q e = inl (gs, refl)
 fronts a b (more {es = es} {fs = hs} f p q) done e = inr (es ++ hs, refl)
-fronts {limits} a b (more {σ = σ} {τ = τ} {x = x} {metadata = m} {body = body} {y = y} {h = g} {es = es} {fs = hs} f p q)
-    (more {τ = τ'} {υ = υ'} {x = x'} {metadata = m'} {body = body'} {y = y'} {h = g'} {es = es'} {fs = hs'} f' p' q') e =
-    let same = frame_one x x' m m' body body' (y ++ a) (y' ++ b) g g' f f' (sym (append_assoc x y a) ∙ (e ∙ append_assoc x' y' b)) in
-    let other : Step limits σ g body es' τ' = subst (λ z. Step limits σ z body es' τ') (sym same.same_head)
-    (subst (λ z. Step limits σ g' z es' τ') (sym same.same_body) p') in
-    let step = step_one p other in
-    ⊎_elim (λ on. inl (on.0, ap (λ l. es' ++ l) on.1 ∙ (sym (append_assoc es' hs on.0) ∙ ap (λ l. (l ++ hs) ++ on.0) (sym step.0))))
-    (λ on. inr (on.0, ap (λ l. es ++ l) on.1 ∙ (sym (append_assoc es hs' on.0) ∙ ap (λ l. (l ++ hs') ++ on.0) step.0)))
-    (fronts a b q (subst (λ z. Run limits z y' hs' υ') (sym step.1) q') same.same_rest)
+fronts {limits} a b (more {x = x} {y = y} {es = es} {fs = hs} f p q)
+    (more {υ = υ'} {x = x'} {y = y'} {es = es'} {fs = hs'} f' p' q') e =
+    let one = one_message (y ++ a) (y' ++ b) f p f' p' (sym (append_assoc x y a) ∙ (e ∙ append_assoc x' y' b)) in
+    ⊎_elim (λ on. inl (on.0, ap (λ l. es' ++ l) on.1 ∙ (sym (append_assoc es' hs on.0) ∙ ap (λ l. (l ++ hs) ++ on.0) (sym one.2))))
+    (λ on. inr (on.0, ap (λ l. es ++ l) on.1 ∙ (sym (append_assoc es hs' on.0) ∙ ap (λ l. (l ++ hs') ++ on.0) one.2)))
+    (fronts a b q (subst (λ z. Run limits z y' hs' υ') (sym one.3) q') one.1)
 
 -- reading that breaks off at the bytes has reported the events of messages at their front, or the cause is outside of them
 breaks_after : {limits : Limits} → {σ τ υ : State} {x y : List ℕ} {es gs : List Event} (a z b : List ℕ) (fault : Fault)
@@ -57,17 +53,12 @@ breaks_after {limits} {σ = σ} {τ = τ} a z b fault (more {x = x} {y = y} {es 
     by_events [] is = inr ([], is ∙ sym (append-nil (es ++ hs)))
     by_events (one ∷ others) is =
         inl (told_breaks a z b fault (more f p q) (λ none. let bad : one ∷ others ≡ [] = is ∙ none in absurd (cc)) done refl r e)
-breaks_after {limits} a z b fault
-    (more {σ = σ} {τ = τ} {x = x} {metadata = m} {body = body} {y = y} {h = g} {es = es} {fs = hs} f p q)
-    (more {τ = τ'} {υ = υ'} {x = x'} {metadata = m'} {body = body'} {y = y'} {h = g'} {es = es'} {fs = hs'} f' p' q') r e =
-    let same = frame_one x x' m m' body body' (y ++ a) (y' ++ (z ++ b)) g g' f f'
-    (sym (append_assoc x y a) ∙ (e ∙ append_assoc x' y' (z ++ b))) in
-    let other : Step limits σ g body es' τ' = subst (λ z. Step limits σ z body es' τ') (sym same.same_head)
-    (subst (λ z. Step limits σ g' z es' τ') (sym same.same_body) p') in
-    let step = step_one p other in
+breaks_after {limits} a z b fault (more {x = x} {y = y} {es = es} {fs = hs} f p q)
+    (more {υ = υ'} {x = x'} {y = y'} {es = es'} {fs = hs'} f' p' q') r e =
+    let one = one_message (y ++ a) (y' ++ (z ++ b)) f p f' p' (sym (append_assoc x y a) ∙ (e ∙ append_assoc x' y' (z ++ b))) in
     ⊎_elim (λ out. inl out)
-    (λ on. inr (on.0, ap (λ l. es' ++ l) on.1 ∙ (sym (append_assoc es' hs on.0) ∙ ap (λ l. (l ++ hs) ++ on.0) (sym step.0))))
-    (breaks_after a z b fault q (subst (λ z. Run limits z y' hs' υ') (sym step.1) q') r same.same_rest)
+    (λ on. inr (on.0, ap (λ l. es' ++ l) on.1 ∙ (sym (append_assoc es' hs on.0) ∙ ap (λ l. (l ++ hs) ++ on.0) (sym one.2))))
+    (breaks_after a z b fault q (subst (λ z. Run limits z y' hs' υ') (sym one.3) q') r one.1)
 
 -- of two beginnings of the same bytes, one begins the other
 one_begins : (x y a b : List ℕ) → x ++ a ≡ y ++ b → ((rest : List ℕ) × (y ≡ x ++ rest)) ⊎ ((rest : List ℕ) × (x ≡ y ++ rest))

@@ -7,6 +7,7 @@ use Rattle.std.specs.BTreeMap.{insert_entry}
 use Rattle.std.specs.Ordering.{int_cmp, match_ordering}
 use Rattle.std.specs.declared.cmp.Ordering.TheVariants.{Less, Equal, Greater}
 use Rattle.ipc_frame.specs.Frames.{Frame}
+use Rattle.ipc_meta.specs.declared.head.Head.{Head}
 use Rattle.ipc_column.specs.Values.{first_of}
 use Rattle.ipc_model.specs.declared.limits.Limits.{Limits}
 use Rattle.ipc_model.specs.declared.schema.Schema.{Schema}
@@ -18,6 +19,16 @@ use Rattle.ipc_stream_read.proofs.OneReading.{step_one}
 use Rattle.ipc_stream_read.proofs.Runs.{run_then}
 use Rattle.ipc_dict_read.specs.InForce.{put}
 use Rattle.job_print.specs.Streams.{AreShortest}
+
+-- of two messages with the same beginning the bytes, what follows them, the events and the state after them are the same
+pub one_message : {limits : Limits} → {σ τ υ : State} {x y m n body other : List ℕ} {g h : Head} {es fs : List Event} (a b : List ℕ)
+    → Frame limits x m g body → Step limits σ g body es τ → Frame limits y n h other → Step limits σ h other fs υ → x ++ a ≡ y ++ b
+    → (x ≡ y) × (a ≡ b) × (es ≡ fs) × (τ ≡ υ)
+one_message {limits} {σ = σ} {υ = υ} {x = x} {y = y} {m = m} {n = n} {body = body} {other = other} {g = g} {h = h} {fs = fs} a b f p k q e =
+    let same = frame_one x y m n body other a b g h f k e in
+    let step = step_one p (subst (λ z. Step limits σ z body fs υ) (sym same.same_head)
+    (subst (λ z. Step limits σ h z fs υ) (sym same.same_body) q)) in
+    (same.same_bytes, same.same_rest, step.0, step.1)
 
 -- messages over the same bytes of which one reports the events of the other and more: they go on after those
 record GoesOn (limits : Limits) (x y : List ℕ) (τ υ : State) (events : List Event) : Type 0 where
@@ -34,37 +45,24 @@ run_on a b fs (more {es = es} {fs = hs} f p q) done is some e = absurd (some (ni
   ap length is,
   length-append (es ++ hs) fs,
 ))))
-run_on {limits} a b fs (more {σ = σ} {τ = τ} {υ = υ} {x = x} {metadata = m} {body = body} {y = y} {h = g} {es = es} {fs = hs} f p q)
-    (more {τ = τ'} {υ = υ'} {x = x'} {metadata = m'} {body = body'} {y = y'} {h = g'} {es = es'} {fs = hs'} f' p' q') is some e =
-    let same = frame_one x x' m m' body body' (y ++ a) (y' ++ b) g g' f f' (sym (append_assoc x y a) ∙ (e ∙ append_assoc x' y' b)) in
-    let other : Step limits σ g body es' τ' = subst (λ z. Step limits σ z body es' τ') (sym same.same_head)
-    (subst (λ z. Step limits σ g' z es' τ') (sym same.same_body) p') in
-    let step = step_one p other in
+run_on {limits} a b fs (more {x = x} {y = y} {es = es} {fs = hs} f p q)
+    (more {υ = υ'} {x = x'} {y = y'} {es = es'} {fs = hs'} f' p' q') is some e =
+    let one = one_message (y ++ a) (y' ++ b) f p f' p' (sym (append_assoc x y a) ∙ (e ∙ append_assoc x' y' b)) in
     let events : hs' ≡ hs ++ fs =
-    append_cancel_left es' hs' (hs ++ fs) (is ∙ (append_assoc es hs fs ∙ ap (λ l. l ++ (hs ++ fs)) step.0)) in
-    let on = run_on a b fs q (subst (λ z. Run limits z y' hs' υ') (sym step.1) q') events some same.same_rest in
-    record {
-      rest = on.rest;
-      joined = ap (λ l. x' ++ l) on.joined ∙ (ap (λ l. l ++ (y ++ on.rest)) (sym same.same_bytes) ∙ sym (append_assoc x y on.rest));
-      run = on.run;
-    }
+    append_cancel_left es' hs' (hs ++ fs) (is ∙ (append_assoc es hs fs ∙ ap (λ l. l ++ (hs ++ fs)) one.2)) in
+    let on = run_on a b fs q (subst (λ z. Run limits z y' hs' υ') (sym one.3) q') events some one.1 in
+    let joined = ap (λ l. x' ++ l) on.joined ∙ (ap (λ l. l ++ (y ++ on.rest)) (sym one.0) ∙ sym (append_assoc x y on.rest)) in
+    record { rest = on.rest; joined = joined; run = on.run }
 
 -- messages whose events begin with those of one message begin with that message
 message_on : {limits : Limits} → {σ τ υ : State} {x y : List ℕ} {es gs : List Event} (a b : List ℕ) (fs : List Event)
     → IsMessage limits σ x es τ → es ≢ [] → Run limits σ y gs υ → gs ≡ es ++ fs → x ++ a ≡ y ++ b → GoesOn limits x y τ υ fs
 message_on {es = es} a b fs one some done is e = absurd (some (nil_from_length es (omega (arith, ap length is, length-append es fs))))
-message_on {limits} {σ = σ} {τ = τ} {x = x} {es = es} a b fs one some
-    (more {τ = τ'} {υ = υ'} {x = x'} {metadata = m'} {body = body'} {y = y'} {h = g'} {es = es'} {fs = hs'} f' p' q') is e =
-    let same = frame_one x x' one.metadata m' one.body body' a (y' ++ b) one.head g' one.frame f' (e ∙ append_assoc x' y' b) in
-    let other : Step limits σ one.head one.body es' τ' = subst (λ z. Step limits σ z one.body es' τ') (sym same.same_head)
-    (subst (λ z. Step limits σ g' z es' τ') (sym same.same_body) p') in
-    let step = step_one one.step other in
-    let events : hs' ≡ fs = append_cancel_left es' hs' fs (is ∙ ap (λ l. l ++ fs) step.0) in
-    record {
-      rest = y';
-      joined = ap (λ l. l ++ y') (sym same.same_bytes);
-      run = subst (λ gs. Run limits τ y' gs υ') events (subst (λ z. Run limits z y' hs' υ') (sym step.1) q');
-    }
+message_on {limits} {τ = τ} a b fs message some (more {υ = υ'} {x = x'} {y = y'} {es = es'} {fs = hs'} f' p' q') is e =
+    let one = one_message a (y' ++ b) message.frame message.step f' p' (e ∙ append_assoc x' y' b) in
+    let events : hs' ≡ fs = append_cancel_left es' hs' fs (is ∙ ap (λ l. l ++ fs) one.2) in
+    let run = subst (λ gs. Run limits τ y' gs υ') events (subst (λ z. Run limits z y' hs' υ') (sym one.3) q') in
+    record { rest = y'; joined = ap (λ l. l ++ y') (sym one.0); run = run }
 
 nothing_after : (x u v : List ℕ) → x ++ [] ≡ (x ++ u) ++ v → v ≡ []
 nothing_after x u v e = nil_from_length v (omega (

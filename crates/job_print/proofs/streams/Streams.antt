@@ -16,7 +16,6 @@ use Rattle.ipc_stream_read.specs.Stream.{State, Event, schema, batch, initial_st
 use Rattle.ipc_model.specs.declared.fault.WriteFault.{WriteFault}
 use Rattle.ipc_model.specs.Numbering.{write_fault_status}
 use Rattle.ipc_text_temporal.specs.declared.fault.TextFault.{TextFault}
-use Rattle.job_print.specs.declared.form.Form.{Form}
 use Rattle.job_print.specs.declared.form.PrintOptions.{PrintOptions}
 use Rattle.job_print.specs.declared.line_buffer.PrintFault.{PrintFault}
 use Rattle.job_print.specs.declared.line_buffer.PrintFault.TheVariants as p
@@ -26,17 +25,16 @@ use Rattle.job_print.specs.FirstRows.{batch_prefix, within, WantsMoreRows, wante
 use Rattle.job_print.specs.Forms.{row_count, form_fault, front_text, batch_heading, line_of, tail_text}
 use Rattle.ipc_stream_read.specs.Counts.{count_up, messages_in}
 use Rattle.job_print.specs.Output.{Output, output, AppendsText, Puts, PutFails}
-use Rattle.job_print.specs.Rows.{lines, batch_lines}
+use Rattle.job_print.specs.Rows.{lines}
 use Rattle.job_print.specs.Streams.{PrintsTable, PrintsFirst, EndsPrinting, unopened, broken, StopsPrinting, unfit, refused, PrintsStream}
+use Rattle.job_print.specs.Streams.{AreLast, AreShortest, PrintsSome, alone, some, unread, Prints, PrintsLimited, PrintsRows, PrintsPart}
+use Rattle.job_print.specs.Streams.{StopsAtRow, write_fault, PrintsSchema, stream_text, last_batch_text, schema_line}
 use Rattle.job_print.proofs.streams.Shortest.{opened_shortest}
-use Rattle.job_print.specs.Streams.{AreLast, AreShortest, PrintsSome, alone, some, unread}
-use Rattle.job_print.specs.Streams.{Prints, PrintsLimited, PrintsRows, PrintsPart, StopsAtRow, write_fault}
-use Rattle.job_print.specs.Streams.{PrintsSchema, stream_text, last_batch_text, schema_line}
 use Rattle.job_print.proofs.streams.FirstRows.{below_less, below_within, refused_inside, take_fewer, wanted_more, wanted_within}
 use Rattle.job_print.proofs.streams.FirstRows.{within_all, within_more}
 use Rattle.job_print.proofs.streams.Messages.{ReadsCounted}
 use Rattle.job_print.proofs.Puts.{grows_more, grows_then}
-use Rattle.job_print.proofs.texts.Texts.{batch_lines_more, head_rest, last_lines_more}
+use Rattle.job_print.proofs.texts.Texts.{batches_rest, head_rest, last_lines_more}
 use Rattle.std.proofs.lemmas.List.{map-append, length-append}
 use Rattle.ipc_stream_read.proofs.Runs.{run_then, reads_after}
 use Rattle.ipc_model.specs.declared.limits.Limits.{Limits}
@@ -229,21 +227,6 @@ broken_part options old new w0 w1 fault n (broken x y t answer bytes opens behin
     (appends_grows w0 w1 _ (subst (λ (z : List ℕ). Appends w0 w1 z) (whole_text options t below []
     (append-nil (stream_text options.form t.schema t.batches))) text)) (omega arith) (inr (inl refl))
 
--- the text of batches and of the first rows of one more is a beginning of the text with all its rows
-all_rows : (form : Form) (t : Table) (rows : BatchRows) (count : ℕ)
-    → (stream_text form t.schema t.batches
-    ++ (batch_heading form rows.pairs ++ lines (line_of form t.schema.fields) (take count rows.rows)))
-    ++ lines (line_of form t.schema.fields) (drop count rows.rows) ≡ stream_text form t.schema (t.batches ++ rows ∷ [])
-all_rows form t rows count =
-    let line = line_of form t.schema.fields in
-    let front = front_text form t.schema in
-    let head = batch_heading form rows.pairs in
-    let texts = batch_lines (batch_heading form) line t.batches in
-    append_assoc (front ++ texts) (head ++ lines line (take count rows.rows)) (lines line (drop count rows.rows))
-    ∙ (ap (λ (x : List ℕ). (front ++ texts) ++ x) (sym (head_rest line head rows.rows count))
-    ∙ (append_assoc front texts (head ++ lines line rows.rows)
-    ∙ ap (λ (x : List ℕ). front ++ x) (batch_lines_more line (batch_heading form) t.batches rows)))
-
 -- why a table isn't printed to its end, as what was printed
 stopped_part : {limits : Limits} → (options : PrintOptions) (old new w0 w1 : Option (List ℕ)) (fault : TextFault)
     → StopsPrinting options limits old new w0 w1 fault → PrintsSome options limits old new w0 w1
@@ -265,7 +248,8 @@ stopped_part {limits} options old new w0 w1 fault (refused x t rows count σ byt
     (subst (λ (es : List Event). Run limits None x es σ) (sym (one_more t rows)) run)
     (wanted_within options.limit _ (wanted_more options.limit t.batches rows wants)) (inl refl)
     (subst (λ (z : List ℕ). AppendsText w0 [] w1 rest z)
-    (all_rows form t first count ∙ (ap (stream_text form t.schema) (sym shown) ∙ sym (append-nil _)))
+    (sym (batches_rest line (batch_heading form) (front_text form t.schema) t.batches first count)
+    ∙ (ap (stream_text form t.schema) (sym shown) ∙ sym (append-nil _)))
     (grows_more w0 w1 [] [] (start ++ (batch_heading form rows.pairs ++ lines line (take count first.rows))) rest
     (appends_grows w0 w1 _ here))) (omega (
       arith,

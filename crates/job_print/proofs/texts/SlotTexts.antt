@@ -1,6 +1,6 @@
 -- What slots hold, and their texts.
 use Rattle.std.proofs.Common.{◌≡◌, ◌∙◌, refl, sym, ap, ℕ, zero, suc, ◌+◌, ◌-◌, ◌<◌, ◌≤◌, List, [], ◌∷◌, length, map, Some, drop, le-leb}
-use Rattle.std.proofs.Common.{Option, None, arith, subst, replicate, Bor, take}
+use Rattle.std.proofs.Common.{arith, subst, replicate}
 use Rattle.std.specs.Prelude.{nat_lt, slice_get, true}
 use Rattle.job_print.proofs.Trees.{some_same}
 use Rattle.std.proofs.lemmas.List.{drop_all}

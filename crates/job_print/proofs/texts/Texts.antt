@@ -40,6 +40,19 @@ module _ (line_of : List Value → List ℕ) where
       (head_of rows.pairs ++ lines line_of rows.rows)
       ∙ ap (λ (x : List ℕ). (head_of b.pairs ++ lines line_of b.rows) ++ x) (batch_lines_more head_of bs rows)
 
+  -- the text of batches and of the first rows of one more begins the text with all its rows
+  pub batches_rest : (head_of : List (List ℕ × List ℕ) → List ℕ) (front : List ℕ) (batches : List BatchRows) (rows : BatchRows) (i : ℕ)
+      → front ++ batch_lines head_of line_of (batches ++ rows ∷ [])
+      ≡ ((front ++ batch_lines head_of line_of batches) ++ (head_of rows.pairs ++ lines line_of (take i rows.rows)))
+      ++ lines line_of (drop i rows.rows)
+  batches_rest head_of front batches rows i =
+      let texts = batch_lines head_of line_of batches in
+      let head = head_of rows.pairs in
+      ap (λ (x : List ℕ). front ++ x) (sym (batch_lines_more head_of batches rows))
+      ∙ (sym (append_assoc front texts (head ++ lines line_of rows.rows))
+      ∙ (ap (λ (x : List ℕ). (front ++ texts) ++ x) (head_rest head rows.rows i)
+      ∙ sym (append_assoc (front ++ texts) (head ++ lines line_of (take i rows.rows)) (lines line_of (drop i rows.rows)))))
+
   -- the last of batches and one more is that one
   pub last_lines_more : (head_of : List (List ℕ × List ℕ) → List ℕ) (front : List ℕ) (batches : List BatchRows) (rows : BatchRows)
       → last_lines front head_of line_of (batches ++ rows ∷ []) ≡ head_of rows.pairs ++ lines line_of rows.rows
