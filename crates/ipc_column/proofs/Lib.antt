@@ -1,5 +1,9 @@
 pub mod Fields
 pub mod Parts
+pub mod Among
+pub mod SlotValues
+pub mod Opened
+pub mod FittingValues
 pub mod Entries
 pub mod Cells
 pub mod lending

@@ -1,6 +1,6 @@
 -- Columns that are lent as they are laid out (Arrow Columnar Format, "Physical Memory Layout").
 use Rattle.std.specs.Prelude.{◌≡◌, ℕ, ◌*◌, ◌<◌, ◌≤◌, Bool, true, false, List, [], ◌∷◌, length}
-use Rattle.std.specs.Prelude.{Some, slice_get, if◌then◌else◌, ℤ, pos}
+use Rattle.std.specs.Prelude.{Some, slice_get, slice_index_or, if◌then◌else◌, not, ℤ, pos}
 use Rattle.ipc_model.specs.declared.schema.IntBits.{IntBits}
 use Rattle.ipc_model.specs.declared.value.Value.{Value}
 use Rattle.ipc_model.specs.declared.value.Value.TheVariants as v
@@ -13,6 +13,7 @@ use Rattle.ipc_column.specs.Columns.{Columns, none, column}
 use Rattle.ipc_column.specs.Dictionaries.{has_no_children}
 use Rattle.ipc_column.specs.Nested.{Nested, child_columns, slot_values}
 use Rattle.ipc_column.specs.checks.Rules.{HasLongChildren, HasOffsets, IsLongEnough}
+use Rattle.ipc_column.specs.Slots.{is_null}
 use Rattle.ipc_column.specs.Values.{is_valid, number_in, own_value}
 
 -- the layout of each of the columns
@@ -43,6 +44,12 @@ pub record AreNumbers (s : Nested) (n : Numbers) : Type 0 where
   pub long : number_bytes n.bits * length (slot_values s) ≤ length n.values.now
   pub each : (i : ℕ) → i < length (slot_values s)
       → slice_get (slot_values s) i ≡ Some (lent_number n i)
+
+-- the bitmap's bit for each value is set if and only if the value is not null; if it has no bytes,
+-- no value is null (Arrow Columnar Format, "Validity bitmaps")
+pub record MarksNulls (bitmap : List ℕ) (values : List Value) : Type 0 where
+  pub each : (i : ℕ) → i < length values
+      → not (is_valid bitmap i) ≡ is_null (slice_index_or values i v.Null)
 
 -- these are the buffers of a column: they have the bytes that its slots need, offsets are in order
 -- within the values or the child, and children are long enough

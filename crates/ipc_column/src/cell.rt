@@ -13,6 +13,7 @@ ghost use Rattle.ipc_column.specs.Values.{is_nested, offset_position};
 ghost use Rattle.ipc_column.specs.Views.{part_columns, column_of, children_of};
 ghost use Rattle.ipc_column.specs.Spans.{span_bytes};
 
+use crate::bitmaps::is_valid;
 use crate::cell_iter::{ListIter, StructIter, list_values, struct_values};
 use crate::dictionary::{DictionaryValues, indexed_cell};
 use crate::fixed::{bytes_of, signed_at, unsigned_at};
@@ -202,15 +203,6 @@ fn fixed_list<'a>(body: &'a [u8], parts: &'a [ColumnRanges], size: u32, slot: us
 {
     let first = fixed_place(size, parts, slot);
     list_of(body, parts, first, first + size as usize)
-}
-
-/// Returns whether a slot is not null.
-#[inline(always)]
-pub(crate) fn is_valid(validity: &[u8], slot: usize) -> bool
-    requires { has_bitmap (slot + 1) (length validity.now) ≡ true }
-    ensures { result ≡ is_valid validity.now slot }
-{
-    validity.is_empty() || bit(validity, slot)
 }
 
 /// Returns the value of a valid slot of a column without children or dictionary, one of its first

@@ -5,6 +5,7 @@
 
 mod assign;
 mod batch;
+mod bitmaps;
 mod buffers;
 mod cause;
 mod cell;
@@ -25,6 +26,7 @@ mod visit;
 
 pub use assign::{Cursor, count};
 pub use batch::{Batch, one_list_of_rows};
+pub use bitmaps::{is_valid, valid_are_among};
 pub use buffers::{Buffers, Numbers};
 pub use cell::{Cell, ListCell, StructCell};
 pub use cell_iter::{ListIter, StructIter};

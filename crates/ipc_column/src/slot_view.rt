@@ -10,9 +10,11 @@ ghost use Rattle.ipc_model.specs.declared.value.Value.{Value};
 ghost use Rattle.ipc_model.specs.declared.value.Value.TheVariants.{Null};
 ghost use Rattle.ipc_column.specs.Cells.{cell_value, is_leaf};
 ghost use Rattle.ipc_column.specs.Columns.{Columns};
-ghost use Rattle.ipc_column.specs.checks.Checks.{PassTests, children_have_slots, holds_offsets};
-ghost use Rattle.ipc_column.specs.checks.Checks.{holds_values, in_order, are_ascending};
-ghost use Rattle.ipc_column.specs.Lending.{AreBuffers, AreNumbers, HoldsEntry, are_numbers};
+ghost use Rattle.ipc_column.specs.checks.Checks.{PassTests, children_have_slots, has_bitmap};
+ghost use Rattle.ipc_column.specs.checks.Checks.{holds_offsets, holds_values, in_order};
+ghost use Rattle.ipc_column.specs.checks.Checks.{are_ascending};
+ghost use Rattle.ipc_column.specs.Lending.{AreBuffers, AreNumbers, HoldsEntry, MarksNulls};
+ghost use Rattle.ipc_column.specs.Lending.{are_numbers};
 ghost use Rattle.ipc_column.specs.Lent.{AreFound, AreOfColumn, column_of_buffers};
 ghost use Rattle.ipc_column.specs.Slots.{HasChildSlots, is_null, nested, nested_in, value_in_slot};
 ghost use Rattle.ipc_column.specs.Slots.{text_prefix};
@@ -22,8 +24,9 @@ ghost use Rattle.ipc_column.specs.checks.Rules.{HasUtf8Texts};
 ghost use Rattle.ipc_column.specs.Values.{between, own_value, row, rows_of};
 ghost use Rattle.ipc_column.specs.Views.{part_columns, column_of, children_of};
 
+use crate::bitmaps::is_valid;
 use crate::buffers::{Buffers, Numbers};
-use crate::cell::{Cell, is_valid};
+use crate::cell::Cell;
 use crate::dictionary::{DictionaryValues, indexed_cell};
 use crate::fixed::{bytes_of, index_in, signed_at, unsigned_at};
 use crate::offsets::{bytes_between, fixed_place, place_at};
@@ -211,6 +214,20 @@ impl<'a> SlotView<'a> {
             validity: self.validity,
             offsets: self.offsets,
             values: self.values,
+        }
+    }
+
+    /// Returns the validity bitmap, which marks exactly the null slots. It has no bytes if the
+    /// column has no bitmap. Returns `None` for the null layout and for indices, where slots may be
+    /// null without a mark.
+    pub fn null_bitmap(&self) -> Option<&'a [u8]>
+        ensures marks { IfSome result (λ marks. MarksNulls marks.now (slot_values self.now)) }
+        ensures bits { IfSome result (λ marks.
+            has_bitmap (length (slot_values self.now)) (length marks.now) ≡ true) }
+    {
+        match self.layout {
+            Layout::Null | Layout::Indices { .. } => None,
+            _ => Some(self.validity),
         }
     }
 

@@ -8,7 +8,8 @@ ghost use Rattle.ipc_column.specs.checks.Rules.{HasUtf8Texts};
 ghost use Rattle.ipc_column.specs.Values.{row, rows_of, value_of};
 ghost use Rattle.ipc_column.specs.Views.{part_columns, column_of, children_of};
 
-use crate::cell::{Cell, is_valid, own_cell};
+use crate::bitmaps::is_valid;
+use crate::cell::{Cell, own_cell};
 use crate::dictionary::DictionaryValues;
 use crate::ranges::{ColumnRanges, bytes_at};
 use crate::slot_view::{SlotView, slots_of_buffers};

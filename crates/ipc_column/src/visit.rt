@@ -9,8 +9,8 @@ ghost use Rattle.ipc_column.specs.Values.{is_valid};
 ghost use Rattle.ipc_column.specs.Views.{part_columns, column_of, children_of, one};
 ghost use Rattle.ipc_column.specs.checks.Weights.{weight, weight_below};
 
+use crate::bitmaps::is_valid;
 use crate::cause::Cause;
-use crate::cell::is_valid;
 use crate::indices::visit_indices;
 use crate::offsets::{fixed_place, place_at};
 use crate::ranges::{ColumnRanges, bytes_at};

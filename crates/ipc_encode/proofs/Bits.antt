@@ -4,23 +4,25 @@ use Rattle.std.proofs.Common.{length, take, drop, get_or, drop-cons, drop-drop, 
 use Rattle.std.proofs.Common.{take_all, length-append, length-take, replicate, inl, inr, length-drop, add-one}
 use Rattle.std.proofs.Math.ListN.{get_or-eq_default}
 use Rattle.std.proofs.Math.Pow.{pow_mono}
-use Rattle.std.proofs.lemmas.Bool.{and_parts, cases_lt, eqb-true, eqb-false, ne_eqb}
+use Rattle.std.proofs.lemmas.Bool.{cases_lt, eqb-true, eqb-false, ne_eqb}
 use Rattle.std.proofs.lemmas.List.{take-append-le, length-replicate, length-take-le, take_more}
 use Rattle.std.proofs.lemmas.List as lists
 use Rattle.std.proofs.lemmas.Nat.{one_shl}
-use Rattle.std.proofs.lemmas.Nat.Bits.{bit_at-zero, bit_at_lowest, bit_at-suc, bit_at-lt, bit_at_and}
-use Rattle.std.specs.Int.{bit_at, from_bool}
+use Rattle.std.proofs.lemmas.Nat.Bits.{bit_at-zero, bit_at_lowest, bit_at-suc}
+use Rattle.std.specs.Int.{bit_at}
 use Rattle.std.specs.Int.Bits.{or_shifted_r}
-use Rattle.std.specs.Prelude.{◌==◌, slice_set, bit_or, ◌&&◌, bit_and, min}
+use Rattle.std.specs.Prelude.{◌==◌, slice_set, bit_or, not}
 use Rattle.ipc_scalar.specs.Bytes.{bit, clear}
-use Rattle.ipc_model.specs.declared.value.Value.{Value}
+use Rattle.ipc_model.specs.declared.value.Value.{Value, out-Value}
 use Rattle.ipc_model.specs.declared.value.Value.TheVariants.{Null}
+use Rattle.ipc_model.specs.declared.value.Value.TheVariants as v
+use Rattle.ipc_column.specs.Lending.{MarksNulls}
+use Rattle.ipc_column.specs.Slots.{is_null}
 use Rattle.ipc_column.specs.Values.{is_valid}
 use Rattle.ipc_encode.specs.Bitmaps.{flags_number, flags_bytes, bitmap}
 use Rattle.ipc_encode.specs.Cells.{is_set, flags, nulls}
-use Rattle.ipc_encode.specs.Marks.{MarksNulls}
 use Rattle.ipc_encode.specs.Pieces.{Flag, Valid}
-use Rattle.ipc_encode.proofs.Steps.{flags_push, nulls_push}
+use Rattle.ipc_encode.proofs.Steps.{nulls_push}
 use mir.Val.{bool_byte}
 
 -- ---- the bits of packed flags
@@ -419,46 +421,27 @@ pub flags_append : (which : Flag) (vs ws : List Value) → flags which (vs ++ ws
 flags_append which [] ws = refl
 flags_append which (v ∷ vs) ws = ap (λ (fs : List Bool). is_set which v ∷ fs) (flags_append which vs ws)
 
--- ---- bits of two bytes
-
-both_one : (a b : ℕ) → a < 2 → b < 2 → (min a b == 1) ≡ ((a == 1) && (b == 1))
-both_one zero zero h g = refl
-both_one zero (suc zero) h g = refl
-both_one (suc zero) zero h g = refl
-both_one (suc zero) (suc zero) h g = refl
-both_one a (suc (suc b)) h g = absurd (omega arith)
-both_one (suc (suc a)) b h g = absurd (omega arith)
-
--- a bit that is set in both of two numbers
-both_set : (x y r : ℕ) → (bit_at (bit_and x y) r == 1) ≡ ((bit_at x r == 1) && (bit_at y r == 1))
-both_set x y r = ap (λ (n : ℕ). n == 1) (bit_at_and x y r) ∙ both_one (bit_at x r) (bit_at y r) (bit_at-lt x r) (bit_at-lt y r)
-
--- a bit, by its byte
-bit_in_byte : (bs : List ℕ) (k r : ℕ) → r < 8 → bit bs (8 * k + r) ≡ (bit_at (get_or bs k 0) r == 1)
-unfolding bit
-bit_in_byte bs k r h =
-    let byte : (8 * k + r) / 8 ≡ k = omega arith in
-    let place : (8 * k + r) % 8 ≡ r = omega arith in
-    rw (byte, place) refl
-
--- the bits of one byte more, all of which are set in that of another list too
-pub among_next : (xs ys : List ℕ) (k : ℕ) → bit_and (get_or xs k 0) (get_or ys k 0) ≡ get_or xs k 0
-    → ((i : ℕ) → i < 8 * k → bit xs i ≡ true → bit ys i ≡ true) → (i : ℕ) → i < 8 * (k + 1) → bit xs i ≡ true → bit ys i ≡ true
-among_next xs ys k same before i m set = elim (cases_lt i (8 * k)) as (λ _. bit ys i ≡ true) [
-  | inl under ↦ before i under set
-  | inr over ↦
-      let x = get_or xs k 0 in
-      let y = get_or ys k 0 in
-      let r : ℕ = i - 8 * k in
-      let inside : r < 8 = omega (arith, m, over) in
-      let place : 8 * k + r ≡ i = omega (arith, over) in
-      let own : (bit_at x r == 1) ≡ true =
-      sym (bit_in_byte xs k r inside) ∙ (ap (λ (n : ℕ). bit xs n) place ∙ set) in
-      let both = sym (both_set x y r) ∙ (ap (λ (n : ℕ). bit_at n r == 1) same ∙ own) in
-      ap (λ (n : ℕ). bit ys n) (sym place) ∙ (bit_in_byte ys k r inside ∙ (and_parts (bit_at x r == 1) (bit_at y r == 1) both).1)
-]
-
 -- ---- the nulls and the flags of values that a bitmap marks
+
+-- a value is set where it isn't null
+pub set_some : (value : Value) → is_set Valid value ≡ not (is_null value)
+unfolding out-Value denote.Hole.Carrier.out
+set_some v.Null = refl
+set_some value = refl
+
+twice : (b : Bool) → not (not b) ≡ b
+twice true = refl
+twice false = refl
+
+-- which is where its bit is
+pub marked : (b : List ℕ) (vs : List Value) (i : ℕ) → MarksNulls b vs → i < length vs → is_set Valid (get_or vs i Null) ≡ is_valid b i
+marked b vs i h m = set_some (get_or vs i Null) ∙ (ap not (sym (h.each i m)) ∙ twice (is_valid b i))
+
+pub all_marked : (b : List ℕ) (vs : List Value) → ((i : ℕ) → i < length vs → is_set Valid (get_or vs i Null) ≡ is_valid b i)
+    → MarksNulls b vs
+all_marked b vs h = record {
+  each = λ i m. ap not (sym (h i m) ∙ set_some (get_or vs i Null)) ∙ twice (is_null (get_or vs i Null));
+}
 
 -- the nulls of values and of others
 pub nulls_append : (before values : List Value) → nulls (before ++ values) ≡ nulls before + nulls values
@@ -470,7 +453,7 @@ more_nulls : (b : List ℕ) (vs : List Value) (k : ℕ) → MarksNulls b vs → 
     → nulls (take (suc k) vs) ≡ nulls (take k vs) + cond (is_valid b k) 0 1
 more_nulls b vs k h l =
     ap nulls (ap (λ (n : ℕ). take n vs) (sym (add-one k)) ∙ take_more vs k Null l)
-    ∙ (nulls_push (take k vs) (get_or vs k Null) ∙ ap (λ (v : Bool). nulls (take k vs) + cond {A = ℕ} v 0 1) (h.each k l))
+    ∙ (nulls_push (take k vs) (get_or vs k Null) ∙ ap (λ (v : Bool). nulls (take k vs) + cond {A = ℕ} v 0 1) (marked b vs k h l))
 
 -- where there is no bitmap no value is null
 none_so_far : (b : List ℕ) (vs : List Value) (k : ℕ) → MarksNulls b vs → length b ≡ 0 → k ≤ length vs → nulls (take k vs) ≡ 0
@@ -502,13 +485,6 @@ pub clear_nulls : (b : List ℕ) (vs : List Value) → MarksNulls b vs → (leng
 clear_nulls b vs h some =
     clear_is_nulls b vs (length vs) h some (omega arith) ∙ ap nulls (lists.take_all (length vs) vs (omega arith))
 
--- the flags of the values so far and of the next
-pub flags_next : (which : Flag) (vs : List Value) (i : ℕ) (flag : Bool) → i < length vs → flag ≡ is_set which (get_or vs i Null)
-    → flags which (take i vs) ++ flag ∷ [] ≡ flags which (take (i + 1) vs)
-flags_next which vs i flag l same =
-    ap (λ (f : Bool). flags which (take i vs) ++ f ∷ []) same
-    ∙ (sym (flags_push which (take i vs) (get_or vs i Null)) ∙ ap (flags which) (sym (take_more vs i Null l)))
-
 -- no more values are null than there are
 pub nulls_within : (vs : List Value) → nulls vs ≤ length vs
 nulls_within [] = omega arith
@@ -517,15 +493,3 @@ nulls_within (v ∷ vs) = let rest = nulls_within vs in first (is_set Valid v) r
     first : (b : Bool) → nulls vs ≤ length vs → cond {A = ℕ} b 0 1 + nulls vs ≤ suc (length vs)
     first true h = omega (arith, h)
     first false h = omega (arith, h)
-
--- ---- value by value
-
--- the nulls so far and the next
-pub nulls_next : (vs : List Value) (i : ℕ) → i < length vs
-    → nulls (take (i + 1) vs) ≡ nulls (take i vs) + cond (is_set Valid (get_or vs i Null)) 0 1
-nulls_next vs i l = ap nulls (take_more vs i Null l) ∙ nulls_push (take i vs) (get_or vs i Null)
-
--- a flag as a number
-pub flag_small : (flag : Bool) → from_bool flag < 2
-flag_small true = omega arith
-flag_small false = omega arith

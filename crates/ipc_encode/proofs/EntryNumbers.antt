@@ -15,6 +15,7 @@ use Rattle.ipc_model.specs.declared.schema.IntBits.{IntBits}
 use Rattle.ipc_model.specs.declared.value.Value.{Value}
 use Rattle.ipc_model.specs.declared.value.Value.TheOpen.{Value-F}
 use Rattle.ipc_model.specs.declared.value.Value.TheVariants.{Null}
+use Rattle.ipc_column.proofs.Opened.{null_out, unsigned_out}
 use Rattle.ipc_column.specs.Lending.{AreBuffers}
 use Rattle.ipc_column.specs.Lent.{AreOfColumn}
 use Rattle.ipc_column.specs.Nested.{Nested, slot_values}
@@ -27,7 +28,7 @@ use Rattle.ipc_encode.specs.Columns.{validity_bytes}
 use Rattle.ipc_encode.specs.EntryNumbers.{HasNumbers}
 use Rattle.ipc_encode.specs.Numbers.{Numbering, as_number, index_of, index_unless_null, numbers_of}
 use Rattle.ipc_encode.specs.Pieces.{Number, Valid}
-use Rattle.ipc_encode.proofs.Indexed.{null_out, number_at, number_out, numbers_length, validity_same}
+use Rattle.ipc_encode.proofs.Indexed.{number_at, numbers_length, validity_same}
 use Rattle.ipc_encode.proofs.LentBuffers.{buffers_at}
 use Rattle.ipc_encode.proofs.NumberSlots.{slots_next, valid_index}
 use Rattle.ipc_encode.proofs.SegmentColumns.{field_parts}
@@ -45,7 +46,7 @@ module _ (f : Value → ℕ) where
   pub found_number : (value : Value) (found : Option ℕ) → found ≡ index_of f value
       → IfSome found (λ n. n ≡ number_bits (as_number (index_of f value)))
   found_number value None e = tt
-  found_number value (Some n) e = sym (ap bits_in (number_out n)) ∙ ap (λ (o : Option ℕ). number_bits (as_number o)) e
+  found_number value (Some n) e = sym (ap bits_in (unsigned_out n)) ∙ ap (λ (o : Option ℕ). number_bits (as_number o)) e
 
   -- a value that has one is valid
   pub found_valid : (value : Value) (found : Option ℕ) (valid : Bool) → found ≡ index_of f value → valid ≡ true → is_some found ≡ true

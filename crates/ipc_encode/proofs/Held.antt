@@ -1,7 +1,6 @@
 -- Rows that columns hold, within the limits.
 use Rattle.std.proofs.Common.{refl, ◌≡◌, ◌∙◌, sym, ap, subst, ℕ, suc, ◌+◌, ◌<◌, ◌≤◌, List, [], ◌∷◌, ◌++◌, length, take, arith, inl}
 use Rattle.std.proofs.Common.{inr, append_assoc, false, Result, Ok, Err, IfErr}
-use Rattle.std.proofs.lemmas.Bool.{cases_lt}
 use Rattle.ipc_model.specs.declared.fault.WriteFault.TheVariants as fault
 use Rattle.ipc_model.specs.declared.layout.Layout.{Layout}
 use Rattle.ipc_model.specs.declared.limits.Limits.{Limits}
@@ -140,10 +139,6 @@ rows_refused limits fields rows push.TooMany h = inr h
 rows_refused limits fields rows push.DictionaryFull h = absurd h
 rows_refused limits fields rows push.Failed h = absurd h
 rows_refused limits fields rows _ h = h
-
--- there is room for a row where there are not as many as there may be
-pub not_full : (rows slots : ℕ) → (slots ≤ rows → ⊥) → rows < slots
-not_full rows slots h = elim (cases_lt rows slots) as (λ _. rows < slots) [ inl x ↦ x | inr g ↦ absurd (h g) ]
 
 -- only memory is wanting for rows that are within the limits
 pub only_memory : (limits : Limits) (fields : List Field) (rows : List (List Value)) (e : PushFault) → IsWithin limits fields rows

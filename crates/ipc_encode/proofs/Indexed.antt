@@ -7,12 +7,13 @@ use Rattle.std.proofs.lemmas.Bool.{cases_lt}
 use Rattle.ipc_model.specs.declared.limits.Limits.{Limits}
 use Rattle.ipc_model.specs.declared.schema.Field.{Field}
 use Rattle.ipc_model.specs.declared.schema.IntBits.{IntBits}
-use Rattle.ipc_model.specs.declared.value.Value.{Value, out-Value, out-roll-Value}
+use Rattle.ipc_model.specs.declared.value.Value.{Value, out-Value}
 use Rattle.ipc_model.specs.declared.value.Value.TheOpen.{Value-F}
 use Rattle.ipc_model.specs.declared.value.Value.TheVariants as v
 use Rattle.ipc_model.specs.declared.layout.Layout.{Layout}
 use Rattle.ipc_model.specs.declared.layout.Layout.TheVariants as l
 use Rattle.ipc_model.specs.Layouts.{has_validity, number_bytes}
+use Rattle.ipc_column.proofs.Opened.{null_out, unsigned_out}
 use Rattle.ipc_column.specs.Shapes.{Shape, bare, field, shape_of}
 use Rattle.ipc_encode.specs.declared.column.ColumnBuilder.{ColumnBuilder}
 use Rattle.ipc_encode.specs.declared.tree.Node.{Node}
@@ -37,18 +38,12 @@ use Rattle.ipc_encode.proofs.Sizes.{column_size, column_length}
 
 -- ---- the number of one value
 
-pub null_out : out-Value v.Null ≡ Value-F.Null
-null_out = ap out-Value (sym v.rolls-Null) ∙ out-roll-Value Value-F.Null
-
-pub number_out : (i : ℕ) → out-Value (v.UInt i) ≡ Value-F.UInt i
-number_out i = ap out-Value (sym (v.rolls-UInt i)) ∙ out-roll-Value (Value-F.UInt i)
-
 -- the number of a value is null exactly where the value is
 flag_number : (f : Value → ℕ) (value : Value) → is_set Valid (as_number (index_of f value)) ≡ is_set Valid value
 flag_number f value = by (out-Value value)
   where
     some : is_set Valid (v.UInt (f value)) ≡ true
-    some = rw (number_out (f value)) refl
+    some = rw (unsigned_out (f value)) refl
 
     by : (w : Value-F Value) → is_set Valid (as_number (index_unless_null (f value) w)) ≡ not (is_null w)
     by Value-F.Null = rw null_out refl

@@ -7,10 +7,9 @@ use Rattle.std.proofs.Math.Seq.{take-add}
 use Rattle.std.proofs.lemmas.Bool.{eqb-false, eqb-true, false≢true, leb-true, ne_eqb, cases_lt}
 use Rattle.std.proofs.lemmas.Int.{ints, to_z-of_z, to_z_pos}
 use Rattle.std.proofs.lemmas.List.{drop-drop, take_all, take_more, length-take-le}
-use Rattle.std.proofs.lemmas.Option.{get_or_from_slice_get}
 use Rattle.std.specs.Int.{bytes_low_first, w32, cast_signed}
 use Rattle.std.specs.List.{AllByRecursion}
-use Rattle.std.specs.Prelude.{ℤ, not, slice_range, ◌==◌, ◌&&◌, ◌||◌, nat_le, pos, negsuc, int_le, unsigned_abs}
+use Rattle.std.specs.Prelude.{not, slice_range, ◌==◌, ◌&&◌, pos, negsuc, int_le, unsigned_abs}
 use Rattle.ipc_scalar.specs.Bytes.{bit, clear, num}
 use Rattle.ipc_model.specs.Layouts.{number_bytes}
 use Rattle.ipc_model.specs.Limits.{max_data}
@@ -18,99 +17,43 @@ use Rattle.ipc_model.specs.declared.layout.Layout.{Layout}
 use Rattle.ipc_model.specs.declared.layout.Layout.TheVariants as l
 use Rattle.ipc_model.specs.declared.schema.IntBits.{IntBits}
 use Rattle.ipc_model.specs.declared.schema.IntBits.TheVariants.{B8, B32}
-use Rattle.ipc_model.specs.declared.value.Value.{Value, out-Value, out-roll-Value}
-use Rattle.ipc_model.specs.declared.value.Value.TheOpen.{Value-F}
+use Rattle.ipc_model.specs.declared.value.Value.{Value}
 use Rattle.ipc_model.specs.declared.value.Value.TheVariants.{Null}
 use Rattle.ipc_model.specs.declared.value.Value.TheVariants as v
 use Rattle.ipc_column.proofs.Found.{items_first}
-use Rattle.ipc_column.proofs.visited.Leads.{bytes_rise}
+use Rattle.ipc_column.proofs.visited.Leads.{bytes_rise, nothing_null}
 use Rattle.ipc_column.proofs.lending.Lendings.{lent_bitmap, lent_values, lent_offsets, lent_order}
+use Rattle.ipc_column.proofs.Opened.{bytes_out, null_out, text_out, truth_out}
 use Rattle.ipc_column.proofs.Plain.{items_each}
+use Rattle.ipc_column.proofs.SlotValues.{TellsNulls, column_marked, slot_count, slot_is}
 use Rattle.ipc_column.proofs.lending.Slices.{above_in, places}
-use Rattle.ipc_column.proofs.lending.Slots.{items_length, bytes_from}
+use Rattle.ipc_column.proofs.lending.Slots.{bytes_from}
 use Rattle.ipc_column.specs.checks.Checks.{has_bitmap, are_ascending}
-use Rattle.ipc_column.specs.Lending.{AreBuffers, AreNumbers}
+use Rattle.ipc_column.specs.Lending.{AreBuffers, AreNumbers, MarksNulls}
 use Rattle.ipc_column.specs.Nested.{Nested, child_columns, slot_values, only_column}
 use Rattle.ipc_column.specs.checks.Rules.{IsText, HasUtf8Texts}
-use Rattle.ipc_column.specs.Values.{between, is_valid, own_value, row, signed_at, value_of, offset_position}
+use Rattle.ipc_column.specs.Values.{between, is_valid, own_value, row, value_of, offset_position}
 use Rattle.ipc_column.specs.declared.buffers.Buffers.{Buffers}
 use Rattle.ipc_column.specs.declared.buffers.Numbers.{Numbers}
-use Rattle.ipc_encode.specs.Cells.{fixed_in, is_null, is_set, is_true, nulls, slot_bytes, slots, ends, flags, offsets, HasUtf8}
+use Rattle.ipc_encode.specs.Cells.{fixed_in, is_set, is_true, nulls, slot_bytes, slots, ends, flags, offsets, HasUtf8}
 use Rattle.ipc_encode.specs.Cells.{SpellsOut, bytes_in, content}
-use Rattle.ipc_encode.specs.Marks.{HasBits, MarksNulls}
 use Rattle.ipc_encode.specs.Pieces.{Fixed, True, Valid, ValueSlot, Number, Bytes, Content, Run}
 use Rattle.ipc_encode.specs.WholeColumns.{is_taken_whole}
 use Rattle.ipc_encode.specs.Writing.{AreStored}
-use Rattle.ipc_encode.proofs.Bits.{clear_nulls, flag_at, unmarked}
-use Rattle.ipc_encode.proofs.NumberSlots.{null_out, signed_out, slots_next, unsigned_out, null_slot, valid_slot}
+use Rattle.ipc_encode.proofs.Bits.{clear_nulls, flag_at, set_some, unmarked}
+use Rattle.ipc_encode.proofs.NumberSlots.{slots_next, null_slot, valid_slot}
 use Rattle.ipc_encode.proofs.NumberSlots.{num_small, unsigned_bytes}
 use Rattle.ipc_encode.proofs.Sizes.{content_data}
 use Rattle.ipc_encode.proofs.Steps.{bytes_extents, ends_push, extents, of_size}
 
 -- ---- what the buffers of a column that was read hold, as those of a column that is built hold it
 
--- ---- values, opened
-
-pub truth_out : (b : Bool) → out-Value (v.Bool b) ≡ Value-F.Bool b
-truth_out b = ap out-Value (sym (v.rolls-Bool b)) ∙ out-roll-Value (Value-F.Bool b)
-
-pub bytes_out : (bs : List ℕ) → out-Value (v.Bytes bs) ≡ Value-F.Bytes bs
-bytes_out bs = ap out-Value (sym (v.rolls-Bytes bs)) ∙ out-roll-Value (Value-F.Bytes bs)
-
-pub text_out : (bs : List ℕ) → out-Value (v.Text bs) ≡ Value-F.Text bs
-text_out bs = ap out-Value (sym (v.rolls-Text bs)) ∙ out-roll-Value (Value-F.Text bs)
-
-pub list_out : (vs : List Value) → out-Value (v.List vs) ≡ Value-F.List vs
-list_out vs = ap out-Value (sym (v.rolls-List vs)) ∙ out-roll-Value (Value-F.List vs)
-
-pub struct_out : (vs : List Value) → out-Value (v.Struct vs) ≡ Value-F.Struct vs
-struct_out vs = ap out-Value (sym (v.rolls-Struct vs)) ∙ out-roll-Value (Value-F.Struct vs)
-
-set_by : (value : Value) (f : Value-F Value) → out-Value value ≡ f → is_set Valid value ≡ not (is_null f)
-set_by value f e = ap (λ (f : Value-F Value). not (is_null f)) e
-
 -- ---- slots
-
--- how many slots there are
-pub slot_count : (s : Nested) → length (slot_values s) ≡ s.column.slots
-slot_count s = items_length (value_of (row (child_columns s)) s.column) 0 s.column.slots
-
--- the value of a slot
-pub slot_is : (s : Nested) (i : ℕ) → i < length (slot_values s)
-    → get_or (slot_values s) i Null ≡ value_of (row (child_columns s)) s.column i
-slot_is s i m =
-    let count = slot_count s in
-    get_or_from_slice_get (slot_values s) i (value_of (row (child_columns s)) s.column i) Null
-    (items_first (value_of (row (child_columns s)) s.column) s.column.slots i (omega (arith, m, count)))
-
--- the layouts whose bitmap says which slots are null
-abbrev pub TellsNulls : Layout → Type 0
-TellsNulls layout = (layout ≡ l.Null → ⊥) × ((bits : IntBits) (signed : Bool) (id : ℤ) → layout ≡ l.Indices bits signed id → ⊥)
 
 -- a valid slot of these isn't null
 pub own_set : (layout : Layout) (d : List Value) (under : ℕ → List Value) (o w : List ℕ) (i : ℕ) → TellsNulls layout
     → is_set Valid (own_value layout d under o w i) ≡ true
-own_set l.Null d under o w i h = absurd (h.0 refl)
-own_set (l.Indices bits signed id) d under o w i h = absurd (h.1 bits signed id refl)
-own_set l.Bits d under o w i h = set_by _ _ (truth_out (bit w i))
-own_set (l.Numbers bits true) d under o w i h = set_by _ _ (signed_out (signed_at bits w (number_bytes bits * i)))
-own_set (l.Numbers bits false) d under o w i h = set_by _ _ (unsigned_out (num w (number_bytes bits * i) (number_bytes bits)))
-own_set (l.FixedBytes width) d under o w i h = set_by _ _ (bytes_out (slice_range w (width * i) (width * i + width)))
-own_set (l.VariableBytes true) d under o w i h = set_by _ _ (text_out (between o w i))
-own_set (l.VariableBytes false) d under o w i h = set_by _ _ (bytes_out (between o w i))
-own_set l.Structs d under o w i h = set_by _ _ (struct_out (under i))
-own_set _ d under o w i h = set_by _ _ (list_out _)
-
--- the bitmap of a column says which slots are null
-pub column_marked : (s : Nested) → TellsNulls s.column.layout → MarksNulls s.column.validity (slot_values s)
-column_marked s tells = record { each = λ i m. ap (is_set Valid) (slot_is s i m) ∙ either i (is_valid s.column.validity i) }
-  where
-    either : (i : ℕ) (valid : Bool)
-        → is_set Valid
-        (cond valid (own_value s.column.layout s.column.dictionary (row (child_columns s)) s.column.offsets s.column.values i) v.Null)
-        ≡ valid
-    either i true = own_set s.column.layout s.column.dictionary (row (child_columns s)) s.column.offsets s.column.values i tells
-    either i false = ap (λ (f : Value-F Value). not (is_null f)) null_out
+own_set layout d under o w i h = set_some (own_value layout d under o w i) ∙ ap not (nothing_null layout d under o w i h.0 h.1)
 
 module _ (s : Nested) (b : Buffers) (h : AreBuffers s b) where
   -- what stands in a slot, by the bit of its column's bitmap
@@ -120,27 +63,15 @@ module _ (s : Nested) (b : Buffers) (h : AreBuffers s b) where
       v.Null
   buffers_at i m = slot_is s i m ∙ rw (h.validity, h.layout, h.offsets, h.values) refl
 
-  -- the bitmap says which are null
-  pub buffers_marked : TellsNulls b.layout → MarksNulls b.validity.now (slot_values s)
-  buffers_marked tells =
-      subst (λ (bs : List ℕ). MarksNulls bs (slot_values s)) (sym h.validity) (column_marked s (subst TellsNulls h.layout tells))
+  -- its bitmap has a bit for each slot, if there is one
+  pub buffers_bits : (count : ℕ) → count ≡ length (slot_values s) → has_bitmap count (length b.validity.now) ≡ true
+  buffers_bits count size =
+      subst (λ (n : ℕ). has_bitmap n (length b.validity.now) ≡ true) (sym (size ∙ slot_count s))
+      (subst (λ (bs : List ℕ). has_bitmap s.column.slots (length bs) ≡ true) (sym h.validity) (lent_bitmap s b h))
 
-  -- and has a bit for each
-  pub buffers_bits : HasBits b.validity.now (length (slot_values s))
-  buffers_bits some =
-      let count = slot_count s in
-      let size = ap (λ (bs : List ℕ). length bs) h.validity in
-      let enough = bits_from s.column.slots (length s.column.validity) (lent_bitmap s b h) (omega (arith, some, size)) in
-      omega (arith, enough, count, size)
-    where
-      either : (x y : Bool) → (x || y) ≡ true → x ≡ false → y ≡ true
-      either true y e clear = absurd (cc)
-      either false y e clear = e
-
-      bits_from : (n bytes : ℕ) → has_bitmap n bytes ≡ true → 0 < bytes → n ≤ 8 * bytes
-      bits_from n bytes e some =
-          let most = leb-true ((n + 7) / 8) bytes (either (bytes == 0) (nat_le ((n + 7) / 8) bytes) e (ne_eqb bytes 0 (omega arith))) in
-          omega (arith, most)
+-- a bit for each of so many slots is enough
+pub bits_enough : (n bytes : ℕ) → n ≤ 8 * bytes → has_bitmap n bytes ≡ true
+bits_enough n bytes h = grind arith
 
 -- where the bitmap marks the nulls, its clear bits are their number
 pub marked_count : (marks : List ℕ) (vs : List Value) (count : ℕ) → MarksNulls marks vs
@@ -158,16 +89,6 @@ pub whole_marked : (s : Nested) → is_taken_whole s.column.layout ≡ true → 
     → MarksNulls s.column.validity (slot_values s)
 whole_marked s whole some = column_marked s
     (some, λ bits signed id is. absurd (false≢true (subst (λ (x : Layout). is_taken_whole x ≡ true) is whole)))
-
--- a column of nulls has nothing but nulls
-pub nothing_stands : (s : Nested) → s.column.layout ≡ l.Null → (i : ℕ) → i < length (slot_values s) → get_or (slot_values s) i Null ≡ Null
-nothing_stands s e i m = slot_is s i m ∙ either (is_valid s.column.validity i)
-  where
-    either : (valid : Bool)
-        → cond valid (own_value s.column.layout s.column.dictionary (row (child_columns s)) s.column.offsets s.column.values i) v.Null
-        ≡ Null
-    either true = rw e refl
-    either false = refl
 
 -- ---- numbers
 

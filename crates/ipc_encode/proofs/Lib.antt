@@ -19,6 +19,5 @@ pub mod Cutting
 pub mod FirstSlots
 pub mod HeldValues
 pub mod Reading
-pub mod FittingColumns
 pub mod SegmentColumns
 pub mod EntryNumbers

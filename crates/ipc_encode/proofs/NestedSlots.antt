@@ -1,6 +1,6 @@
 -- Lists and structs that use all slots of their children.
 use Rattle.std.proofs.Common.{◌≡◌, ◌∙◌, refl, sym, ap, subst, ℕ, zero, suc, ◌+◌, ◌-◌, ◌*◌, ◌<◌, ◌≤◌, Bool, true, false, cond, List, []}
-use Rattle.std.proofs.Common.{◌∷◌, ◌++◌, length, map, get_or, take, replicate, Option, Some, None, arith, inl, inr}
+use Rattle.std.proofs.Common.{◌∷◌, ◌++◌, length, map, get_or, take, replicate, Some, arith, inl, inr}
 use Rattle.std.proofs.lemmas.Bool.{and_parts, false≢true, cases_lt}
 use Rattle.std.proofs.lemmas.List.{append-nil, take_all}
 use Rattle.std.proofs.lemmas.Option.{none-some}
@@ -8,77 +8,39 @@ use Rattle.std.specs.Prelude.{slice_get, ◌&&◌, not}
 use Rattle.ipc_model.specs.Limits.{max_data}
 use Rattle.ipc_model.specs.declared.layout.Layout.{Layout}
 use Rattle.ipc_model.specs.declared.layout.Layout.TheVariants as l
-use Rattle.ipc_model.specs.declared.value.Value.{Value, out-Value}
+use Rattle.ipc_model.specs.declared.value.Value.{Value}
 use Rattle.ipc_model.specs.declared.value.Value.TheOpen.{Value-F}
 use Rattle.ipc_model.specs.declared.value.Value.TheVariants.{Null}
 use Rattle.ipc_model.specs.declared.value.Value.TheVariants as v
 use Rattle.ipc_column.proofs.Cells.{items_more}
 use Rattle.ipc_column.proofs.lending.Lendings.{lent_offsets, lent_order}
+use Rattle.ipc_column.proofs.Opened.{list_out, null_out, struct_out}
 use Rattle.ipc_column.proofs.Parts.{children_out}
+use Rattle.ipc_column.proofs.SlotValues.{cell_value, child_value, first_value, null_only, slot_count, slot_is, some_same}
 use Rattle.ipc_column.proofs.lending.Slices.{places}
 use Rattle.ipc_column.proofs.lending.Slots.{bytes_from, items_length, order_from}
 use Rattle.ipc_column.specs.checks.Checks.{are_ascending, have_slots}
 use Rattle.ipc_column.specs.Columns.{Columns}
-use Rattle.ipc_column.specs.Lending.{AreBuffers}
+use Rattle.ipc_column.specs.Lending.{AreBuffers, MarksNulls}
 use Rattle.ipc_column.specs.Nested.{Nested, child_columns, slot_values, only_column}
 use Rattle.ipc_column.specs.checks.Rules.{IsText, HasUtf8Texts}
 use Rattle.ipc_column.specs.Shapes.{Shape, bare, field}
-use Rattle.ipc_column.specs.Slots.{is_null, nested, nested_in}
+use Rattle.ipc_column.specs.Slots.{nested, nested_in}
 use Rattle.ipc_column.specs.Values.{first_of, is_valid, items, own_value, offset_position, row, value_of}
 use Rattle.ipc_column.specs.Views.{part_columns, column_of, children_of}
 use Rattle.ipc_column.specs.declared.buffers.Buffers.{Buffers}
 use Rattle.ipc_column.specs.declared.ranges.ColumnRanges.{ColumnRanges}
 use Rattle.ipc_encode.specs.Cells.{all_items, all_parts, cell, is_set, items_in, offsets, struct_member, part_in}
 use Rattle.ipc_encode.specs.Cells as cells
-use Rattle.ipc_encode.specs.Marks.{MarksNulls}
 use Rattle.ipc_encode.specs.Columns.{data_in}
 use Rattle.ipc_encode.specs.Pieces.{Items, Valid}
 use Rattle.ipc_encode.specs.WholeColumns.{AreFullColumns, IsFullColumn}
 use Rattle.ipc_encode.proofs.Growing.{IsAt}
-use Rattle.ipc_encode.proofs.LentBuffers.{offsets_lie, buffers_at, list_out, slot_count, slot_is, struct_out, place_few, place_is}
+use Rattle.ipc_encode.proofs.LentBuffers.{offsets_lie, buffers_at, place_few, place_is}
 use Rattle.ipc_encode.proofs.LentBuffers.{own_set, start_of}
-use Rattle.ipc_encode.proofs.NumberSlots.{null_out}
 use Rattle.ipc_encode.proofs.Steps.{below_append, extents, items_extents, items_next}
 
 -- ---- the slots of the children of a column that was read, where they are those that its slots lead to
-
--- ---- children
-
--- the value of a slot of a child, as its column's value
-abbrev pub child_value : Nested → ℕ → Value
-child_value n j = value_of (row (child_columns n)) n.column j
-
-part_value : (body : List ℕ) (p : ColumnRanges) (j : ℕ)
-    → value_of (row (children_of body p)) (column_of body p) j ≡ child_value (nested body p) j
-part_value body p j = ap (λ (cs : Columns). value_of (row cs) (column_of body p) j) (children_out body p)
-
-pub some_same : (a b : Nested) → Some a ≡ Some b → a ≡ b
-some_same a b h = ap (λ (o : Option Nested). out o) h
-  where
-    out : Option Nested → Nested
-    out (Some x) = x
-    out None = a
-
--- the value of a slot in the first column is that of the first child
-first_value : (s child : Nested) (j : ℕ) → slice_get (nested_in s) 0 ≡ Some child
-    → first_of (row (child_columns s) j) ≡ child_value child j
-first_value s child j e = first s.children e
-  where
-    first : (ps : List ColumnRanges) → slice_get (map (nested s.body) ps) 0 ≡ Some child
-        → first_of (row (part_columns s.body ps) j) ≡ child_value child j
-    first [] e = absurd (none-some child e)
-    first (p ∷ ps) e = part_value s.body p j ∙ ap (λ (n : Nested). child_value n j) (some_same (nested s.body p) child e)
-
--- the value of a slot in column k is that of child k
-pub cell_value : (s child : Nested) (k j : ℕ) → slice_get (nested_in s) k ≡ Some child
-    → cell k (row (child_columns s) j) ≡ child_value child j
-cell_value s child k j e = at s.children k e
-  where
-    at : (ps : List ColumnRanges) (k : ℕ) → slice_get (map (nested s.body) ps) k ≡ Some child
-        → cell k (row (part_columns s.body ps) j) ≡ child_value child j
-    at [] k e = absurd (none-some child e)
-    at (p ∷ ps) zero e = part_value s.body p j ∙ ap (λ (n : Nested). child_value n j) (some_same (nested s.body p) child e)
-    at (p ∷ ps) (suc k) e = at ps k e
 
 -- ---- runs of slots
 
@@ -316,18 +278,6 @@ struct_gives s child b k h e is size empty =
     either i m true e' = own b.layout i e ∙ (cell_value s child k i is ∙ sym (slot_is child i (omega (arith, m, size))))
     either i m false e' = ap (part_in k) null_out ∙ sym (empty i m e')
 
--- a value that is null
-pub null_only : (value : Value) → is_null value ≡ true → value ≡ v.Null
-unfolding out-Value denote.Hole.Carrier.out
-null_only v.Null e = refl
-null_only value e = absurd (cc)
-
--- a value that is null by the bitmap of its column
-clear_only : (value : Value) → is_set Valid value ≡ false → value ≡ v.Null
-unfolding out-Value denote.Hole.Carrier.out
-clear_only v.Null e = refl
-clear_only value e = absurd (cc)
-
 -- a slot that is null where another column is, all of whose slots are valid that are so in its own
 pub shared_null : (own marks : List ℕ) (vs : List Value) (i : ℕ) → i < length vs → MarksNulls own vs
     → (is_valid own i ≡ true → is_valid marks i ≡ true) → is_valid marks i ≡ false → get_or vs i Null ≡ Null
@@ -335,7 +285,7 @@ shared_null own marks vs i m marked among null = either (is_valid own i) refl
   where
     either : (valid : Bool) → is_valid own i ≡ valid → get_or vs i Null ≡ Null
     either true e = absurd (false≢true (sym null ∙ among e))
-    either false e = clear_only (get_or vs i Null) (marked.each i m ∙ e)
+    either false e = null_only (get_or vs i Null) (sym (marked.each i m) ∙ ap not e)
 
 -- ---- the texts of children whose slots are those that the slots of their column lead to
 

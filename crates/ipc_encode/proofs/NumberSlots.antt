@@ -16,10 +16,10 @@ use Rattle.ipc_model.specs.Layouts.{number_bytes}
 use Rattle.ipc_model.specs.declared.layout.Layout.TheVariants as l
 use Rattle.ipc_model.specs.declared.schema.IntBits.{IntBits}
 use Rattle.ipc_model.specs.declared.schema.IntBits.TheVariants.{B8, B16, B32, B64}
-use Rattle.ipc_model.specs.declared.value.Value.{Value, out-Value, out-roll-Value}
+use Rattle.ipc_model.specs.declared.value.Value.{Value, out-Value}
 use Rattle.ipc_model.specs.declared.value.Value.TheOpen.{Value-F}
 use Rattle.ipc_model.specs.declared.value.Value.TheVariants.{Null}
-use Rattle.ipc_model.specs.declared.value.Value.TheVariants as v
+use Rattle.ipc_column.proofs.Opened.{bytes_out, list_out, null_out, signed_out, struct_out, text_out, truth_out, unsigned_out}
 use Rattle.ipc_column.specs.Lending.{AreNumbers, lent_number}
 use Rattle.ipc_column.specs.Nested.{Nested, slot_values}
 use Rattle.ipc_column.specs.Slots.{value_in_slot}
@@ -137,17 +137,6 @@ unsigned_bytes bits b p small h =
     let none : num b p (number_bytes bits) ≡ num b p (number_bytes bits) + 256 ^ number_bytes bits * 0 = omega arith in
     ap (λ (n : ℕ). bytes_low_first 0 (number_bytes bits) n) none ∙ low_bytes (number_bytes bits) p 0 b small h
 
--- ---- values, opened
-
-pub null_out : out-Value v.Null ≡ Value-F.Null
-null_out = ap out-Value (sym v.rolls-Null) ∙ out-roll-Value Value-F.Null
-
-pub signed_out : (z : ℤ) → out-Value (v.Int z) ≡ Value-F.Int z
-signed_out z = ap out-Value (sym (v.rolls-Int z)) ∙ out-roll-Value (Value-F.Int z)
-
-pub unsigned_out : (n : ℕ) → out-Value (v.UInt n) ≡ Value-F.UInt n
-unsigned_out n = ap out-Value (sym (v.rolls-UInt n)) ∙ out-roll-Value (Value-F.UInt n)
-
 -- what a list has where it grew
 pub grown : {T E : Type 0} (r : Result T E) (new more old : List ℕ) → new ≡ cond (is_ok r) more old → OnOk r (new ≡ more)
 grown (Ok x) new more old e = e
@@ -220,16 +209,14 @@ module _ (under : ℕ → List Value) (i : ℕ) where
   opened slot.Struct = Value-F.Struct (under i)
 
   pub shown_out : (x : Slot) → out-Value (value_in_slot under i x) ≡ opened x
-  shown_out slot.Null = ap out-Value (sym v.rolls-Null) ∙ out-roll-Value Value-F.Null
-  shown_out (slot.Bool truth) = ap out-Value (sym (v.rolls-Bool truth)) ∙ out-roll-Value (Value-F.Bool truth)
-  shown_out (slot.Int number) = ap out-Value (sym (v.rolls-Int number)) ∙ out-roll-Value (Value-F.Int number)
-  shown_out (slot.UInt number) = ap out-Value (sym (v.rolls-UInt number)) ∙ out-roll-Value (Value-F.UInt number)
-  shown_out (slot.Bytes bytes) = ap out-Value (sym (v.rolls-Bytes bytes.now)) ∙ out-roll-Value (Value-F.Bytes bytes.now)
-  shown_out (slot.Text bytes) = ap out-Value (sym (v.rolls-Text bytes.now)) ∙ out-roll-Value (Value-F.Text bytes.now)
-  shown_out (slot.List from to) =
-      let vs = values.items (λ j. first_of (under j)) from (to - from) in
-      ap out-Value (sym (v.rolls-List vs)) ∙ out-roll-Value (Value-F.List vs)
-  shown_out slot.Struct = ap out-Value (sym (v.rolls-Struct (under i))) ∙ out-roll-Value (Value-F.Struct (under i))
+  shown_out slot.Null = null_out
+  shown_out (slot.Bool truth) = truth_out truth
+  shown_out (slot.Int number) = signed_out number
+  shown_out (slot.UInt number) = unsigned_out number
+  shown_out (slot.Bytes bytes) = bytes_out bytes.now
+  shown_out (slot.Text bytes) = text_out bytes.now
+  shown_out (slot.List from to) = list_out (values.items (λ j. first_of (under j)) from (to - from))
+  shown_out slot.Struct = struct_out (under i)
 
   pub items_are : (x : Slot) → items (value_in_slot under i x) ≡ items_in (opened x)
   items_are x = ap items_in (shown_out x)

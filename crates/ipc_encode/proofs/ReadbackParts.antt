@@ -20,6 +20,7 @@ use Rattle.ipc_model.specs.declared.schema.IntBits.TheVariants.{B8, B16, B32, B6
 use Rattle.ipc_model.specs.declared.value.Value.{Value, out-Value}
 use Rattle.ipc_model.specs.declared.value.Value.TheOpen.{Value-F}
 use Rattle.ipc_model.specs.declared.value.Value.TheVariants as v
+use Rattle.ipc_column.proofs.Opened.{unsigned_out}
 use Rattle.ipc_column.specs.Columns.{Column}
 use Rattle.ipc_column.specs.Dictionaries.{Dictionaries, values_for}
 use Rattle.ipc_column.specs.checks.Rules.{AreOffsets, HoldValues, HoldOffsets, IsLongEnough, HasWholeBitmap, CountsNulls}
@@ -35,7 +36,7 @@ use Rattle.ipc_encode.specs.Numbers.{Numbering, numbers_of, index_unless_null, a
 use Rattle.ipc_encode.specs.Pieces.{Valid, True, Run, ValueSlot, Number, Fixed, Content}
 use Rattle.ipc_encode.specs.Pieces as p
 use Rattle.ipc_encode.proofs.Bits.{length_bytes, bit_of, flags_length, clear_is}
-use Rattle.ipc_encode.proofs.Indexed.{numbers_length, number_out, number_at}
+use Rattle.ipc_encode.proofs.Indexed.{numbers_length, number_at}
 use Rattle.ipc_encode.proofs.Ranges.{cut_behind}
 use Rattle.ipc_encode.proofs.Steps.{fixed_length}
 
@@ -471,7 +472,7 @@ number_of_slot f vs i w k e valid =
     ∙ by w valid
   where
     some : number_bits (v.UInt (f (get_or vs i v.Null))) ≡ f (get_or vs i v.Null)
-    some = rw (number_out (f (get_or vs i v.Null))) refl
+    some = rw (unsigned_out (f (get_or vs i v.Null))) refl
 
     by : (x : Value-F Value) → is_null x ≡ false
         → number_bits (as_number (index_unless_null (f (get_or vs i v.Null)) x)) ≡ f (get_or vs i v.Null)

@@ -1,6 +1,6 @@
 -- Columns that are added one after another to a list of segments.
 use Rattle.std.proofs.Common.{◌≡◌, ◌∙◌, refl, sym, ap, ℕ, zero, suc, ◌+◌, ◌<◌, ◌≤◌, List, [], ◌∷◌, ◌++◌, length, take, get_or}
-use Rattle.std.proofs.Common.{append_assoc, arith, Some, slice_get, length-append, ℤ, pos, subst, ◌-◌, inl, inr}
+use Rattle.std.proofs.Common.{append_assoc, arith, Some, slice_get, length-append, ℤ, pos, subst, inl, inr}
 use Rattle.std.proofs.Common.{true}
 use Rattle.std.proofs.lemmas.Bool.{cases_lt, false≢true}
 use Rattle.std.proofs.lemmas.List.{append-nil, take_more}

@@ -5,18 +5,14 @@ use Rattle.std.proofs.lemmas.List.{length-replicate}
 use Rattle.std.specs.Int.{bytes_low_first}
 use Rattle.std.specs.Prelude.{◌==◌, ℤ, ⊤}
 use Rattle.ipc_scalar.proofs.Places.{length_low_bytes}
-use Rattle.ipc_model.proofs.FitsLemmas.{fits_parts}
-use Rattle.ipc_model.specs.Fits.{Fits, EachFits, InnerFit, FitsOwnType}
+use Rattle.ipc_model.specs.Fits.{Fits, EachFits}
 use Rattle.ipc_model.specs.Layouts.{number_bytes}
 use Rattle.ipc_model.specs.declared.layout.Layout.{Layout}
 use Rattle.ipc_model.specs.declared.layout.Layout.TheVariants as l
 use Rattle.ipc_model.specs.declared.limits.Limits.{Limits}
-use Rattle.ipc_model.specs.declared.schema.DataType.{DataType}
-use Rattle.ipc_model.specs.declared.schema.DataType.TheVariants as t
-use Rattle.ipc_model.specs.declared.schema.Field.{Field, out-Field}
+use Rattle.ipc_model.specs.declared.schema.Field.{Field}
 use Rattle.ipc_model.specs.declared.schema.IntBits.{IntBits}
-use Rattle.ipc_model.specs.declared.value.Value.{Value, out-Value}
-use Rattle.ipc_model.specs.declared.value.Value.TheOpen.{Value-F}
+use Rattle.ipc_model.specs.declared.value.Value.{Value}
 use Rattle.ipc_column.specs.Shapes.{Shape, bare, field}
 use Rattle.ipc_encode.specs.Bitmaps.{bitmap}
 use Rattle.ipc_encode.specs.Buffers.{padded_buffer, padded_bytes, piece_bytes, column_buffers, child_values}
@@ -238,32 +234,6 @@ counted_size limits layout vs counts h =
     same _ = refl
 
 -- ---- what fits
-
-pub nothing_inside : (kind : DataType) (v : Value-F Value) → InnerFit Fits kind [] v
-nothing_inside t.List v = tt
-nothing_inside (t.FixedSizeList size) v = tt
-nothing_inside t.Struct (Value-F.Struct vs) = tt
-nothing_inside t.Struct v = tt
-nothing_inside t.Null v = tt
-nothing_inside t.Bool v = tt
-nothing_inside (t.Int bits signed) v = tt
-nothing_inside t.Binary v = tt
-nothing_inside t.Utf8 v = tt
-nothing_inside (t.FixedSizeBinary size) v = tt
-nothing_inside (t.Date unit) v = tt
-nothing_inside (t.Timestamp unit timezone) v = tt
-nothing_inside (t.Time unit) v = tt
-nothing_inside (t.Duration unit) v = tt
-
--- one of the field's own fits a field without children
-pub own_fits : (f : Field) (v : Value) → length (out-Field f).children ≡ 0
-    → FitsOwnType (out-Field f).kind (out-Field f).nullable (length (out-Field f).children) (out-Value v) → Fits f v
-own_fits f v none own =
-    subst (λ (T : Type 0). T) (sym (fits_parts f v)) (own, inside (out-Field f).children none)
-  where
-    inside : (fs : List Field) → length fs ≡ 0 → InnerFit Fits (out-Field f).kind fs (out-Value v)
-    inside [] e = nothing_inside (out-Field f).kind (out-Value v)
-    inside (g ∷ gs) e = absurd (omega (arith, e))
 
 -- each of the first values fits the field beside it
 abbrev pub FirstFit : ℕ → List Field → List Value → Type 0

@@ -11,9 +11,10 @@ use Rattle.ipc_model.specs.declared.schema.IntBits.{IntBits}
 use Rattle.ipc_model.specs.declared.value.Value.{Value}
 use Rattle.ipc_model.specs.declared.value.Value.TheVariants.{Null}
 use Rattle.ipc_column.specs.Columns.{Column}
-use Rattle.ipc_column.specs.Lending.{AreBuffers}
+use Rattle.ipc_column.specs.Lending.{AreBuffers, MarksNulls}
 use Rattle.ipc_column.specs.Nested.{Nested, slot_values}
 use Rattle.ipc_column.specs.Values.{is_valid}
+use Rattle.ipc_column.specs.checks.Checks.{has_bitmap}
 use Rattle.ipc_column.specs.declared.buffers.Buffers.{Buffers}
 use Rattle.ipc_column.specs.declared.buffers.Numbers.{Numbers}
 use Rattle.ipc_encode.specs.Bitmaps.{bitmap}
@@ -21,10 +22,9 @@ use Rattle.ipc_encode.specs.Buffers.{data_buffers}
 use Rattle.ipc_encode.specs.Cells.{flags, nulls, offsets, slots}
 use Rattle.ipc_encode.specs.Columns.{bits_length, validity_bytes}
 use Rattle.ipc_encode.specs.Limits.{HasExcessData}
-use Rattle.ipc_encode.specs.Marks.{MarksNulls}
 use Rattle.ipc_encode.specs.Pieces.{Fixed, Items, True, Valid}
 use Rattle.ipc_encode.specs.WholeColumns.{UseAllItems, last_offset, lent_buffers, lent_offsets}
-use Rattle.ipc_encode.proofs.Bits.{flag_at, flags_length, unmarked}
+use Rattle.ipc_encode.proofs.Bits.{flag_at, flags_length, marked, unmarked}
 use Rattle.ipc_encode.proofs.LentBuffers.{buffers_bits, contents_lent, contents_offsets, contents_short, numbers_lent, start_of, zeros_lent}
 use Rattle.ipc_encode.proofs.LentBuffers.{starts_inside}
 use Rattle.ipc_encode.proofs.NestedSlots.{no_offsets}
@@ -67,9 +67,12 @@ marked_written s marks some bits =
     let vs = slot_values s in
     let bytes : length s.column.validity ≡ 0 → ⊥ = λ none. let e = unmarked s.column.validity vs marks none in omega (arith, e, some) in
     bits (flags Valid vs) (flags_length Valid vs) (λ i m.
-    let marked : is_valid s.column.validity i ≡ bit s.column.validity i = rw (ne_eqb (length s.column.validity) 0 bytes) refl in
-    sym marked ∙ (sym (marks.each i m) ∙ sym (flag_at Valid vs i Null m)))
+    let valid : is_valid s.column.validity i ≡ bit s.column.validity i = rw (ne_eqb (length s.column.validity) 0 bytes) refl in
+    sym valid ∙ (sym (marked s.column.validity vs i marks m) ∙ sym (flag_at Valid vs i Null m)))
     ∙ sym (some_null vs (λ none. omega (arith, none, some)))
+
+bits_from : (n bytes : ℕ) → has_bitmap n bytes ≡ true → 0 < bytes → n ≤ 8 * bytes
+bits_from n bytes h some = grind arith
 
 module _ (s : Nested) (b : Buffers) (h : AreBuffers s b) where
   -- a column with nulls has a bit for each slot
@@ -81,7 +84,8 @@ module _ (s : Nested) (b : Buffers) (h : AreBuffers s b) where
       either zero e =
           let none = without (ap (λ (bs : List ℕ). length bs) (sym h.validity) ∙ e) in
           absurd (omega (arith, none, some))
-      either (suc k) e = buffers_bits s b h (omega (arith, e))
+      either (suc k) e = bits_from (length (slot_values s)) (length b.validity.now) (buffers_bits s b h (length (slot_values s)) refl)
+          (omega (arith, e))
 
   -- as many bytes as the slots need are the bitmap that is written
   pub validity_is : (0 < nulls (slot_values s)

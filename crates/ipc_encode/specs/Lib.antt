@@ -11,9 +11,6 @@ pub mod Numbers
 pub mod Indices
 pub mod Faults
 pub mod ColumnSizes
-pub mod Marks
 pub mod WholeColumns
-pub mod PlainColumns
 pub mod EntryNumbers
 pub mod Segments
-pub mod Mismatches

@@ -130,13 +130,6 @@ impl Builder {
         self.rows
     }
 
-    // Whether the number of rows is at its limit.
-    fn is_full(&self) -> bool
-        ensures { IsTrue result ↔ (self.now.limits.slots ≤ self.now.rows) }
-    {
-        self.rows >= self.limits.slots as usize
-    }
-
     // Appends a row to the columns. Returns true only if it fits the fields. After any error but
     // `OutOfMemory` nothing of it is left.
     #[inline(always)]
@@ -251,7 +244,7 @@ impl Builder {
         if self.failed {
             return Err(PushFault::Failed);
         }
-        if self.is_full() {
+        if self.rows >= self.limits.slots as usize {
             return Err(PushFault::TooMany);
         }
         if !self.is_shared {

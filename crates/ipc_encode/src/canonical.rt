@@ -1,13 +1,14 @@
 //! Whether the buffers of a column that was read are those that are written for its values.
 ghost use Rattle.std.specs.Prelude.{◌≡◌, ◌≤◌, ◌<◌, ◌+◌, ◌*◌, ℕ, List, Bool, false, true, length};
-ghost use Rattle.std.specs.Prelude.{IfSome, IsTrue, [], drop, replicate, slice_index};
+ghost use Rattle.std.specs.Prelude.{IsTrue, [], drop, replicate, slice_index};
 ghost use Rattle.std.specs.Prelude.{slice_index_or, take};
 ghost use Rattle.ipc_scalar.specs.Bytes.{bit, num};
+ghost use Rattle.ipc_column.specs.Lending.{MarksNulls};
 ghost use Rattle.ipc_column.specs.Nested.{slot_values};
 ghost use Rattle.ipc_column.specs.Values.{is_valid};
+ghost use Rattle.ipc_column.specs.checks.Checks.{has_bitmap};
 ghost use Rattle.ipc_encode.specs.Bitmaps.{bitmap};
 ghost use Rattle.ipc_encode.specs.Columns.{bits_length};
-ghost use Rattle.ipc_encode.specs.Marks.{HasBits, MarksNulls};
 ghost use Rattle.ipc_model.specs.declared.layout.Layout.TheVariants.{Lists};
 ghost use Rattle.ipc_encode.specs.Buffers.{data_buffers};
 ghost use Rattle.ipc_encode.specs.Limits.{HasExcessData};
@@ -15,23 +16,10 @@ ghost use Rattle.ipc_encode.specs.Segments.{segment_bytes};
 ghost use Rattle.ipc_encode.specs.WholeColumns.{HasWrittenValidity, IsCanonical, UseAllItems};
 ghost use Rattle.ipc_encode.specs.WholeColumns.{is_taken_whole, lent_buffers};
 
-use crate::bitmaps::{is_valid_in_bitmap, valid_are_among};
 use crate::segments::Segment;
-use ipc_column::SlotView;
+use ipc_column::{SlotView, is_valid, valid_are_among};
 use ipc_model::Layout;
 use ipc_scalar::get_u32;
-
-/// Returns the validity bitmap of a column, if it marks exactly the null slots.
-pub(crate) fn borrowed_bitmap<'a>(view: &SlotView<'a>) -> Option<&'a [u8]>
-    ensures marks { IfSome result (λ marks. MarksNulls marks.now (slot_values view.now)) }
-    ensures bits { IfSome result (λ marks. HasBits marks.now (length (slot_values view.now))) }
-{
-    let buffers = view.buffers();
-    match buffers.layout {
-        Layout::Null | Layout::Indices { .. } => None,
-        _ => Some(buffers.validity),
-    }
-}
 
 /// Returns offset `i`, which is not negative.
 #[inline(always)]
@@ -44,7 +32,7 @@ pub(crate) fn offset_at(offsets: &[u8], i: usize) -> u32
 
 // Whether each null slot ends where it begins.
 pub(crate) fn nulls_are_empty(marks: &[u8], offsets: &[u8], count: usize) -> bool
-    requires bits { HasBits marks.now count }
+    requires bits { has_bitmap count (length marks.now) ≡ true }
     requires offsets { 4 * (count + 1) ≤ length offsets.now }
     ensures empty { IsTrue result → (i : ℕ) → i < count → is_valid marks.now i ≡ false
         → num offsets.now (4 * (i + 1)) 4 ≡ num offsets.now (4 * i) 4 }
@@ -54,9 +42,7 @@ pub(crate) fn nulls_are_empty(marks: &[u8], offsets: &[u8], count: usize) -> boo
         return true;
     }
     for slot in 0..count {
-        if !is_valid_in_bitmap(marks, slot)
-            && offset_at(offsets, slot + 1) != offset_at(offsets, slot)
-        {
+        if !is_valid(marks, slot) && offset_at(offsets, slot + 1) != offset_at(offsets, slot) {
             return false;
         }
     }
@@ -101,7 +87,7 @@ fn are_zeros(bytes: &[u8]) -> bool
 
 // Whether each null slot of this width is zeros.
 fn null_slots_are_zeros(marks: &[u8], bytes: &[u8], width: usize, count: usize) -> bool
-    requires bits { HasBits marks.now count }
+    requires bits { has_bitmap count (length marks.now) ≡ true }
     requires bytes { width * count ≤ length bytes.now }
     ensures zeros { IsTrue result → (i : ℕ) → i < count → is_valid marks.now i ≡ false
         → take width (drop (width * i) bytes.now) ≡ replicate width 0 }
@@ -111,9 +97,7 @@ fn null_slots_are_zeros(marks: &[u8], bytes: &[u8], width: usize, count: usize) 
         return true;
     }
     for slot in 0..count {
-        if !is_valid_in_bitmap(marks, slot)
-            && !are_zeros(&bytes[width * slot..width * slot + width])
-        {
+        if !is_valid(marks, slot) && !are_zeros(&bytes[width * slot..width * slot + width]) {
             return false;
         }
     }

@@ -1,7 +1,7 @@
 //! The buffers of one column, and the values that are added to it.
 ghost use Rattle.std.specs.Int.{bytes_low_first};
 ghost use Rattle.std.specs.Prelude.{◌≡◌, ◌≤◌, ◌<◌, ◌^◌, ◌++◌, List, [], ◌∷◌, length, IfOk, IfErr};
-ghost use Rattle.std.specs.Prelude.{OnOk};
+ghost use Rattle.std.specs.Prelude.{OnOk, ◌&&◌, Bool, true, false};
 ghost use Rattle.ipc_model.specs.Layouts.{number_bytes};
 ghost use Rattle.ipc_model.specs.Layouts as layouts;
 ghost use Rattle.ipc_model.specs.MaxLimits.{max_slots};
@@ -12,14 +12,14 @@ ghost use Rattle.ipc_model.specs.declared.value.Value.{Value};
 ghost use Rattle.ipc_encode.specs.Buffers.{column_nulls};
 ghost use Rattle.ipc_encode.specs.Built.{AreBytesWithin, AreContents, AreListEnds, HoldsValues};
 ghost use Rattle.ipc_encode.specs.Built.{IsColumn, IsPushRefused, data_layout};
-ghost use Rattle.ipc_encode.specs.Cells.{slot_bytes};
+ghost use Rattle.ipc_encode.specs.Cells.{is_set, slot_bytes};
 ghost use Rattle.ipc_encode.specs.Columns.{validity_in, data_in};
-ghost use Rattle.ipc_encode.specs.Numbers.{Numbering, index_of, index_or_zero, indices_of};
-ghost use Rattle.ipc_encode.specs.Pieces.{Number, Fixed};
+ghost use Rattle.ipc_encode.specs.Numbers.{Numbering, index_of, index_or_zero};
+ghost use Rattle.ipc_encode.specs.Pieces.{Number, Fixed, Valid};
 
 use crate::bitmaps::{push_bit, set_bits};
 use crate::column::{ColumnBuilder, ColumnData, IndexData};
-use crate::counting::{check_amount, content, is_true, is_valid, items, null_slots, number_bits};
+use crate::counting::{check_amount, content, has_valid_slot, is_true, items, number_bits};
 use crate::fault::PushFault;
 use crate::index::IndexOf;
 use crate::pool::BufferPool;
@@ -37,17 +37,18 @@ fn push_validity(
     has_validity: bool,
     slots: usize,
     null_count: usize,
-    value: &Value,
+    is_valid: bool,
 ) -> Result<(), AllocError>
-    ensures { (layout : Layout) (values : List Value) → has_validity ≡ layouts.has_validity layout
-        → length values ≡ slots → column_nulls layout values ≡ null_count
+    ensures { (layout : Layout) (values : List Value) (value : Value)
+        → has_validity ≡ layouts.has_validity layout → length values ≡ slots
+        → column_nulls layout values ≡ null_count
+        → is_valid ≡ (has_validity && is_set Valid value)
         → validity.old.items ≡ validity_in layout values
-        → OnOk result (validity.new.items ≡ validity_in layout (values ++ value.now ∷ [])) }
+        → OnOk result (validity.new.items ≡ validity_in layout (values ++ value ∷ [])) }
 {
     if !has_validity {
         return Ok(());
     }
-    let is_valid = is_valid(value);
     if null_count == 0 {
         if is_valid {
             return Ok(());
@@ -179,25 +180,6 @@ pub(crate) fn known_index<I: IndexOf>(indices: &I, id: i64, value: &Value) -> Op
     match value {
         Value::Null => None,
         _ => Some(indices.index_of(id, value).unwrap_or(0)),
-    }
-}
-
-impl IndexData {
-    // Appends the index of a value.
-    #[inline(always)]
-    fn push<I: IndexOf>(&mut self, value: &Value, indices: &I) -> Result<(), AllocError>
-        ensures indices { (vs : List Value)
-            → self.old.indices.items
-            ≡ indices_of (index_or_zero (I.IndexOf.index indices.now) self.old.id) vs
-            → OnOk result (self.new.indices.items
-            ≡ indices_of (index_or_zero (I.IndexOf.index indices.now) self.old.id)
-            (vs ++ value.now ∷ [])) }
-        ensures id { self.new.id ≡ self.old.id }
-        ensures bits { self.new.bits ≡ self.old.bits }
-        ensures signed { self.new.signed ≡ self.old.signed }
-    {
-        self.indices.push(known_index(indices, self.id, value))?;
-        Ok(())
     }
 }
 
@@ -346,7 +328,12 @@ impl ColumnData {
                 values,
             } => push_content(offsets, values, value, *utf8, limits),
             ColumnData::Lists { offsets, items } => push_items(offsets, items, value, limits),
-            ColumnData::Indices(held) => Ok(held.push(value, indices)?),
+            ColumnData::Indices(held) => {
+                match held.indices.push(known_index(indices, held.id, value)) {
+                    Ok(()) => Ok(()),
+                    Err(_) => Err(PushFault::OutOfMemory),
+                }
+            }
         }
     }
 }
@@ -397,14 +384,54 @@ impl ColumnBuilder {
             self.new) }
     {
         let ColumnBuilder { slots, nulls, .. } = *self;
+        if !has_valid_slot(self.data.has_validity(), value) {
+            return self.push_null(value, limits, indices);
+        }
+        if slots >= limits.slots as usize {
+            return Err(PushFault::TooMany);
+        }
+        self.data.push(slots, value, limits, indices)?;
+        push_validity(&mut self.validity, true, slots, nulls, true)?;
+        self.slots = slots + 1;
+        Ok(())
+    }
+
+    // Appends a null slot: that of null or, in a column of nulls, of any value. The errors are
+    // those of `push`.
+    #[inline(never)]
+    fn push_null<I: IndexOf>(
+        &mut self,
+        value: &Value,
+        limits: &Limits,
+        indices: &I,
+    ) -> Result<(), PushFault>
+        requires { (layouts.has_validity (data_layout self.old.data) && is_set Valid value.now)
+            ≡ false }
+        ensures pushed { (layout : Layout) (values : List Value)
+            → IsColumn (index_or_zero (I.IndexOf.index indices.now)) limits.now layout values
+            self.old
+            → OnOk result (IsColumn (index_or_zero (I.IndexOf.index indices.now)) limits.now layout
+            (values ++ value.now ∷ []) self.new) }
+        ensures refused { (layout : Layout) (values : List Value)
+            → IsColumn (index_or_zero (I.IndexOf.index indices.now)) limits.now layout values
+            self.old
+            → IfErr result (IsPushRefused limits.now layout (values ++ value.now ∷ [])) }
+        ensures kept { (layout : Layout) (values : List Value)
+            → IsColumn (index_or_zero (I.IndexOf.index indices.now)) limits.now layout values
+            self.old
+            → IfErr result (λ fault. ¬ (fault ≡ PushFault.OutOfMemory)
+            → IsColumn (index_or_zero (I.IndexOf.index indices.now)) limits.now layout values
+            self.new) }
+    {
+        let ColumnBuilder { slots, nulls, .. } = *self;
         if slots >= limits.slots as usize {
             return Err(PushFault::TooMany);
         }
         self.data.push(slots, value, limits, indices)?;
         let has_validity = self.data.has_validity();
-        push_validity(&mut self.validity, has_validity, slots, nulls, value)?;
+        push_validity(&mut self.validity, has_validity, slots, nulls, false)?;
         self.slots = slots + 1;
-        self.nulls = nulls + null_slots(has_validity, value);
+        self.nulls = nulls + 1;
         Ok(())
     }
 }

@@ -19,22 +19,30 @@ use crate::fault::PushFault;
 use ipc_model::{Layout, Limits, Value};
 use ipc_scalar::pad8;
 
-/// Returns whether a value is not null.
+// Returns whether a value is not null.
 #[inline(always)]
-pub(crate) fn is_valid(value: &Value) -> bool
+fn is_valid(value: &Value) -> bool
     ensures { result ≡ is_set Valid value.now }
 {
     !matches!(value, Value::Null)
 }
 
-/// Returns the number of null slots that a value adds to a column: 0 or 1. Each slot of a column
-/// of nulls, which has no validity bitmap, is null.
+/// Returns whether the slot of a value is valid. Each slot of a column of nulls, which has no
+/// validity bitmap, is null.
+#[inline(always)]
+pub(crate) fn has_valid_slot(has_validity: bool, value: &Value) -> bool
+    ensures { result ≡ (has_validity && is_set Valid value.now) }
+{
+    has_validity && is_valid(value)
+}
+
+/// Returns the number of null slots that a value adds to a column: 0 or 1.
 #[inline(always)]
 pub(crate) fn null_slots(has_validity: bool, value: &Value) -> usize
     ensures count { result ≡ (if has_validity && is_set Valid value.now then 0 else 1) }
     ensures few { result ≤ 1 }
 {
-    usize::from(!(has_validity && is_valid(value)))
+    usize::from(!has_valid_slot(has_validity, value))
 }
 
 /// Returns whether a value is true.

@@ -76,35 +76,9 @@ fn take_column<I: IndexOf>(
     Ok(())
 }
 
-// Adds a column of any kind, with its descendants: it is built anew from its values, which are null
-// if the batch has no such column. The errors are those of `add_field`.
-fn add_anew<I: IndexOf, N: Renumber>(
-    alloc: Global,
-    pool: &mut BufferPool,
-    draft: &mut Draft<'_>,
-    field: &Field,
-    batch: &Batch,
-    column: usize,
-    limits: &Limits,
-    indices: &I,
-    numbers: &N,
-) -> Result<(), PushFault>
-    requires { draft.old.len ≤ limits.now.body }
-    ensures adds { OnOk result (AddsColumns limits.now
-        (new_indices (N.Renumber.number numbers.now) (index_or_zero (I.IndexOf.index indices.now)))
-        (shapes.field (field_layout field.now) (field_children field.now) bare)
-        (λ j. cells column batch.now.rows) draft.old draft.new) }
-    ensures refused { IfErr result (AreRefusedAfter limits.now draft.old.len
-        (shapes.field (field_layout field.now) (field_children field.now) bare)
-        (λ j. cells column batch.now.rows)) }
-{
-    let mut node = new_node(field, pool, alloc)?;
-    take_column(&mut node, batch, column, limits, indices)?;
-    add_node(draft, &mut node, numbers, limits)
-}
-
 // Adds column `column` of a batch as that of a field: its own buffers if they are those that are
-// written, with new numbers in place of indices, and else a column that is encoded anew.
+// written, with new numbers in place of indices, and else a column that is built anew from its
+// values, which are null if the batch has no such column.
 //
 // The errors are those of `add_own`, from the column or one below it.
 fn add_field<'a, I: IndexOf, N: Renumber>(
@@ -139,9 +113,9 @@ fn add_field<'a, I: IndexOf, N: Renumber>(
     if is_added {
         return Ok(());
     }
-    add_anew(
-        alloc, pool, draft, field, batch, column, limits, indices, numbers,
-    )
+    let mut node = new_node(field, pool, alloc)?;
+    take_column(&mut node, batch, column, limits, indices)?;
+    add_node(draft, &mut node, numbers, limits)
 }
 
 // Field `i` of a list of fields.

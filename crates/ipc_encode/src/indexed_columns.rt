@@ -3,6 +3,7 @@ ghost use Rattle.std.specs.Prelude.{◌≡◌, ◌<◌, ◌≤◌, ◌+◌, ◌^
 ghost use Rattle.std.specs.Prelude.{false, is_some, slice_index_or, IfErr, IfOk, IfSome, OnOk};
 ghost use Rattle.ipc_model.specs.declared.value.Value.{Value};
 ghost use Rattle.ipc_model.specs.declared.value.Value.TheVariants.{Null};
+ghost use Rattle.ipc_column.specs.Lending.{MarksNulls};
 ghost use Rattle.ipc_column.specs.Lent.{AreOfColumn};
 ghost use Rattle.ipc_column.specs.Nested.{slot_values};
 ghost use Rattle.ipc_column.specs.Shapes as shapes;
@@ -11,21 +12,19 @@ ghost use Rattle.ipc_column.specs.Values.{is_valid};
 ghost use Rattle.ipc_encode.specs.Buffers.{padded_bytes};
 ghost use Rattle.ipc_encode.specs.Cells.{cell, cells, is_set, number_bits, slots};
 ghost use Rattle.ipc_encode.specs.EntryNumbers.{HasNumbers};
-ghost use Rattle.ipc_encode.specs.Marks.{MarksNulls};
 ghost use Rattle.ipc_encode.specs.Numbers.{as_number, index_of, index_or_zero, new_indices};
 ghost use Rattle.ipc_encode.specs.Numbers.{numbers_of};
 ghost use Rattle.ipc_encode.specs.Pieces.{Number, Valid};
 ghost use Rattle.ipc_encode.specs.Segments.{AddsBuffers, AddsColumns, AreRefusedAfter};
 ghost use Rattle.ipc_encode.specs.Segments.{IsBodyRefused, segment_bytes};
 
-use crate::bitmaps::is_valid_in_bitmap;
 use crate::canonical::{has_written_validity, lent_validity};
 use crate::column_builder::{known_index, push_bits};
 use crate::fault::PushFault;
 use crate::index::{IndexOf, Renumber};
 use crate::pool::BufferPool;
 use crate::segments::{Draft, Segment, add_buffer, add_counts};
-use ipc_column::{Batch, SlotView};
+use ipc_column::{Batch, SlotView, is_valid};
 use ipc_model::{Field, IntBits, Layout, Limits, layout_of};
 use std::alloc::{AllocError, Global};
 
@@ -98,7 +97,7 @@ fn slot_number<I: IndexOf, N: Renumber>(
         (slice_index_or (slot_values view.now) slot Null))))) }
 {
     let Some(entry) = view.entry_at(slot) else {
-        let is_marked = !is_valid_in_bitmap(view.buffers().validity, slot);
+        let is_marked = !is_valid(view.buffers().validity, slot);
         return Ok(if is_marked { Some(0) } else { None });
     };
     if let Some(number) = table[entry] {

@@ -9,7 +9,6 @@ mod canonical;
 mod column;
 mod column_builder;
 mod column_sizes;
-mod conforming;
 mod counting;
 mod cut;
 mod encoding;
@@ -25,7 +24,6 @@ mod whole_columns;
 
 pub use builder::{Builder, encode, holds_agreeing};
 pub use column_sizes::ColumnSizes;
-pub use conforming::check_rows;
 pub use encoding::encode_columns;
 pub use fault::PushFault;
 pub use index::{IndexOf, NoIndices, Renumber, SameNumbers};

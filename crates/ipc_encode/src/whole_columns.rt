@@ -7,6 +7,7 @@ ghost use Rattle.ipc_model.specs.declared.layout.Layout.TheVariants.{Lists};
 ghost use Rattle.ipc_model.specs.declared.limits.Limits.{Limits};
 ghost use Rattle.ipc_model.specs.declared.value.Value.TheVariants.{Null};
 ghost use Rattle.ipc_column.specs.Nested.{Nested, only_column, slot_values};
+ghost use Rattle.ipc_column.specs.checks.Checks.{has_bitmap};
 ghost use Rattle.ipc_column.specs.checks.Rules.{HasUtf8Texts};
 ghost use Rattle.ipc_column.specs.Shapes as shapes;
 ghost use Rattle.ipc_column.specs.Shapes.{bare, field, field_children, field_layout, shape_of};
@@ -14,7 +15,6 @@ ghost use Rattle.ipc_column.specs.Slots.{nested_in};
 ghost use Rattle.ipc_column.specs.Values.{is_valid};
 ghost use Rattle.ipc_encode.specs.Buffers.{child_values, data_buffers, padded_bytes};
 ghost use Rattle.ipc_encode.specs.Cells.{all_parts};
-ghost use Rattle.ipc_encode.specs.Marks.{HasBits};
 ghost use Rattle.ipc_encode.specs.Numbers.{Numbering};
 ghost use Rattle.ipc_encode.specs.Segments.{AddsBuffers, AddsColumns, AreRefusedAfter};
 ghost use Rattle.ipc_encode.specs.Segments.{IsBodyRefused, segment_bytes};
@@ -22,20 +22,19 @@ ghost use Rattle.ipc_encode.specs.WholeColumns.{AreFullColumns, IsCanonical, IsF
 ghost use Rattle.ipc_encode.specs.WholeColumns.{IsLaidOutAs, UseAllItems, last_offset};
 ghost use Rattle.ipc_encode.specs.WholeColumns.{lent_offsets};
 
-use crate::bitmaps::valid_are_among;
-use crate::canonical::{borrowed_bitmap, first_bytes, is_canonical, lent_validity, offset_at};
+use crate::canonical::{first_bytes, is_canonical, lent_validity, offset_at};
 use crate::fault::PushFault;
 use crate::segments::{Draft, Segment, add_buffer, add_counts};
-use ipc_column::SlotView;
+use ipc_column::{SlotView, valid_are_among};
 use ipc_model::{Field, Layout, Limits, layout_of};
 
 // Whether each slot that is null in the column of a child is null in the child too.
 fn nulls_are_shared(marks: &[u8], child: &SlotView<'_>) -> bool
-    requires { HasBits marks.now (length (slot_values child.now)) }
+    requires { has_bitmap (length (slot_values child.now)) (length marks.now) ≡ true }
     ensures { IsTrue result → (i : ℕ) → i < length (slot_values child.now)
         → is_valid marks.now i ≡ false → slice_index_or (slot_values child.now) i Null ≡ Null }
 {
-    match borrowed_bitmap(child) {
+    match child.null_bitmap() {
         Some(own) => valid_are_among(own, marks, child.len()),
         None => marks.is_empty(),
     }

@@ -14,8 +14,9 @@ ghost use Rattle.ipc_stream.specs.Writing.{AcceptsBatch, RefusesBatch};
 use crate::batch_messages::{BatchMessages, dictionary_messages};
 use crate::messages::batch_front;
 use ipc_column::Batch;
+use ipc_conform::check_rows;
 use ipc_dict::{Dictionaries, Kept, Plan, Seed, has_short_messages};
-use ipc_encode::{BufferPool, SameNumbers, SegmentedParts, check_rows, encode_columns};
+use ipc_encode::{BufferPool, SameNumbers, SegmentedParts, encode_columns};
 use ipc_model::{Items, Limits, Schema, Text, WriteFault};
 use std::alloc::Global;
 

@@ -14,7 +14,7 @@ use Rattle.ipc_model.specs.declared.value.Value.TheOpen.{Value-F}
 use Rattle.ipc_model.specs.declared.value.Value.TheVariants as v
 use Rattle.ipc_encode.specs.Cells.{cell, cells, items, items_in, all_items, struct_member, part_in, all_parts}
 use Rattle.ipc_encode.specs.Cells.{fixed_items, fixed_items_in, all_fixed_items}
-use Rattle.ipc_encode.proofs.Indexed.{null_out}
+use Rattle.ipc_column.proofs.Opened.{null_out}
 use Rattle.ipc_dict.specs.Pairs.{Pairs, Walk, items_pairs, inner_pairs, own_pair, value_pairs, pairs_step, pairs, row_pairs, rows_pairs}
 
 -- ---- null gives nothing

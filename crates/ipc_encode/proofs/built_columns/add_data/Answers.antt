@@ -1,14 +1,11 @@
 use Rattle.std.proofs.Common.{◌≡◌, ◌∙◌, ap, subst, ℤ, ℕ, List, [], ◌∷◌, ◌+◌, ◌++◌, length, map, w64, to_z, of_z, rules}
 use Rattle.std.specs.Prelude.{IfErr}
 use Rattle.std.proofs.lemmas.Result.{on_ok_weaker}
-use Rattle.ipc_encode.specs.Buffers.{data_buffers, padded_bytes, written_values}
+use Rattle.ipc_encode.specs.Buffers.{padded_bytes}
 use Rattle.ipc_encode.specs.Cells.{slots}
-use Rattle.ipc_encode.specs.Built.{HoldsValues, data_layout}
-use Rattle.ipc_encode.specs.Numbers.{Numbering, as_number, new_index, new_indices}
+use Rattle.ipc_encode.specs.Numbers.{as_number, new_index}
 use Rattle.ipc_encode.specs.Pieces.{Number}
-use Rattle.ipc_encode.specs.Segments.{IsBodyRefused, segment_bytes}
-use Rattle.ipc_model.specs.declared.layout.Layout.TheVariants as l
-use Rattle.ipc_model.specs.declared.value.Value.{Value}
+use Rattle.ipc_encode.specs.Segments.{IsBodyRefused}
 use Rattle.ipc_encode.proofs.Indexed.{index_data}
 use Rattle.ipc_encode.proofs.SegmentColumns.{adds_as}
 use Rattle.ipc_encode.proofs.built_columns.add_data.Goals as goal

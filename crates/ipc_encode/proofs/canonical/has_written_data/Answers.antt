@@ -1,11 +1,11 @@
-use Rattle.std.proofs.Common.{◌≡◌, ◌∙◌, sym, subst, ℕ, ◌+◌, ◌*◌, ◌/◌, false, take, drop, replicate, arith}
+use Rattle.std.proofs.Common.{◌≡◌, ◌∙◌, sym, subst, ℕ, ◌+◌, ◌*◌, ◌/◌, length, take, drop, replicate, arith}
 use Rattle.ipc_model.specs.declared.layout.Layout.TheVariants as l
 use Rattle.ipc_column.specs.Nested.{slot_values}
 use Rattle.ipc_encode.specs.Bitmaps.{bitmap}
 use Rattle.ipc_encode.specs.Cells.{flags}
 use Rattle.ipc_encode.specs.Pieces.{True}
 use Rattle.ipc_encode.proofs.Bits.{flags_length}
-use Rattle.ipc_encode.proofs.LentBuffers.{buffers_bits, offsets_there, truths_lent, truths_there, widths_lent, widths_there}
+use Rattle.ipc_encode.proofs.LentBuffers.{bits_enough, buffers_bits, offsets_there, truths_lent, truths_there, widths_lent, widths_there}
 use Rattle.ipc_encode.proofs.Sizes.{long_from}
 use Rattle.ipc_encode.proofs.WrittenBuffers.{bits_written, contents_few, contents_written, lists_written, no_contents, numbers_there}
 use Rattle.ipc_encode.proofs.WrittenBuffers.{numbers_written, short_as, widths_written, written_as}
@@ -20,15 +20,14 @@ unused_bits_are_zeros-requires c =
     omega (arith, there, c.len-count.ensures)
 
 pub valid_are_among-requires-clause-few : goal.valid_are_among-requires-clause-few
-valid_are_among-requires-clause-few c = λ _.
+valid_are_among-requires-clause-few c =
     let laid = c.buffers-buffers.ensures.layout ∙ (sym c.layout.ensures.layout ∙ c.in-Bits.is) in
     let there = truths_there c.args.view.now c.buffers-buffers.result c.buffers-buffers.ensures laid in
-    omega (arith, there, c.len-count.ensures)
+    bits_enough c.len-count.result (length c.buffers-buffers.result.values.now) (omega (arith, there, c.len-count.ensures))
 
 pub valid_are_among-requires-clause-many : goal.valid_are_among-requires-clause-many
-valid_are_among-requires-clause-many c = λ some.
-    let bits = buffers_bits c.args.view.now c.buffers-buffers.result c.buffers-buffers.ensures some in
-    omega (arith, bits, c.len-count.ensures)
+valid_are_among-requires-clause-many c =
+    buffers_bits c.args.view.now c.buffers-buffers.result c.buffers-buffers.ensures c.len-count.result c.len-count.ensures
 
 pub returns-then-unused_bits_are_zeros-clause-lent : goal.returns-then-unused_bits_are_zeros-clause-lent
 returns-then-unused_bits_are_zeros-clause-lent c = λ among.
@@ -46,9 +45,8 @@ returns-then-unused_bits_are_zeros-clause-lent c = λ among.
 -- ---- numbers and values of a fixed width
 
 pub null_slots_are_zeros-requires-clause-bits : goal.null_slots_are_zeros-requires-clause-bits
-null_slots_are_zeros-requires-clause-bits c = λ some.
-    let bits = buffers_bits c.args.view.now c.buffers-buffers.result c.buffers-buffers.ensures some in
-    omega (arith, bits, c.len-count.ensures)
+null_slots_are_zeros-requires-clause-bits c =
+    buffers_bits c.args.view.now c.buffers-buffers.result c.buffers-buffers.ensures c.len-count.result c.len-count.ensures
 
 pub null_slots_are_zeros-requires-clause-bytes : goal.null_slots_are_zeros-requires-clause-bytes
 null_slots_are_zeros-requires-clause-bytes c =
@@ -64,9 +62,8 @@ returns-in-Numbers-clause-lent c = λ zeros.
     (c.null_slots_are_zeros.ensures.zeros zeros i (omega (arith, m, c.len-count.ensures)) e))
 
 pub null_slots_are_zeros-requires-in-FixedBytes-clause-bits : goal.null_slots_are_zeros-requires-in-FixedBytes-clause-bits
-null_slots_are_zeros-requires-in-FixedBytes-clause-bits c = λ some.
-    let bits = buffers_bits c.args.view.now c.buffers-buffers.result c.buffers-buffers.ensures some in
-    omega (arith, bits, c.len-count.ensures)
+null_slots_are_zeros-requires-in-FixedBytes-clause-bits c =
+    buffers_bits c.args.view.now c.buffers-buffers.result c.buffers-buffers.ensures c.len-count.result c.len-count.ensures
 
 pub null_slots_are_zeros-requires-in-FixedBytes-clause-bytes : goal.null_slots_are_zeros-requires-in-FixedBytes-clause-bytes
 null_slots_are_zeros-requires-in-FixedBytes-clause-bytes c =
@@ -83,9 +80,8 @@ returns-in-FixedBytes-clause-lent c = λ zeros.
 -- ---- binary values and texts
 
 pub nulls_are_empty-requires-clause-bits : goal.nulls_are_empty-requires-clause-bits
-nulls_are_empty-requires-clause-bits c = λ some.
-    let bits = buffers_bits c.args.view.now c.buffers-buffers.result c.buffers-buffers.ensures some in
-    omega (arith, bits, c.len-count.ensures)
+nulls_are_empty-requires-clause-bits c =
+    buffers_bits c.args.view.now c.buffers-buffers.result c.buffers-buffers.ensures c.len-count.result c.len-count.ensures
 
 pub nulls_are_empty-requires-clause-offsets : goal.nulls_are_empty-requires-clause-offsets
 nulls_are_empty-requires-clause-offsets c =

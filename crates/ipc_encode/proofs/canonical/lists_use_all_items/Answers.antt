@@ -1,18 +1,17 @@
 use Rattle.std.proofs.Common.{◌≡◌, ◌∙◌, sym, ap, ℕ, ◌+◌, ◌*◌, ◌<◌, List, false, true, Some, length, take, arith}
 use Rattle.std.specs.Prelude.{◌==◌, slice_get}
 use Rattle.std.proofs.lemmas.Bool.{eqb-true}
+use Rattle.ipc_column.proofs.SlotValues.{some_same}
 use Rattle.ipc_column.specs.Nested.{Nested, slot_values}
 use Rattle.ipc_column.specs.Slots.{nested_in}
 use Rattle.ipc_column.specs.Values.{is_valid}
 use Rattle.ipc_encode.proofs.LentBuffers.{buffers_bits, start_of}
 use Rattle.ipc_encode.proofs.NestedSlots.{list_few, list_gives, list_offsets_are, list_offsets_there, list_spells, no_data, no_lists}
-use Rattle.ipc_encode.proofs.NestedSlots.{some_same}
 use Rattle.ipc_encode.proofs.canonical.lists_use_all_items.Goals as goal
 
 pub nulls_are_empty-requires-clause-bits : goal.nulls_are_empty-requires-clause-bits
-nulls_are_empty-requires-clause-bits c = λ some.
-    let bits = buffers_bits c.args.view.now c.buffers-buffers.result c.buffers-buffers.ensures some in
-    omega (arith, bits, c.len-count.ensures)
+nulls_are_empty-requires-clause-bits c =
+    buffers_bits c.args.view.now c.buffers-buffers.result c.buffers-buffers.ensures c.len-count.result c.len-count.ensures
 
 pub nulls_are_empty-requires-clause-offsets : goal.nulls_are_empty-requires-clause-offsets
 nulls_are_empty-requires-clause-offsets c =

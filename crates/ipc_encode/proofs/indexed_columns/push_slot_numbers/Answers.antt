@@ -11,6 +11,7 @@ use Rattle.ipc_column.specs.Values.{is_valid}
 use Rattle.ipc_encode.specs.Cells.{is_set, number_bits, slots}
 use Rattle.ipc_encode.specs.Numbers.{as_number, index_of, index_or_zero, new_indices, numbers_of}
 use Rattle.ipc_encode.specs.Pieces.{Number, Valid}
+use Rattle.ipc_encode.proofs.Bits.{all_marked}
 use Rattle.ipc_encode.proofs.EntryNumbers.{numbers_pushed}
 use Rattle.ipc_encode.proofs.Indexed.{numbers_length}
 use Rattle.ipc_encode.proofs.indexed_columns.push_slot_numbers.Goals as goal
@@ -44,6 +45,11 @@ loop-slot-preserved g c =
       pushed = numbers_pushed f c.args.bits vs slot c.in-Some.number c.args.values.now.items c.loop-slot.values.items
           c.push_bits.new.values.items inside is c.loop-slot.invariant.pushed c.in_ok-push_bits.ensures;
     }
+
+pub returns-clause-marks : goal.returns-clause-marks
+returns-clause-marks g c = λ all.
+    all_marked c.args.view.now.column.validity (slot_values c.args.view.now) (λ i m. c.loop-slot.invariant.marked i
+    (omega (arith, m, c.loop-slot-test.false, c.len-slot-end.ensures)))
 
 pub returns-clause-numbers : goal.returns-clause-numbers
 returns-clause-numbers g c = λ all.

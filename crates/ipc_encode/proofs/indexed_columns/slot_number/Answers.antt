@@ -3,6 +3,7 @@ use Rattle.std.proofs.lemmas.Int.{to_z-of_z}
 use Rattle.std.proofs.lemmas.List.{get_or_default}
 use Rattle.ipc_model.specs.declared.value.Value.{Value}
 use Rattle.ipc_model.specs.declared.value.Value.TheVariants.{Null}
+use Rattle.ipc_column.proofs.lending.Slots.{bitmap_front}
 use Rattle.ipc_column.specs.Nested.{slot_values}
 use Rattle.ipc_column.specs.Values.{is_valid}
 use Rattle.ipc_encode.specs.Cells.{cell, is_set, number_bits}
@@ -13,15 +14,16 @@ use Rattle.ipc_encode.proofs.EntryNumbers.{unmarked_null}
 use Rattle.ipc_encode.proofs.LentBuffers.{buffers_bits}
 use Rattle.ipc_encode.proofs.indexed_columns.slot_number.Goals as goal
 
-pub is_valid_in_bitmap-is_marked-requires : goal.is_valid_in_bitmap-is_marked-requires
-is_valid_in_bitmap-is_marked-requires g c = λ some.
-    let bits = buffers_bits c.args.view.now c.buffers.result c.buffers.ensures some in
-    omega (arith, bits, c.requires.slot)
+pub is_valid-is_marked-requires : goal.is_valid-is_marked-requires
+is_valid-is_marked-requires g c =
+    let s = c.args.view.now in
+    bitmap_front (length (slot_values s)) c.args.slot _ (buffers_bits s c.buffers.result c.buffers.ensures (length (slot_values s)) refl)
+    c.requires.slot
 
 pub returns-then-is_marked-clause-marked : goal.returns-then-is_marked-clause-marked
 returns-then-is_marked-clause-marked g c = λ some.
     let slot = c.args.slot in
-    let clear : is_valid c.buffers.result.validity.now slot ≡ false = sym c.is_valid_in_bitmap-is_marked.ensures ∙ c.if-is_marked.true in
+    let clear : is_valid c.buffers.result.validity.now slot ≡ false = sym c.is_valid-is_marked.ensures ∙ c.if-is_marked.true in
     let null = unmarked_null c.args.view.now c.buffers.result c.buffers.ensures slot c.requires.slot clear in
     ap (is_set Valid) null ∙ (null_unset ∙ (sym clear ∙ ap (λ (bs : List ℕ). is_valid bs slot) c.buffers.ensures.validity))
 
@@ -29,7 +31,7 @@ pub returns-then-is_marked-clause-number : goal.returns-then-is_marked-clause-nu
 returns-then-is_marked-clause-number g c =
     let f = new_indices (g.N.Renumber.number c.args.numbers.now) (index_or_zero (g.I.IndexOf.index c.args.indices.now)) c.args.id in
     let slot = c.args.slot in
-    let clear : is_valid c.buffers.result.validity.now slot ≡ false = sym c.is_valid_in_bitmap-is_marked.ensures ∙ c.if-is_marked.true in
+    let clear : is_valid c.buffers.result.validity.now slot ≡ false = sym c.is_valid-is_marked.ensures ∙ c.if-is_marked.true in
     let null = unmarked_null c.args.view.now c.buffers.result c.buffers.ensures slot c.requires.slot clear in
     null_number f ∙ ap (λ (v : Value). number_bits (as_number (index_of f v))) (sym null)
 

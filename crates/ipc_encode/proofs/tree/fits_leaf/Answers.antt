@@ -1,5 +1,5 @@
 use Rattle.std.proofs.Common.{rules}
-use Rattle.ipc_encode.proofs.Sizes.{own_fits}
+use Rattle.ipc_column.proofs.FittingValues.{own_fits}
 use Rattle.ipc_encode.proofs.tree.fits_leaf.Goals as goal
 
 pub returns-then-is_empty : goal.returns-then-is_empty

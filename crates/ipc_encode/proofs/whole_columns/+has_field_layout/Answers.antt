@@ -4,12 +4,13 @@ use Rattle.std.proofs.lemmas.List.{length-map}
 use Rattle.std.proofs.lemmas.Option.{get_or_from_slice_get}
 use Rattle.ipc_model.specs.declared.schema.Field.{Field}
 use Rattle.ipc_model.specs.declared.value.Value.{Value}
+use Rattle.ipc_column.proofs.SlotValues.{some_same}
 use Rattle.ipc_column.specs.Nested.{Nested, slot_values}
 use Rattle.ipc_column.specs.Shapes.{field_children, field_layout}
 use Rattle.ipc_column.specs.Slots.{nested, nested_in}
 use Rattle.ipc_encode.specs.Buffers.{child_values}
 use Rattle.ipc_encode.specs.WholeColumns.{IsFullColumn}
-use Rattle.ipc_encode.proofs.NestedSlots.{some_same, first_and_next}
+use Rattle.ipc_encode.proofs.NestedSlots.{first_and_next}
 use Rattle.ipc_encode.proofs.SegmentColumns.{whole_all}
 use Rattle.ipc_encode.proofs.whole_columns.+has_field_layout.Goals as goal
 

@@ -1,5 +1,4 @@
 use Rattle.std.proofs.Common.{◌≡◌, ◌∙◌, sym, refl, ℕ, ◌*◌, ◌≤◌, arith}
-use Rattle.ipc_model.specs.declared.layout.Layout.TheVariants as l
 use Rattle.ipc_column.specs.Nested.{Nested}
 use Rattle.ipc_encode.proofs.LentBuffers.{offsets_there, truths_there, widths_there}
 use Rattle.ipc_encode.proofs.NestedSlots.{list_offsets_there}

@@ -1,14 +1,15 @@
 use Rattle.std.proofs.Common.{◌≡◌, ◌∙◌, sym, ap, subst, ℕ, ◌<◌, length, arith}
+use Rattle.ipc_column.proofs.SlotValues.{some_same}
 use Rattle.ipc_column.specs.Nested.{Nested, only_column, slot_values}
 use Rattle.ipc_column.specs.checks.Rules.{HasUtf8Texts}
 use Rattle.ipc_encode.proofs.LentBuffers.{buffers_bits}
-use Rattle.ipc_encode.proofs.NestedSlots.{some_same, struct_gives, struct_spells}
+use Rattle.ipc_encode.proofs.NestedSlots.{struct_gives, struct_spells}
 use Rattle.ipc_encode.proofs.whole_columns.structs_use_all_slots.Goals as goal
 
 pub nulls_are_shared-requires : goal.nulls_are_shared-requires
-nulls_are_shared-requires c = λ some.
-    let bits = buffers_bits c.args.view.now c.buffers-buffers.result c.buffers-buffers.ensures some in
-    omega (arith, bits, c.len.ensures, c.len-2.ensures, c.if-len.false)
+nulls_are_shared-requires c =
+    buffers_bits c.args.view.now c.buffers-buffers.result c.buffers-buffers.ensures (length (slot_values c.child-child.result))
+    (omega (arith, c.len.ensures, c.len-2.ensures, c.if-len.false))
 
 pub returns-clause-slots : goal.returns-clause-slots
 returns-clause-slots c = λ shared child is.

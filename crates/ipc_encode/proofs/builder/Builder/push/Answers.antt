@@ -1,7 +1,7 @@
 use Rattle.std.proofs.Common.{rules, ◌∙◌, ap, [], ◌∷◌, ◌++◌, length-append, arith}
 use Rattle.ipc_model.specs.declared.limits.Limits.{Limits}
 use Rattle.ipc_encode.specs.Numbers.{index_or_zero}
-use Rattle.ipc_encode.proofs.Held.{not_full, shared_within, still_stored, stored_held}
+use Rattle.ipc_encode.proofs.Held.{shared_within, still_stored, stored_held}
 use Rattle.ipc_encode.proofs.builder.Builder.push.Goals as goal
 
 pub returns-in-Ok-clause-pushed : goal.returns-in-Ok-clause-pushed
@@ -11,7 +11,6 @@ returns-in-Ok-clause-pushed g c = λ limits fields rows before.
     let next = rows ++ c.args.row.now ∷ [] in
     let held = c.in-Ok.ensures.appended limits fields rows (stored_held known limits fields rows c.args.self.now before) in
     let size = length-append rows (c.args.row.now ∷ []) in
-    let room = not_full c.args.self.now.rows c.args.self.now.limits.slots (λ full. absurd (let e = c.if-is_full.ensures.1 full in cc)) in
     let same = ap (λ (l : Limits). l.slots) before.limits_are in
     record {
       limits_are = held.limits_are;
@@ -20,7 +19,7 @@ returns-in-Ok-clause-pushed g c = λ limits fields rows before.
       bounded = held.bounded;
       columns_are = held.columns_are;
       within = shared_within known limits builder.bounds fields next builder.nodes.items
-          (omega (arith, size, before.count, room, same)) held.bounded.few held.bounded.less
+          (omega (arith, size, before.count, c.if-self-2.false, same)) held.bounded.few held.bounded.less
           (held.bounded.shared (c.append.ensures.shared ∙ (search rules))) held.columns_are;
     }
 

@@ -1,0 +1,2 @@
+pub mod PlainColumns
+pub mod Mismatches
