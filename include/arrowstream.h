@@ -9,11 +9,12 @@
  *
  * PROVED, by machine, for each call below: it is memory safe and returns on every input. Its
  * result, what it writes and the state that it leaves are as its comment says (docs/PROVED.md names
- * the clauses). The buffers of one column are mutually consistent.
+ * the clauses). The buffers of one column are mutually consistent, and are the bytes that the
+ * batch's message has for them.
  *
- * ONLY TESTED: that the buffers of a dictionary's values are mutually consistent; that all buffers
- * are the bytes of the stream; that NULL with length 0 is accepted; that memory ran out where a
- * call says so; and that the calls that free give all memory back.
+ * ONLY TESTED: that the buffers of a dictionary's values are so too; that NULL with length 0 is
+ * accepted; that memory ran out where a call says so; and that the calls that free give all memory
+ * back.
  *
  * THE CALLER OWES, and nothing checks:
  *   - a reader, batch or writer is NULL, or is one that a call set and that is not freed yet;

@@ -133,7 +133,7 @@ module _ (old new : Reader) (x u z b : List ℕ) (rows : BatchRows) (τ : State)
 
   gives_batch : (r : Result (Option ReadRows) Fault) (p : StreamPhase) → NextAnswer old new phase.Reading z r p → RowsOr r
   gives_batch (Ok (Some found)) phase.Reading h =
-      let run = told_run (Some (in_force_of old)) (Some (in_force_of new)) z (batch (batch_rows found)) h.last in
+      let run = told_run (Some (in_force_of old)) (Some (in_force_of new)) z (batch (batch_rows found)) h.0.last in
       let one : batch rows ≡ batch (batch_rows found) =
       first_same u b (batch rows) (batch (batch_rows found)) [] [] tells run refl refl joined in
       let same : batch_rows found ≡ rows = cc in same
@@ -187,7 +187,7 @@ module _ (old new : Reader) (x u z b : List ℕ) (o : InForce) (end : End)
   gives_end : (r : Result (Option ReadRows) Fault) (p : StreamPhase) → NextAnswer old new phase.Reading z r p
       → MatchResult r (λ found. (found ≡ None) × (p ≡ phase.Ended end)) IsOutside
   gives_end (Ok (Some found)) phase.Reading h =
-      let run = told_run (Some (in_force_of old)) (Some (in_force_of new)) z (batch (batch_rows found)) h.last in
+      let run = told_run (Some (in_force_of old)) (Some (in_force_of new)) z (batch (batch_rows found)) h.0.last in
       absurd (run_not_end b u (batch (batch_rows found)) [] run only refl refl (stop_at end u begins) (sym joined))
   gives_end (Ok (Some found)) (phase.Ended other) h = absurd h
   gives_end (Ok (Some found)) phase.Refused h = absurd h

@@ -18,8 +18,9 @@ use Rattle.ipc_stream_read.specs.declared.event.Event.{Event as ReturnedEvent}
 use Rattle.ipc_stream_read.specs.declared.event.Event.TheVariants as report
 use Rattle.ipc_stream_read.specs.StreamStates.{Brings, IsWellFormedFrame, RefusesFrame, RefusesValues}
 use Rattle.ipc_stream_read.specs.Found.{batch_rows}
+use Rattle.ipc_stream_read.specs.ReadBatches.{IsReadFrom}
 use Rattle.ipc_stream_read.specs.Reasons.{Refuses, early, no_schema, second_schema, dictionary, no_values, no_rows}
-use Rattle.ipc_stream_read.specs.Stream.{InForce, State, Event, schema, batch, Step, IsMessage}
+use Rattle.ipc_stream_read.specs.Stream.{InForce, State, Event, schema, batch, Step, IsMessage, done}
 use Rattle.ipc_stream_read.specs.Verdicts.{Decision, at_mark, at_size, at_metadata, at_body, FallsAt, Reason}
 
 -- ---- one frame
@@ -35,7 +36,8 @@ frame_well_formed limits x (f.Message meta (h.Batch b pairs) body) is = tt
 abbrev pub Brought : Limits → State → State → List ℕ → Option ReturnedEvent → Type 0
 Brought limits σ τ x None = IsMessage limits σ x [] τ
 Brought limits σ τ x (Some report.Schema) = (s : Schema) × IsMessage limits σ x (schema s ∷ []) τ
-Brought limits σ τ x (Some (report.Batch found pairs)) = IsMessage limits σ x (batch (batch_rows (found, pairs)) ∷ []) τ
+Brought limits σ τ x (Some (report.Batch found pairs)) =
+    IsMessage limits σ x (batch (batch_rows (found, pairs)) ∷ []) τ × IsReadFrom limits σ x found
 Brought limits σ τ x (Some report.End) = (x ≡ end_of_stream) × (τ ≡ σ) × (τ ≢ None)
 
 message_of : (limits : Limits) (σ τ : State) (x metadata body : List ℕ) (g : Head) (es : List Event) → Frame limits x metadata g body
@@ -49,8 +51,21 @@ pub brought : (limits : Limits) (σ τ : State) (x : List ℕ) (frame : Framed) 
 brought limits σ τ x (f.Message meta g body) None is b = message_of limits σ τ x meta.items body.items g [] is b
 brought limits σ τ x (f.Message meta g body) (Some report.Schema) is b =
     (b.0, message_of limits σ τ x meta.items body.items g (schema b.0 ∷ []) is b.1)
-brought limits σ τ x (f.Message meta g body) (Some (report.Batch found pairs)) is b =
-    message_of limits σ τ x meta.items body.items g (batch (batch_rows (found, pairs)) ∷ []) is b
+brought limits σ τ x (f.Message meta g body) (Some (report.Batch found pairs)) is b = (
+  message_of limits σ τ x meta.items body.items g (batch (batch_rows (found, pairs)) ∷ []) is b.0,
+  record {
+    silent = [];
+    message = x;
+    joined = refl;
+    state = σ;
+    run = done;
+    metadata = meta.items;
+    head = g;
+    body = body.items;
+    frame = is;
+    checked = b.1;
+  },
+)
 brought limits σ τ x (f.Message meta g body) (Some report.End) is b = absurd b
 brought limits σ τ x f.End None is b = absurd b
 brought limits σ τ x f.End (Some report.Schema) is b = absurd b

@@ -113,7 +113,7 @@ module _ (old new : Decoding) (fits : old.messages ≤ 2 ^ 64 - 1) where
   pub tells : (x : List ℕ) (e : ReturnedEvent) → Brought old.limits old.state new.state x (Some e) → Went old new (Some e)
       → ReportsEvent old new x e
   tells x report.Schema b m = (b.0, one_told x (schema b.0) b.1 m.0 m.1)
-  tells x (report.Batch found pairs) b m = one_told x (batch (batch_rows (found, pairs))) b m.0 m.1
+  tells x (report.Batch found pairs) b m = (one_told x (batch (batch_rows (found, pairs))) b.0 m.0 m.1, b.1)
   tells x report.End b m = (subst (λ z. Reaches old new x [] z) b.0 (still x b.1 m.1), b.2, m.0)
 
   -- or tells nothing

@@ -8,6 +8,7 @@ use Rattle.ipc_model.specs.Answers.{UnlessOutOfMemory}
 use Rattle.ipc_model.specs.declared.fault.Fault.{Fault}
 use Rattle.ipc_model.specs.declared.limits.Limits.{Limits}
 use Rattle.ipc_frame.specs.Frames.{end_of_stream, IsSized, Pending}
+use Rattle.ipc_column.specs.Contents.{Contents}
 use Rattle.ipc_stream_read.specs.declared.event.Event.{Event as ReturnedEvent}
 use Rattle.ipc_stream_read.specs.declared.event.Event.TheVariants as report
 use Rattle.ipc_stream_read.specs.declared.feed_progress.FeedProgress.{FeedProgress}
@@ -18,9 +19,10 @@ use Rattle.ipc_stream_read.specs.Decoding.{ReportsOneEvent, Waits}
 use Rattle.ipc_stream_read.specs.Decoding.{taking}
 use Rattle.ipc_stream_read.specs.MessageFeeds.{FeedsMessage, FeedsSilent}
 use Rattle.ipc_stream_read.specs.Found.{batch_rows}
+use Rattle.ipc_stream_read.specs.ReadBatches.{IsReadFrom}
 use Rattle.ipc_stream_read.specs.Stream.{State, Event, schema, batch}
 use Rattle.ipc_stream_read.specs.Verdicts.{Decision, Reached, Reason}
-use Rattle.ipc_stream_read.proofs.Runs.{last_after, messages_after}
+use Rattle.ipc_stream_read.proofs.Runs.{last_after, messages_after, run_then}
 use Rattle.ipc_stream_read.proofs.Verdicts.{messages_reached, reached_then}
 
 -- what is told by so many messages
@@ -53,9 +55,27 @@ module _ (a b c : Decoding) (x z w : List ℕ) (same : b.limits ≡ a.limits) (p
       (last_after a.state b.state c.state p.reached.whole (z ++ w) e p.reached.run behind.0, joined) in
       record { last = all.0; counted = omega (arith, p.counted, q.counted, behind.1, all.1); stage = q.stage }
 
+  read_then : (found : Contents) → IsReadFrom b.limits b.state (z ++ w) found → IsReadFrom a.limits a.state (x ++ w) found
+  read_then found q =
+      let t = subst (λ l. IsReadFrom l b.state (z ++ w) found) same q in
+      let bytes : x ++ w ≡ p.reached.whole ++ (z ++ w) =
+      ap (λ y. y ++ w) p.reached.joined ∙ append_assoc p.reached.whole z w in
+      record {
+        silent = p.reached.whole ++ t.silent;
+        message = t.message;
+        joined = bytes ∙ (ap (λ y. p.reached.whole ++ y) t.joined ∙ sym (append_assoc p.reached.whole t.silent t.message));
+        state = t.state;
+        run = run_then a.state b.state t.state p.reached.whole t.silent [] [] p.reached.run t.run;
+        metadata = t.metadata;
+        head = t.head;
+        body = t.body;
+        frame = t.frame;
+        checked = t.checked;
+      }
+
   pub tells_then : (e : ReturnedEvent) → ReportsEvent b c (z ++ w) e → ReportsEvent a c (x ++ w) e
   tells_then report.Schema h = (h.0, one_then (schema h.0) h.1)
-  tells_then (report.Batch found pairs) h = one_then (batch (batch_rows (found, pairs))) h
+  tells_then (report.Batch found pairs) h = (one_then (batch (batch_rows (found, pairs))) h.0, read_then found h.1)
   tells_then report.End h = (reaches_then end_of_stream [] h.0, h.1, h.2)
 
   pub waits_then : Waits b c (z ++ w) → Waits a c (x ++ w)

@@ -1,5 +1,6 @@
 pub mod Rooms
 pub mod Runs
+pub mod Prefixes
 pub mod Dictionaries
 pub mod Scoped
 pub mod OneReading

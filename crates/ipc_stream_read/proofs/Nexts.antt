@@ -130,7 +130,7 @@ module _ (old new : Option (List ℕ)) (n0 n1 : ℕ) (before after : Decoding) (
   next_columns found pairs p h =
       let b = batch (batch_rows (found, pairs)) in
       columns_of before.state after.state
-      (run_keeps (told_run before.state after.state p.x b p.gives.last) some).of_state h
+      (run_keeps (told_run before.state after.state p.x b p.gives.0.last) some).of_state h
     where
       columns_of : (σ τ : State) → schema_of τ ≡ schema_of σ → HasColumns τ (report.Batch found pairs)
           → HasAllColumns σ (next.Batch found pairs)
@@ -189,7 +189,7 @@ module _ (old new : Option (List ℕ)) (n0 n1 : ℕ) (before after : Decoding) (
   pub batch_first : (found : Contents) (pairs : List (List ℕ × List ℕ))
       → Pulls old new n0 n1 before after (Ok (Some (report.Batch found pairs))) → ⊥
   batch_first found pairs p =
-      let last = p.gives.last in
+      let last = p.gives.0.last in
       step_no_batch (batch_rows (found, pairs)) last.report.step (run_closed last.run none refl).1 refl
 
   pub mark_first : Pulls old new n0 n1 before after (Ok (Some report.End)) → ⊥

@@ -126,8 +126,8 @@ told_pieces d g z left k pieces events stage pending
     (goes_on {e = e} {piece = piece} {pieces = more} {events = later} n {event = report.Batch found pairs} on call rest) =
     let f = (feeds_on d e z piece (Ok (n, Some (report.Batch found pairs))) stage call).1 in
     let b = batch (batch_rows (found, pairs)) in
-    let v = told_pieces e g [] left 4 (drop n piece ∷ more) later f.stage (subst (λ l. Pending l [] 4) (sym call.1) pending_none) rest in
-    let h = told_reached d.state e.state (z ++ take n piece) b f.last in
+    let v = told_pieces e g [] left 4 (drop n piece ∷ more) later f.0.stage (subst (λ l. Pending l [] 4) (sym call.1) pending_none) rest in
+    let h = told_reached d.state e.state (z ++ take n piece) b f.0.last in
     record {
       x = h.whole ++ v.x;
       joined = cut_at z piece (concat more) n
@@ -211,9 +211,9 @@ refused_pieces d z k pieces events fault stage pending
     (after_event {e = e} {piece = piece} {pieces = more} {events = later} n {event = report.Batch found pairs} on call rest) other =
     let f = (feeds_on d e z piece (Ok (n, Some (report.Batch found pairs))) stage call).1 in
     let b = batch (batch_rows (found, pairs)) in
-    let v = refused_pieces e [] 4 (drop n piece ∷ more) later fault f.stage (subst (λ l. Pending l [] 4) (sym call.1) pending_none) rest
+    let v = refused_pieces e [] 4 (drop n piece ∷ more) later fault f.0.stage (subst (λ l. Pending l [] 4) (sym call.1) pending_none) rest
     other in
-    let h = told_reached d.state e.state (z ++ take n piece) b f.last in
+    let h = told_reached d.state e.state (z ++ take n piece) b f.0.last in
     refused_behind d e (z ++ take n piece) [] (b ∷ []) h call.1 (drop n piece ∷ more) later fault v z (piece ∷ more)
     (cut_at z piece (concat more) n) (report.Batch found pairs ∷ later) (refl, v.are_told)
 refused_pieces d z k pieces events fault stage pending (after_event n {event = report.End} on call rest) other = absurd on

@@ -182,7 +182,7 @@ told_bytes before after x event h =
 
 told_some : (before after : Decoding) (x : List ℕ) (e : ReturnedEvent) → ReportsEvent before after x e → 0 < length x
 told_some before after x report.Schema h = told_bytes before after x (schema h.0) h.1
-told_some before after x (report.Batch found pairs) h = told_bytes before after x (batch (batch_rows (found, pairs))) h
+told_some before after x (report.Batch found pairs) h = told_bytes before after x (batch (batch_rows (found, pairs))) h.0
 told_some before after x report.End h =
     omega (arith, ap length h.0.reached.joined, length-append h.0.reached.whole end_of_stream)
 

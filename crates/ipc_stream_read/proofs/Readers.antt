@@ -17,6 +17,7 @@ use Rattle.ipc_stream_read.specs.Reader.{dictionaries_in}
 use Rattle.ipc_stream_read.specs.Reader.{in_force_of}
 use Rattle.ipc_stream_read.specs.Failures.{FailsAs}
 use Rattle.ipc_stream_read.specs.Reader.{KeepsNone, phase_of, schema_in}
+use Rattle.ipc_stream_read.specs.ReadBatches.{IsReadFrom}
 use Rattle.ipc_stream_read.specs.Reasons.{Ends, NeedsMemory, Reads}
 use Rattle.ipc_stream_read.specs.Stream.{State, Event, schema, batch, Run}
 use Rattle.ipc_stream_read.specs.Taken.{ReadsNext, StopsAt, TakesSchema}
@@ -135,8 +136,11 @@ module _ (old new : Option (List ℕ)) (f0 f1 b0 b1 n0 n1 : ℕ) (before after :
       record {
         x = t.x;
         bytes = t.takes.bytes;
-        gives = at_phases t.x (Ok (Some (found, pairs))) (taking []) t.gives.stage (leads t.x b t.gives);
-        same_schema = (run_keeps (told_run before.state after.state t.x b t.gives.last) some).in_state;
+        gives = at_phases t.x (Ok (Some (found, pairs))) (taking []) t.gives.0.stage (
+          leads t.x b t.gives.0,
+          subst (λ σ. IsReadFrom before.limits σ t.x found) (some_is before.state some) t.gives.1,
+        );
+        same_schema = (run_keeps (told_run before.state after.state t.x b t.gives.0.last) some).in_state;
         same_limits = t.same_limits;
         counted = t.takes.counted;
       }
@@ -187,10 +191,10 @@ module _ (old new : Option (List ℕ)) (f0 f1 n0 n1 : ℕ) (before after : Decod
   -- it does so behind what was read next
   pub ready : (r : Result NextItem Fault) → ReadsNext old new n0 n1 before after r → FailsAs f0 f1 r → Ready f1 n1 after
   ready (Ok (next.Batch found pairs)) t fails = record {
-    is_open = run_open (told_run before.state after.state t.x (batch (batch_rows (found, pairs))) t.gives.last) some;
-    between = λ z is. let same : taking [] ≡ taking z = sym t.gives.stage ∙ is in let none : [] ≡ z = cc in sym none;
+    is_open = run_open (told_run before.state after.state t.x (batch (batch_rows (found, pairs))) t.gives.0.last) some;
+    between = λ z is. let same : taking [] ≡ taking z = sym t.gives.0.stage ∙ is in let none : [] ≡ z = cc in sym none;
     works = λ z is. fails.1;
-    counted = omega (arith, t.gives.counted);
+    counted = omega (arith, t.gives.0.counted);
     taken_counted = omega (arith, t.takes.counted);
   }
   ready (Ok (next.Ended end)) t fails =

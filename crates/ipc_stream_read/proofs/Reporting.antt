@@ -52,7 +52,7 @@ all_rows_last (b ∷ bs) last = let more = all_rows_last bs last in omega (arith
 batch_given : (now new : Reader) (p q : StreamPhase) (x : List ℕ) (found : ReadRows) → p ≡ Reading
     → NextAnswer now new p x (Ok (Some found)) q
     → LeadsTo now new x (batch (batch_rows found))
-batch_given now new Reading Reading x found is h = h
+batch_given now new Reading Reading x found is h = h.0
 batch_given now new Reading (Ended e) x found is h = absurd h
 batch_given now new Reading Refused x found is h = absurd h
 batch_given now new (Ended e) q x found is h = absurd (cc)

@@ -1,5 +1,5 @@
 -- Runs of messages, one after another.
-use Rattle.std.proofs.Common.{◌≡◌, ◌∙◌, refl, sym, ap, subst, ℕ, suc, ◌+◌, List, [], ◌∷◌, ◌++◌, length, Option, Result, append_assoc}
+use Rattle.std.proofs.Common.{◌≡◌, ◌∙◌, refl, sym, ap, subst, ℕ, suc, ◌+◌, List, [], ◌∷◌, ◌++◌, length, Option, Result, Err, append_assoc}
 use Rattle.std.proofs.Common.{arith, length-append}
 use Rattle.std.proofs.lemmas.List.{append-nil}
 use Rattle.ipc_model.specs.declared.fault.Fault.{Fault}
@@ -8,7 +8,7 @@ use Rattle.ipc_frame.specs.Frames.{Frame}
 use Rattle.ipc_stream_read.specs.declared.end.End.{End}
 use Rattle.ipc_stream_read.specs.Counts.{messages_in}
 use Rattle.ipc_stream_read.specs.Decoding.{ReportsLastEvent}
-use Rattle.ipc_stream_read.specs.Reasons.{Reads}
+use Rattle.ipc_stream_read.specs.Reasons.{Breaks, Reads}
 use Rattle.ipc_stream_read.specs.Verdicts.{Reached}
 use Rattle.ipc_stream_read.specs.Stream.{State, Event, Step, Run, done, more}
 use Rattle.ipc_model.specs.declared.limits.Limits.{Limits}
@@ -102,3 +102,10 @@ reads_after σ τ x y left es fs r run reads = record {
   run = run_then σ τ reads.state x reads.whole es fs run reads.run;
   ends = reads.ends;
 }
+
+-- and breaks off there
+pub breaks_after : {limits : Limits} → (σ τ : State) (x y : List ℕ) (left : Option (List ℕ)) (es fs : List Event) (e : Fault)
+    → Run limits σ x es τ
+    → Breaks limits τ y left fs e → Breaks limits σ (x ++ y) left (es ++ fs) e
+unfolding reads_after
+breaks_after σ τ x y left es fs e run b = (reads_after σ τ x y left es fs (Err e) run b.0, b.1)

@@ -1,6 +1,6 @@
 -- What a scope brings and sets.
-use Rattle.std.proofs.Common.{◌≡◌, ◌∙◌, sym, ap, subst, ℕ, ℤ, List, [], ◌∷◌, length, Some, None, Result, Ok, Err}
-use Rattle.std.specs.Prelude.{IfErr, OnErr, OnOk}
+use Rattle.std.proofs.Common.{◌≡◌, ◌∙◌, sym, ap, subst, ℕ, ◌≤◌, ℤ, List, [], ◌∷◌, length, map, Some, None, Result, Ok, Err}
+use Rattle.std.specs.Prelude.{IfErr, IfOk, OnErr, OnOk}
 use Rattle.ipc_model.specs.declared.fault.Fault.{Fault}
 use Rattle.ipc_model.specs.declared.fault.Fault.TheVariants.{OutOfMemory}
 use Rattle.ipc_model.specs.declared.limits.Limits.{Limits}
@@ -9,12 +9,18 @@ use Rattle.ipc_meta.specs.declared.head.BatchHead.{BatchHead}
 use Rattle.ipc_meta.specs.declared.head.Head.TheVariants as h
 use Rattle.ipc_frame.specs.declared.frame.Frame.{Frame as Framed}
 use Rattle.ipc_frame.specs.declared.frame.Frame.TheVariants as f
-use Rattle.ipc_column.specs.Contents.{Contents}
+use Rattle.ipc_model.specs.declared.schema.Field.{Field}
+use Rattle.ipc_column.specs.Contents.{Contents, layouts}
+use Rattle.ipc_column.specs.Dictionaries.{Dictionaries}
 use Rattle.ipc_column.specs.DictionaryBatches.{dictionary_values}
+use Rattle.ipc_column.specs.Nested.{found_columns, with_children}
+use Rattle.ipc_column.specs.Shapes.{field_columns, field_layout}
+use Rattle.ipc_column.specs.checks.Rules.{slots_in, visits_in}
 use Rattle.ipc_dict_read.specs.DictionariesState.{DictionariesState}
 use Rattle.ipc_dict_read.specs.InForce.{put}
 use Rattle.ipc_stream_read.specs.declared.event.Event.TheVariants as report
 use Rattle.ipc_stream_read.specs.declared.scope.Scope.{Scope}
+use Rattle.ipc_stream_read.specs.ReadBatches.{IsCheckedBatch}
 use Rattle.ipc_stream_read.specs.StreamStates.{Brings, BringsScope, GivesValues, SetsValues}
 use Rattle.ipc_stream_read.specs.Scopes.{dictionaries_of, in_scope}
 use Rattle.ipc_stream_read.specs.Stream.{DictionaryInForce, InForce, Step, first, sets, schema}
@@ -49,3 +55,22 @@ sets_values limits s a b id head body values (Ok x) gives after err memory =
     (Some (record { schema = s; dictionaries = d }))) (sym now) (sets gives.1 gives.2)
 sets_values limits s a b id head body values (Err e) gives after err memory =
     (ap (with_batches s) err, λ other. absurd (other memory))
+
+-- what is answered for a head and a body has the buffers and the body
+pub answers_checked : (r : Result Contents Fault) (m n : Dictionaries) (gs fields : List Field) (head : BatchHead) (body : List ℕ)
+    → m ≡ n → gs ≡ fields
+    → IfOk r (λ batch. layouts batch ≡ map field_layout gs)
+    → IfOk r (λ batch. map with_children batch.slots ≡ found_columns (field_columns m gs head body))
+    → IfOk r (λ batch. batch.body ≡ body) → IfOk r (λ batch. batch.body_len ≡ length body)
+    → IfOk r (λ batch. batch.tests ≤ visits_in (field_columns m gs head body)) → IfOk r (λ batch. batch.tests ≤ slots_in head.nodes)
+    → IfOk r (IsCheckedBatch n fields head body)
+answers_checked (Ok batch) m n gs fields head body same is lie buffers bytes len visits tests =
+    subst (λ k. IsCheckedBatch k fields head body batch) same (subst (λ fs. IsCheckedBatch m fs head body batch) is (record {
+      column_layouts = lie;
+      buffers = buffers;
+      bytes = bytes;
+      bytes_len = len;
+      visits = visits;
+      visits_at_most = tests;
+    }))
+answers_checked (Err e) m n gs fields head body same is lie buffers bytes len visits tests = tt

@@ -10,35 +10,36 @@ use Rattle.ipc_model.specs.declared.limits.Limits.{Limits}
 use Rattle.ipc_model.specs.declared.schema.Schema.{Schema}
 use Rattle.ipc_model.specs.declared.table.BatchRows.{BatchRows}
 use Rattle.ipc_column.specs.Contents.{Contents}
-use Rattle.ipc_frame.proofs.Exact.{pending_none}
+use Rattle.ipc_frame.proofs.Sized.{frame_sized}
 use Rattle.ipc_stream_read.specs.declared.end.End.{End}
 use Rattle.ipc_stream_read.specs.declared.source_reading.NextItem.{NextItem}
 use Rattle.ipc_stream_read.specs.declared.source_reading.NextItem.TheVariants as next
-use Rattle.ipc_stream_read.specs.Decoding.{Decoding, Stage, schema_of, taking, over, refused}
+use Rattle.ipc_stream_read.specs.Decoding.{Decoding, ReportsLastEvent, Stage, schema_of, taking, over, refused}
 use Rattle.ipc_stream_read.specs.Found.{batch_rows}
 use Rattle.ipc_stream_read.specs.Stream.{State, Event, schema, batch, Run, done, initial_state}
 use Rattle.ipc_stream_read.specs.Reasons as reasons
-use Rattle.ipc_stream_read.specs.Reasons.{Reads, IsUndecidedPrefix}
-use Rattle.ipc_stream_read.specs.Taken.{ReadsNext, StopsAt, TakesBatches, TakesSchema, TakesTable}
+use Rattle.ipc_stream_read.specs.Reasons.{Breaks, Reads}
+use Rattle.ipc_stream_read.specs.Taken.{ReadsNext, RunsOut, StopsAt, TakesBatches, TakesSchema, TakesTable}
 use Rattle.ipc_stream_read.proofs.Nexts.{run_keeps, stops_reads}
+use Rattle.ipc_stream_read.proofs.Prefixes.{undecided_frame}
 use Rattle.ipc_stream_read.proofs.Reasons.{run_open}
-use Rattle.ipc_stream_read.proofs.Runs.{run_then, reads_after, told_run}
+use Rattle.ipc_stream_read.proofs.Runs.{breaks_after, run_then, reads_after, told_run}
 
--- no bytes are no more than were wanted
-pub wanted_none : {limits : Limits} → IsUndecidedPrefix limits []
-wanted_none = record { front = []; behind = []; wants = 4; joined = refl; undecided = pending_none; few = omega arith }
-
--- memory ran out behind whole messages
-no_memory : {limits : Limits} → (σ τ : State) (x : List ℕ) (left : Option (List ℕ)) (es : List Event) → Run limits σ x es τ
-    → Reads limits σ x left es (Err OutOfMemory)
-no_memory σ τ x left es run = record {
-  state = τ;
-  whole = x;
-  rest = [];
-  joined = sym (append-nil x);
-  run = run;
-  ends = reasons.aside (inr refl) wanted_none;
-}
+-- memory ran out for the event of the last message
+no_memory : {limits : Limits} → (σ τ : State) (x : List ℕ) (left : Option (List ℕ)) (e : Event) → ReportsLastEvent limits σ x e τ
+    → Breaks limits σ x left [] OutOfMemory
+no_memory σ τ x left e t =
+    let m = t.report in (
+      record {
+        state = t.between;
+        whole = t.silent;
+        rest = t.message;
+        joined = t.joined;
+        run = t.run;
+        ends = reasons.aside (inr refl) (undecided_frame t.message m.metadata m.body m.head m.frame);
+      },
+      λ out. frame_sized t.message m.metadata m.body m.head m.frame,
+    )
 
 -- these batches were read
 pub record Batches (old now : Option (List ℕ)) (failed_old failed taken : ℕ) (before decoder : Decoding) (batches : List BatchRows)
@@ -88,12 +89,19 @@ module _ (old now new : Option (List ℕ)) (f0 f1 n1 n2 : ℕ) (before decoder a
       reads_after before.state decoder.state b.x x new (map batch batches) [] end b.run
       (subst (λ l. Reads l decoder.state x new [] end) b.same_limits (stops_reads decoder after x new stage end t))
 
+  -- so does reading that breaks off there
+  breaks_here : (e : Fault) (x : List ℕ) → Breaks decoder.limits decoder.state x new [] e
+      → Breaks before.limits before.state (b.x ++ x) new (map batch batches ++ []) e
+  breaks_here e x h =
+      breaks_after before.state decoder.state b.x x new (map batch batches) [] e b.run
+      (subst (λ l. Breaks l decoder.state x new [] e) b.same_limits h)
+
   -- where a fault is read behind some batches, it is answered
   pub batches_broken : (e : Fault) → ReadsNext now new n1 n2 decoder after (Err e) → TakesBatches old new before (Err e)
   batches_broken e t = record {
     x = b.x ++ t.x;
     bytes = Consumes-trans old now new b.x t.x b.bytes t.takes.bytes;
-    gives = (map batch batches ++ [], reads_here refused (Err e) t.x t.gives);
+    gives = (map batch batches ++ [], breaks_here e t.x (stops_reads decoder after t.x new refused (Err e) t.gives, t.gives.memory));
   }
 
   -- where the end is read behind some batches, they are all
@@ -118,7 +126,7 @@ module _ (old now new : Option (List ℕ)) (f0 f1 n1 n2 : ℕ) (before decoder a
       all = batches ++ (batch_rows (found, pairs) ∷ [])
 
       run_now : Run decoder.limits decoder.state t.x (batch (batch_rows (found, pairs)) ∷ []) after.state
-      run_now = told_run decoder.state after.state t.x (batch (batch_rows (found, pairs))) t.gives.last
+      run_now = told_run decoder.state after.state t.x (batch (batch_rows (found, pairs))) t.gives.0.last
 
       run_all : Run before.limits before.state (b.x ++ t.x) (map batch all) after.state
       run_all =
@@ -132,7 +140,11 @@ module _ (old now new : Option (List ℕ)) (f0 f1 n1 n2 : ℕ) (before decoder a
       batches_full = record {
         x = b.x ++ t.x;
         bytes = Consumes-trans old now new b.x t.x b.bytes t.takes.bytes;
-        gives = (map batch all, no_memory before.state after.state (b.x ++ t.x) new (map batch all) run_all);
+        gives = (
+          map batch batches ++ [],
+          breaks_here OutOfMemory t.x
+              (no_memory decoder.state after.state t.x new (batch (batch_rows (found, pairs))) t.gives.0.last),
+        );
       }
 
       -- where one batch more is read, the batches that were read are those from before and it
@@ -142,8 +154,8 @@ module _ (old now new : Option (List ℕ)) (f0 f1 n1 n2 : ℕ) (before decoder a
         still_open = run_open run_now b.still_open;
         same_limits = t.same_limits ∙ b.same_limits;
         same_schema = (run_keeps run_now b.still_open).of_state ∙ b.same_schema;
-        between = t.gives.stage;
-        counted = omega (arith, t.gives.counted);
+        between = t.gives.0.stage;
+        counted = omega (arith, t.gives.0.counted);
         within = omega (arith, t.takes.counted);
         x = b.x ++ t.x;
         bytes = Consumes-trans old now new b.x t.x b.bytes t.takes.bytes;
@@ -175,7 +187,23 @@ module _ (old now new : Option (List ℕ)) (n0 n1 : ℕ) (before opened : Decodi
   table_broken e b = record {
     x = t.x ++ b.x;
     bytes = Consumes-trans old now new t.x b.x t.takes.bytes b.bytes;
-    gives = (schema s ∷ b.gives.0, reads_all b.x b.gives.0 (Err e) b.gives.1);
+    gives = (schema s ∷ b.gives.0, reads_all b.x b.gives.0 (Err e) b.gives.1.0);
+  }
+
+  breaks_all : (x : List ℕ) (es : List Event) (e : Fault) → Breaks opened.limits opened.state x new es e
+      → Breaks limits None (t.x ++ x) new (schema s ∷ es) e
+  breaks_all x es e breaks =
+      subst (λ l. Breaks l None (t.x ++ x) new (schema s ∷ es) e) same
+      (breaks_after None (Some (initial_state s)) t.x x new (schema s ∷ []) es e t.gives.1
+      (subst (λ (d : Decoding). Breaks d.limits d.state x new es e) t.gives.2 breaks))
+
+  -- maybe for want of memory
+  pub table_full : (e : Fault) → TakesBatches now new opened (Err e) → e ≡ OutOfMemory → RunsOut limits old new
+  table_full e b is = record {
+    x = t.x ++ b.x;
+    bytes = Consumes-trans old now new t.x b.x t.takes.bytes b.bytes;
+    events = schema s ∷ b.gives.0;
+    breaks = subst (Breaks limits None (t.x ++ b.x) new (schema s ∷ b.gives.0)) is (breaks_all b.x b.gives.0 e b.gives.1);
   }
 
   -- the schema and its batches are the table
@@ -187,3 +215,14 @@ module _ (old now new : Option (List ℕ)) (n0 n1 : ℕ) (before opened : Decodi
     gives = subst (λ v. Reads limits None (t.x ++ b.x) new (schema v ∷ map batch batches) (Ok end)) (sym is)
         (reads_all b.x (map batch batches) (Ok end) b.gives);
   }
+
+-- or before the schema was read
+pub schema_full : (old new : Option (List ℕ)) (n0 n1 : ℕ) (before opened : Decoding) (limits : Limits) → before.limits ≡ limits
+    → (e : Fault)
+    → TakesSchema old new n0 n1 before opened (Err e) → e ≡ OutOfMemory → RunsOut limits old new
+schema_full old new n0 n1 before opened limits same e t is = record {
+  x = t.x;
+  bytes = t.takes.bytes;
+  events = [];
+  breaks = subst (Breaks limits None t.x new []) is (subst (λ l. Breaks l None t.x new [] e) same t.gives);
+}

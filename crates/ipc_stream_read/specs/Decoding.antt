@@ -19,6 +19,7 @@ use Rattle.ipc_stream_read.specs.declared.event.Event.{Event as ReturnedEvent}
 use Rattle.ipc_stream_read.specs.declared.event.Event.TheVariants as report
 use Rattle.ipc_stream_read.specs.Counts.{count_up, messages_in}
 use Rattle.ipc_stream_read.specs.Found.{batch_rows}
+use Rattle.ipc_stream_read.specs.ReadBatches.{IsReadFrom}
 use Rattle.ipc_stream_read.specs.Stream.{State, Event, schema, batch, Run, IsMessage}
 use Rattle.ipc_stream_read.specs.Verdicts.{Decision, Reached, Reason}
 
@@ -67,11 +68,12 @@ abbrev pub Waits : Decoding → Decoding → List ℕ → Type 0
 Waits old new x = (rest : List ℕ) × Reaches old new x [] rest × (new.stage ≡ taking rest)
     × ((k : ℕ) × Pending old.limits rest k)
 
--- the last message of the bytes x, or the end mark, reports this event, and those before it none
+-- the last message of the bytes x, or the end mark, reports this event, and those before it none;
+-- a batch has the buffers and the body of that message
 abbrev pub ReportsEvent : Decoding → Decoding → List ℕ → ReturnedEvent → Type 0
 ReportsEvent old new x report.Schema = (s : Schema) × ReportsOneEvent old new x (schema s)
 ReportsEvent old new x (report.Batch found pairs) = ReportsOneEvent old new x
-    (batch (batch_rows (found, pairs)))
+    (batch (batch_rows (found, pairs))) × IsReadFrom old.limits old.state x found
 ReportsEvent old new x report.End =
     Reaches old new x [] end_of_stream × (new.state ≢ None) × (new.stage ≡ over Mark)
 

@@ -1,6 +1,7 @@
 pub mod Failures
 pub mod Stream
 pub mod Found
+pub mod ReadBatches
 pub mod Counts
 pub mod Reasons
 pub mod Verdicts

@@ -16,6 +16,7 @@ use Rattle.ipc_stream_read.specs.Decoding.{Stage, taking, over, refused, Reports
 use Rattle.ipc_stream_read.specs.Stream.{DictionaryInForce, InForce, State, Event, schema, batch}
 use Rattle.ipc_stream_read.specs.Stream.{Run}
 use Rattle.ipc_stream_read.specs.Found.{ReadRows, batch_rows}
+use Rattle.ipc_stream_read.specs.ReadBatches.{IsReadFrom}
 use Rattle.ipc_stream_read.specs.Reasons.{Ends, NeedsMemory, Reads}
 use Rattle.ipc_stream_read.specs.Counts.{count_up, messages_in}
 use Rattle.ipc_model.specs.declared.limits.Limits.{Limits}
@@ -105,12 +106,13 @@ pub record Stays (old new : Reader) (x : List ℕ) : Type 0 where
   pub messages : new.messages ≡ old.messages
 
 -- the result of a call of `next` that took these bytes, by the phase before and after it: a batch,
--- the end, or a fault
+-- which has the buffers and the body of its message, the end, or a fault
 abbrev pub NextAnswer : Reader → Reader → StreamPhase → List ℕ → Result (Option ReadRows) Fault
     → StreamPhase
     → Type 0
 NextAnswer old new Reading x (Ok (Some found)) Reading =
     LeadsTo old new x (batch (batch_rows found))
+    × IsReadFrom old.limits (Some (in_force_of old)) x found.0
 NextAnswer old new Reading x (Ok None) (Ended end) = EndsBehind old new x (Ok end)
 NextAnswer old new Reading x (Err fault) Refused = EndsBehind old new x (Err fault)
 NextAnswer old new (Ended end) x (Ok None) (Ended same) = (same ≡ end) × Stays old new x

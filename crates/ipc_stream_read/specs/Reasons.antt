@@ -102,3 +102,9 @@ pub record Reads (limits : Limits) (σ : State) (x : List ℕ) (left : Option (L
   pub joined : x ≡ whole ++ rest
   pub run : Run limits σ whole events state
   pub ends : Ends limits state rest left answer
+
+-- the bytes x are messages that report these events, and then reading breaks off for this fault; if
+-- memory runs out, it does so after the first eight bytes of a message
+abbrev pub Breaks : Limits → State → List ℕ → Option (List ℕ) → List Event → Fault → Type 0
+Breaks limits σ x left events fault =
+    (r : Reads limits σ x left events (Err fault)) × NeedsMemory limits r.rest (Err fault)

@@ -30,6 +30,7 @@ use Rattle.ipc_stream_read.specs.declared.scope.Scope.{Scope}
 use Rattle.ipc_stream_read.specs.Counts.{count_up}
 use Rattle.ipc_stream_read.specs.Decoding.{Decoding, Stage, taking, over, refused}
 use Rattle.ipc_stream_read.specs.Found.{batch_rows}
+use Rattle.ipc_stream_read.specs.ReadBatches.{IsCheckedIn}
 use Rattle.ipc_stream_read.specs.Reasons.{IsNoSchema, IsUnknownDictionary}
 use Rattle.ipc_stream_read.specs.Scopes.{in_scope, state_of}
 use Rattle.ipc_stream_read.specs.Stream.{InForce, State, Step, initial_state, values_in, schema}
@@ -104,6 +105,7 @@ Brings limits σ (f.Message meta head body) τ (Ok (Some event.Schema)) =
     (s : Schema) × Step limits σ head body.items (schema s ∷ []) τ
 Brings limits σ (f.Message meta head body) τ (Ok (Some (event.Batch found pairs))) =
     Step limits σ head body.items (batch (batch_rows (found, pairs)) ∷ []) τ
+    × IsCheckedIn σ head body.items found
 Brings limits σ f.End τ (Ok (Some event.End)) = (τ ≡ σ) × (σ ≢ None)
 Brings limits σ frame τ (Err fault) =
     (τ ≡ σ) × UnlessOutOfMemory fault (RefusesFrame limits σ frame fault)

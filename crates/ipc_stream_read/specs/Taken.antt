@@ -4,6 +4,7 @@ use Rattle.std.specs.Prelude.{◌≡◌, ℕ, List, [], ◌∷◌, length, map, 
 use Rattle.std.specs.Prelude.{Result, Ok, Err, ⊤}
 use Rattle.std.specs.Io.KnownBytes.{Consumes}
 use Rattle.ipc_model.specs.declared.fault.Fault.{Fault}
+use Rattle.ipc_model.specs.declared.fault.Fault.TheVariants.{OutOfMemory}
 use Rattle.ipc_model.specs.declared.limits.Limits.{Limits}
 use Rattle.ipc_model.specs.declared.schema.Schema.{Schema}
 use Rattle.ipc_model.specs.declared.table.BatchRows.{BatchRows}
@@ -18,7 +19,8 @@ use Rattle.ipc_stream_read.specs.Decoding.{Decoding, Stage, taking, over, refuse
 use Rattle.ipc_stream_read.specs.Decoding.{ReportsEvent}
 use Rattle.ipc_stream_read.specs.Decoding.{ReportsOneEvent}
 use Rattle.ipc_stream_read.specs.Found.{batch_rows}
-use Rattle.ipc_stream_read.specs.Reasons.{Ends, NeedsMemory, Reads}
+use Rattle.ipc_stream_read.specs.ReadBatches.{IsReadFrom}
+use Rattle.ipc_stream_read.specs.Reasons.{Breaks, Ends, NeedsMemory, Reads}
 use Rattle.ipc_stream_read.specs.Stream.{State, Event, schema, batch, Run, initial_state, events_of}
 
 -- a call took these bytes and counted them
@@ -62,8 +64,7 @@ GivesSchema old new x left (Ok done) = (s : Schema)
       messages = 1;
       room = new.room;
     })
-GivesSchema old new x left (Err fault) = (r : Reads old.limits None x left [] (Err fault))
-    × NeedsMemory old.limits r.rest (Err fault)
+GivesSchema old new x left (Err fault) = Breaks old.limits None x left [] fault
 
 -- the bytes that were taken from the source for the schema, and the result
 pub record TakesSchema (old new : Option (List ℕ)) (count_old count_new : ℕ)
@@ -77,6 +78,7 @@ abbrev pub ReadAnswer : Decoding → Decoding → List ℕ → Option (List ℕ)
     → Type 0
 ReadAnswer old new x left (Ok (next.Batch found pairs)) =
     ReportsOneEvent old new x (batch (batch_rows (found, pairs)))
+    × IsReadFrom old.limits old.state x found
 ReadAnswer old new x left (Ok (next.Ended end)) = StopsAt old new x left (over end) (Ok end)
 ReadAnswer old new x left (Err fault) = StopsAt old new x left refused (Err fault)
 
@@ -103,7 +105,7 @@ abbrev pub GivesBatches : Limits → State → List ℕ → Option (List ℕ)
     → Result (List BatchRows × End) Fault → Type 0
 GivesBatches limits σ x left (Ok b) = Reads limits σ x left (map batch b.0) (Ok b.1)
 GivesBatches limits σ x left (Err fault) = (events : List Event)
-    × Reads limits σ x left events (Err fault)
+    × Breaks limits σ x left events fault
 
 -- the bytes that were taken from a source after the schema, and the result
 pub record TakesBatches (old new : Option (List ℕ)) (before : Decoding)
@@ -124,3 +126,10 @@ pub record TakesTable (limits : Limits) (old new : Option (List ℕ)) (r : Resul
   pub x : List ℕ
   pub bytes : Consumes old new x
   pub gives : GivesTable limits x new r
+
+-- reading a table breaks off for want of memory, after the first eight bytes of a message
+pub record RunsOut (limits : Limits) (old new : Option (List ℕ)) : Type 0 where
+  pub x : List ℕ
+  pub bytes : Consumes old new x
+  pub events : List Event
+  pub breaks : Breaks limits None x new events OutOfMemory

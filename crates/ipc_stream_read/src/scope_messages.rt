@@ -6,6 +6,7 @@ ghost use Rattle.ipc_column.specs.DictionaryBatches.{IsDictionary};
 ghost use Rattle.ipc_column.specs.Rows.{RefusesParts, Rows};
 ghost use Rattle.ipc_stream_read.specs.StreamStates.{GivesValues, RefusesValues, SetsValues};
 ghost use Rattle.ipc_stream_read.specs.Decoding.{dictionary_bytes};
+ghost use Rattle.ipc_stream_read.specs.ReadBatches.{IsCheckedBatch};
 ghost use Rattle.ipc_stream_read.specs.Scopes.{in_scope, state_of};
 ghost use Rattle.ipc_stream_read.specs.Stream.{initial_state, values_in};
 
@@ -45,6 +46,10 @@ impl Scope {
         ensures refused { IfErr result (λ fault. RefusesParts self.now.limits fault
             (values_in (in_scope self.now).dictionaries) self.now.schema.fields head body.items) }
         ensures columns { IfOk result (λ batch. batch.columns ≡ length self.now.schema.fields) }
+        // The batch has the buffers that the head locates in the body, and keeps the body.
+        ensures checked { IfOk result (λ batch. IsCheckedBatch
+            (values_in (in_scope self.now).dictionaries) self.now.schema.fields head body.items
+            batch) }
     {
         Batch::check(
             alloc,

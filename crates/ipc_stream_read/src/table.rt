@@ -7,7 +7,7 @@ ghost use Rattle.ipc_stream_read.specs.Failures.{FailsAs};
 ghost use Rattle.ipc_stream_read.specs.Found.{batch_rows};
 ghost use Rattle.ipc_stream_read.specs.Stream.{Denotes};
 ghost use Rattle.ipc_stream_read.specs.Decoding.{schema_of, taking};
-ghost use Rattle.ipc_stream_read.specs.Taken.{TakesBatches, TakesTable};
+ghost use Rattle.ipc_stream_read.specs.Taken.{RunsOut, TakesBatches, TakesTable};
 
 use crate::decoder::Decoder;
 use crate::end::End;
@@ -66,6 +66,8 @@ fn read_messages<R: Source>(
     source: &mut R,
 ) -> Result<(Table, End), Fault>
     ensures table { TakesTable limits.now (R.remaining source.old) (R.remaining source.new) result }
+    ensures memory { IfErr result (λ fault. fault ≡ Fault.OutOfMemory
+        → RunsOut limits.now (R.remaining source.old) (R.remaining source.new)) }
     ensures failures { FailsAs (R.failures source.old) (R.failures source.new) result }
 {
     let mut decoder = Decoder::new(alloc, *limits);
@@ -92,7 +94,7 @@ fn read_messages<R: Source>(
 /// - F10, F11, and F25 to F34: the last byte of a message's body.
 /// - F4: the source ends elsewhere than after the schema and between two messages.
 /// - F36: exactly if the source failed in this call.
-/// - F37: memory ran out.
+/// - F37: memory ran out, after byte 8 of a message.
 pub fn read_table<R: Source>(
     alloc: Global,
     limits: &Limits,
@@ -119,6 +121,9 @@ pub fn read_table<R: Source>(
         (λ fault. fault ≡ Fault.OutOfMemory) }
     // Whatever the answer, what was taken, and why reading ended there.
     ensures exact { TakesTable limits.now (R.remaining source.old) (R.remaining source.new) result }
+    // Memory runs out only after the first eight bytes of a message, and not at the mark.
+    ensures memory { IfErr result (λ fault. fault ≡ Fault.OutOfMemory
+        → RunsOut limits.now (R.remaining source.old) (R.remaining source.new)) }
     // F36 is answered exactly where the source failed in this call.
     ensures failures { FailsAs (R.failures source.old) (R.failures source.new) result }
 {

@@ -97,7 +97,7 @@ copied_none options r w reading source works sink is = record {
 -- what a call that gave a batch says, where the reader was reading
 gave : (now new : Reader) (p q : StreamPhase) (x : List ℕ) (found : ReadRows) → p ≡ Reading → NextAnswer now new p x (Ok (Some found)) q
     → (q ≡ Reading) × LeadsTo now new x (batch (batch_rows found))
-gave now new Reading Reading x found is h = (refl, h)
+gave now new Reading Reading x found is h = (refl, h.0)
 gave now new Reading (Ended e) x found is h = absurd h
 gave now new Reading Refused x found is h = absurd h
 gave now new (Ended e) q x found is h = absurd (cc)

@@ -11,4 +11,4 @@ returns-in-Batch-clause-next c =
     subst (λ f. Brings c.args.scope.now.limits (Some (in_scope c.args.scope.now)) f (Some (in_scope c.args.scope.now))
     (Ok (Some (report.Batch c.in_ok-batch-in-Batch.batch c.in-Batch.pairs))))
     (sym (c.in-Message.is ∙ ap (λ g. f.Message c.in-Message.meta g c.in-Message.body) c.in-Batch.is))
-    (came c.in_ok-batch-in-Batch.ensures.rows)
+    (came c.in_ok-batch-in-Batch.ensures.rows, c.in_ok-batch-in-Batch.ensures.checked)

@@ -3,6 +3,7 @@ use Rattle.std.specs.Prelude.{IfErr, IfOk}
 use Rattle.ipc_column.specs.DictionaryBatches.{dictionaries_in}
 use Rattle.ipc_column.specs.Rows.{RefusesParts, Rows}
 use Rattle.ipc_stream_read.proofs.Dictionaries.{shown_values}
+use Rattle.ipc_stream_read.proofs.Scoped.{answers_checked}
 use Rattle.ipc_stream_read.proofs.scope.Scope.read_batch.Goals as goal
 
 pub returns-clause-rows : goal.returns-clause-rows
@@ -22,3 +23,10 @@ returns-clause-refused c =
     (subst (λ fs. IfErr c.check.result
     (λ fault. RefusesParts c.args.self.now.limits fault (dictionaries_in c.current.result.now) fs c.args.head c.args.body.items))
     c.as_slice.ensures c.check.ensures.refused)
+
+pub returns-clause-checked : goal.returns-clause-checked
+returns-clause-checked c =
+    answers_checked c.check.result _ _ c.as_slice.result.now _ c.args.head c.args.body.items
+    (shown_values c.current.result.now c.args.self.now.dictionaries.current c.current.ensures.current)
+    c.as_slice.ensures c.check.ensures.layouts c.check.ensures.buffers c.check.ensures.bytes c.check.ensures.body
+    c.check.ensures.visits c.check.ensures.tests
