@@ -109,13 +109,18 @@ fn draw_seed(rt: &HostRuntime) -> Seed {
     }
 }
 
-// Appends a line with the system's words for the failure of a device, if the system gave a code.
+// Appends a line with the system's words for the failure of a device, if the system gave a code. A
+// device that does not wait is no failure of the system's: another program has set it so.
 fn explain_device<W: Write>(alloc: Global, messages: &mut W, name: &str, code: Option<i32>) {
     let Some(code) = code else {
         return;
     };
     let error = io::Error::from_raw_os_error(code);
-    if let Ok(line) = format!(in alloc; "{name}: {error}\n") {
+    let hint = match error.kind() {
+        io::ErrorKind::WouldBlock => "; another program has set it not to wait (O_NONBLOCK)",
+        _ => "",
+    };
+    if let Ok(line) = format!(in alloc; "{name}: {error}{hint}\n") {
         let _ = messages.write_all(line.as_bytes());
     }
 }
