@@ -28,6 +28,7 @@ nodes_counted limits fault m fields head body front out has needs number has_all
   nodes = λ _. line ∙ ap (λ n. front ++ count_line (codes "nodes") n needs) has_all
       ∙ ap (λ n. front ++ count_line (codes "nodes") (length head.nodes) n) needs_all;
   buffers = λ other. absurd (omega (arith, number, other));
-  column = λ low high. absurd (omega (arith, number, low));
+  rows = λ other above. absurd (omega (arith, number, other));
+  column = λ low high within. absurd (omega (arith, number, low));
   other = λ beside. elim beside [ inl below ↦ absurd (omega (arith, number, below)) | inr above ↦ absurd (omega (arith, number, above)) ];
 }

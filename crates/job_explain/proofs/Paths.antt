@@ -5,18 +5,18 @@ use Rattle.std.specs.Fmt.{decimal}
 use Rattle.ipc_flat.specs.Views.{TableView}
 use Rattle.ipc_model.specs.declared.fault.Fault.{Fault}
 use Rattle.ipc_model.specs.declared.limits.Limits.{Limits}
-use Rattle.ipc_meta.specs.Tables.{text_at, code_at}
-use Rattle.job_explain.specs.FieldPaths.{FirstWith, NoneWith, NamesBelow, name_words, type_words}
+use Rattle.ipc_meta.specs.Tables.{text_at}
+use Rattle.job_explain.specs.FieldPaths.{FirstWith, NoneWith, NamesBelow, end_words, name_words}
 
 -- the path ends at the last level that is looked at
 pub names_deepest : (limits : Limits) (fault : Fault) (depth : ℕ) (t : TableView) → depth ≡ 0
-    → NamesBelow limits fault depth t (type_words (code_at t) ++ codes "\n")
+    → NamesBelow limits fault depth t (end_words fault t)
 names_deepest limits fault zero t e = refl
 names_deepest limits fault (suc depth) t e = absurd (omega arith)
 
 -- the path ends where no child has the fault
 pub names_here : (limits : Limits) (fault : Fault) (depth : ℕ) (t : TableView) → NoneWith limits fault t 5
-    → NamesBelow limits fault depth t (type_words (code_at t) ++ codes "\n")
+    → NamesBelow limits fault depth t (end_words fault t)
 names_here limits fault zero t none = refl
 names_here limits fault (suc depth) t none = inl (none, refl)
 
@@ -50,8 +50,8 @@ child_told limits fault depth i t u old mid new (Err f) some first m h = tt
 
 -- a call that appended the type has appended the path that ends here
 pub end_told : {E : Type 0} (limits : Limits) (fault : Fault) (depth : ℕ) (t : TableView) (old new : List ℕ) (res : Result Unit E)
-    → NamesBelow limits fault depth t (type_words (code_at t) ++ codes "\n")
-    → OnOk res (new ≡ old ++ (type_words (code_at t) ++ codes "\n"))
+    → NamesBelow limits fault depth t (end_words fault t)
+    → OnOk res (new ≡ old ++ (end_words fault t))
     → OnOk res ((below : List ℕ) × NamesBelow limits fault depth t below × (new ≡ old ++ below))
-end_told limits fault depth t old new (Ok x) names e = (type_words (code_at t) ++ codes "\n", names, e)
+end_told limits fault depth t old new (Ok x) names e = (end_words fault t, names, e)
 end_told limits fault depth t old new (Err f) names e = tt

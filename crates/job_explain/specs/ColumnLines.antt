@@ -1,5 +1,7 @@
 -- The line for a column of a refused record batch.
-use Rattle.std.specs.Prelude.{◌≡◌, ◌⊎◌, ℕ, ℤ, List, [], ◌∷◌, ◌++◌, codes, length, slice_get, Some}
+use Rattle.std.specs.Prelude.{◌≡◌, ◌⊎◌, ℕ, ℤ, pos, int_lt, List, [], ◌∷◌, ◌++◌, codes, length}
+use Rattle.std.specs.Prelude.{slice_get, Some, if◌then◌else◌}
+use Rattle.std.specs.List.{list_any}
 use Rattle.std.specs.Fmt.{decimal, signed_decimal}
 use Rattle.serde_json.specs.Data.{string}
 use Rattle.serde_json.specs.Written.{compact_text}
@@ -11,6 +13,7 @@ use Rattle.ipc_meta.specs.declared.head.BatchHead.{BatchHead}
 use Rattle.ipc_column.specs.Dictionaries.{Dictionaries}
 use Rattle.ipc_text_json.specs.SchemaJson.{type_json}
 use Rattle.job_explain.specs.ColumnsAlone.{FirstAlone, NoneAlone, column_head}
+use Rattle.job_explain.specs.MessageLines.{limit_words}
 
 -- the name of a field in the quotes of JSON (RFC 8259)
 abbrev pub name_words : Field → List ℕ
@@ -50,11 +53,22 @@ abbrev pub lengths_words : ℤ → ℕ → List ℕ
 lengths_words rows size = codes ": batch of length " ++ signed_decimal rows
     ++ codes ", body of length " ++ decimal size
 
+-- the words for the limit of slots, if a node is longer
+abbrev pub slots_words : ℕ → List (ℤ × ℤ) → List ℕ
+slots_words limit nodes = if list_any (λ node. int_lt (pos limit) node.0) nodes
+    then limit_words (codes "; --max-rows") limit else []
+
 -- the line for the column with this number and field, in a batch of this length and with a body of
--- this size, with its nodes and buffers
-abbrev pub column_line : ℕ → Field → ℤ → ℕ → List (ℤ × ℤ) → List (ℤ × ℤ) → List ℕ
-column_line number f rows size nodes buffers = title_words number f ++ lengths_words rows size
-    ++ nodes_words nodes ++ buffers_words buffers ++ codes "\n"
+-- this size, with its nodes and buffers, and with the limit of slots if a node is longer
+abbrev pub column_line : ℕ → ℕ → Field → ℤ → ℕ → List (ℤ × ℤ) → List (ℤ × ℤ) → List ℕ
+column_line limit number f rows size nodes buffers = title_words number f
+    ++ lengths_words rows size ++ nodes_words nodes ++ buffers_words buffers
+    ++ slots_words limit nodes ++ codes "\n"
+
+-- the line for a batch that is longer than the limit
+abbrev pub rows_line : ℤ → ℕ → List ℕ
+rows_line rows limit = codes "batch of length " ++ signed_decimal rows
+    ++ codes "; --max-rows is " ++ decimal limit ++ codes "\n"
 
 -- the line for a batch that has another number of nodes or buffers than its fields
 abbrev pub count_line : List ℕ → ℕ → ℕ → List ℕ
@@ -69,5 +83,5 @@ NamesColumn limits fault m fields head body front out =
     (NoneAlone limits fault m fields head body × (out ≡ []))
     ⊎ ((i : ℕ) × (f : Field) × FirstAlone limits fault m fields head body i
     × (slice_get fields i ≡ Some f)
-    × (out ≡ front ++ column_line i f head.length (length body) (column_head fields head i).nodes
-    (column_head fields head i).buffers))
+    × (out ≡ front ++ column_line limits.slots i f head.length (length body)
+    (column_head fields head i).nodes (column_head fields head i).buffers))

@@ -1,26 +1,36 @@
 -- The field of a refused schema that has the fault (Schema.fbs, tables Schema and Field).
-use Rattle.std.specs.Prelude.{◌≡◌, ◌⊎◌, ℕ, zero, suc, ◌+◌, ◌*◌, ◌<◌, ◌==◌, List, [], ◌++◌, codes}
-use Rattle.std.specs.Prelude.{Result, Ok, Err, if◌then◌else◌}
+use Rattle.std.specs.Prelude.{◌≡◌, ◌⊎◌, ℕ, zero, suc, ◌+◌, ◌*◌, ◌<◌, ◌==◌, List, [], ◌∷◌, ◌++◌}
+use Rattle.std.specs.Prelude.{codes, Result, Ok, Err, if◌then◌else◌, ⊤}
 use Rattle.std.specs.Fmt.{decimal}
 use Rattle.serde_json.specs.Data.{string}
 use Rattle.serde_json.specs.Written.{compact_text}
+use Rattle.ipc_flat.specs.Faulty.{◌>>=◌}
 use Rattle.ipc_flat.specs.Views.{TableView, Elements, table_from}
 use Rattle.ipc_model.specs.Numbering.{fault_number}
+use Rattle.ipc_model.specs.Refusals.{reader_fault}
+use Rattle.ipc_model.specs.SchemaFaults.{verdict_on}
+use Rattle.ipc_model.specs.declared.check.SchemaFault.{SchemaFault}
 use Rattle.ipc_model.specs.declared.fault.Fault.{Fault}
 use Rattle.ipc_model.specs.declared.limits.Limits.{Limits}
-use Rattle.ipc_model.specs.declared.schema.Field.{Field}
 use Rattle.ipc_meta.specs.Reached.{Element, Header}
 use Rattle.ipc_meta.specs.Reading.{only_field}
 use Rattle.ipc_meta.specs.Tables.{text_at, vector_at, code_at}
+use Rattle.job_explain.specs.TypeTables.{type_table_words}
 
--- the field that a Field table states, read as the only one of a schema, or the fault for which it
--- is refused
-unfoldable pub field_alone : Limits → TableView → Result Field Fault
+-- the reader's refusal for a fault of a schema, if there is one
+abbrev pub refusal_of : Result ⊤ SchemaFault → Result ⊤ Fault
+refusal_of (Ok fine) = Ok fine
+refusal_of (Err fault) = Err (reader_fault fault)
+
+-- the fault for which a schema with this Field table alone is refused, if there is one: the table
+-- states no field, or the schema breaks a rule (`Schema::check`)
+unfoldable pub field_alone : Limits → TableView → Result ⊤ Fault
 field_alone limits t = only_field limits t
+    >>= λ f. refusal_of (verdict_on limits (record { fields = f ∷ []; metadata = [] }))
 
--- the field is refused for a fault with the number of this one
-abbrev pub RefusedAs : Fault → Result Field Fault → Type 0
-RefusedAs fault (Ok field) = ⊥
+-- the refusal has the number of this fault
+abbrev pub RefusedAs : Fault → Result ⊤ Fault → Type 0
+RefusedAs fault (Ok fine) = ⊥
 RefusedAs fault (Err other) = fault_number other ≡ fault_number fault
 
 -- u is the table in place i of the vector in field k of t, and the first that alone is refused
@@ -83,12 +93,21 @@ type_words (Ok code) =
     codes ": type " ++ type_name code ++ codes " (code " ++ decimal code ++ codes ")"
 type_words (Err fault) = []
 
+-- the words for the width, size or unit that no type has; none for another fault than F14
+abbrev pub cause_words : Fault → TableView → List ℕ
+cause_words fault t =
+    if fault_number fault == 14 then type_table_words (code_at t) t else []
+
+-- the words for the type of the field that has the fault
+abbrev pub end_words : Fault → TableView → List ℕ
+end_words fault t = type_words (code_at t) ++ cause_words fault t ++ codes "\n"
+
 -- the words that end with the type of the field that has the fault, after those for the Field table
 -- t: it is the first child that alone has the fault, and so on, at most `depth` levels below t
 abbrev pub NamesBelow : Limits → Fault → ℕ → TableView → List ℕ → Type 0
-NamesBelow limits fault zero t out = out ≡ type_words (code_at t) ++ codes "\n"
+NamesBelow limits fault zero t out = out ≡ end_words fault t
 NamesBelow limits fault (suc depth) t out =
-    (NoneWith limits fault t 5 × (out ≡ type_words (code_at t) ++ codes "\n"))
+    (NoneWith limits fault t 5 × (out ≡ end_words fault t))
     ⊎ ((i : ℕ) × (u : TableView) × (below : List ℕ) × FirstWith limits fault t 5 i u
     × NamesBelow limits fault depth u below
     × (out ≡ codes ", child " ++ decimal i ++ name_words (text_at u 0) ++ below))

@@ -5,7 +5,9 @@ pub mod FieldPaths
 pub mod Followed
 pub mod Formats
 pub mod Kept
+pub mod MessageLines
 pub mod Records
 pub mod Schemas
 pub mod ScopeUpdates
+pub mod TypeTables
 pub mod Writes

@@ -1,13 +1,16 @@
 //! The line for a column of a refused record batch.
-ghost use Rattle.std.specs.Prelude.{◌≡◌, ◌++◌, OnOk};
+ghost use Rattle.std.specs.Prelude.{◌≡◌, ◌++◌, OnOk, int_lt, pos};
+ghost use Rattle.std.specs.List.{list_any};
 ghost use Rattle.std.specs.Fmt.{decimal, signed_decimal};
 ghost use Rattle.serde_json.specs.Data.{string};
 ghost use Rattle.serde_json.specs.Written.{compact_text};
 ghost use Rattle.job_explain.specs.ColumnLines.{column_line, count_line, field_words, pair_words};
-ghost use Rattle.job_explain.specs.ColumnLines.{pairs_words, title_words, type_words};
+ghost use Rattle.job_explain.specs.ColumnLines.{pairs_words, rows_line, slots_words, title_words};
+ghost use Rattle.job_explain.specs.ColumnLines.{type_words};
 
 use crate::columns_alone::ColumnPart;
-use ipc_model::{DataType, Field};
+use crate::message_lines::limit_words;
+use ipc_model::{DataType, Field, Limits};
 use ipc_text_json::{string_json, type_json};
 use ipc_text_temporal::{push_number, push_signed};
 use std::alloc::{AllocError, Global};
@@ -107,16 +110,52 @@ pub(crate) fn push_title(
     push_field(alloc, out, field)
 }
 
+// Whether a node is longer than the limit of slots.
+fn has_longer(nodes: &[(i64, i64)], limits: &Limits) -> bool
+    ensures { result ≡ list_any (λ node. int_lt (pos limits.now.slots) node.0) nodes.now }
+{
+    let limit = limits.slots as i64;
+    nodes.iter().any(|node| node.0 > limit)
+}
+
+// Appends the words for the limit of slots, if a node is longer.
+fn push_slots(
+    alloc: Global,
+    out: &mut Vec<u8>,
+    limits: &Limits,
+    nodes: &[(i64, i64)],
+) -> Result<(), AllocError>
+    ensures ok { OnOk result
+        (out.new.items ≡ out.old.items ++ slots_words limits.now.slots nodes.now) }
+{
+    if has_longer(nodes, limits) {
+        let words = limit_words(alloc, b"; --max-rows", limits.slots)?;
+        out.extend_from_slice(&words)?;
+    }
+    Ok(())
+}
+
+/// Appends the line for a batch that is longer than the limit of rows.
+pub(crate) fn push_rows(out: &mut Vec<u8>, length: i64, limit: u64) -> Result<(), AllocError>
+    ensures ok { OnOk result (out.new.items ≡ out.old.items ++ rows_line length limit) }
+{
+    push_lengths(out, b"batch of length ", length, b"; --max-rows is ", limit)?;
+    out.extend_from_slice(b"\n")?;
+    Ok(())
+}
+
 /// Appends the line for a column of a batch of `length` rows with a body of `size` bytes.
 pub(crate) fn push_column(
     alloc: Global,
     out: &mut Vec<u8>,
+    limits: &Limits,
     length: i64,
     size: usize,
     column: &ColumnPart<'_>,
 ) -> Result<(), AllocError>
-    ensures ok { OnOk result (out.new.items ≡ out.old.items ++ column_line column.now.number
-        column.now.field.now length size column.now.nodes.now column.now.buffers.now) }
+    ensures ok { OnOk result (out.new.items ≡ out.old.items ++ column_line limits.now.slots
+        column.now.number column.now.field.now length size column.now.nodes.now
+        column.now.buffers.now) }
 {
     push_title(alloc, out, column.number, column.field)?;
     push_lengths(
@@ -128,6 +167,7 @@ pub(crate) fn push_column(
     )?;
     push_pairs(out, b", node of length ", b" and null count ", column.nodes)?;
     push_pairs(out, b", buffer of offset ", b" and length ", column.buffers)?;
+    push_slots(alloc, out, limits, column.nodes)?;
     out.extend_from_slice(b"\n")?;
     Ok(())
 }

@@ -3,16 +3,18 @@ ghost use Rattle.std.specs.Prelude.{◌≡◌, ◌≤◌, [], IfOk, IfSome, Matc
 ghost use Rattle.std.specs.Prelude.{length};
 ghost use Rattle.ipc_model.specs.Entries.{entries};
 ghost use Rattle.ipc_column.specs.DictionaryBatches.{AreDictionaries, dictionaries_in};
-ghost use Rattle.job_explain.specs.Explained.{ExplainsBatch, ExplainsFirst, ExplainsLater};
+ghost use Rattle.job_explain.specs.Explained.{ExplainsBatch, ExplainsContent, ExplainsFirst};
+ghost use Rattle.job_explain.specs.Explained.{ExplainsLater, ExplainsMessage};
 ghost use Rattle.ipc_stream_read.specs.Scopes.{in_scope};
 ghost use Rattle.ipc_stream_read.specs.Stream.{values_in};
 ghost use Rattle.ipc_dict_read.specs.ValuesColumns.{columns_for, dictionary_columns};
 ghost use Rattle.job_explain.specs.Explained as spec;
 
-use crate::column_lines::{push_column, push_counts};
+use crate::column_lines::{push_column, push_counts, push_rows};
 use crate::columns_alone::first_alone;
 use crate::field_paths::field_line;
 use crate::formats::format_line;
+use crate::message_lines::{body_line, end_line, limit_words, metadata_line, push_limits};
 use crate::message_record::MessageRecord;
 use ipc_column::{Batch, Cursor, count};
 use ipc_frame::Frame;
@@ -34,8 +36,56 @@ fn metadata_of(front: &[u8]) -> &[u8]
 }
 
 impl MessageRecord {
-    /// Returns the line for the first message, which was refused for this fault.
-    pub(crate) fn explain(&self, alloc: Global, fault: &Fault) -> Result<Vec<u8>, AllocError>
+    /// Returns the lines for the message with this number, which was refused for this fault.
+    pub(crate) fn explain(
+        &self,
+        alloc: Global,
+        fault: &Fault,
+        message: u64,
+    ) -> Result<Vec<u8>, AllocError>
+        ensures lines { IfOk result
+            (λ lines. ExplainsMessage self.now fault.now message lines.items) }
+    {
+        match fault {
+            Fault::BadMetadataLength => metadata_line(alloc, &self.front, b""),
+            Fault::MetadataTooLong => {
+                let more = limit_words(alloc, b"; --max-metadata", self.limits.metadata)?;
+                metadata_line(alloc, &self.front, &more)
+            }
+            Fault::Truncated => {
+                end_line(alloc, self.count, self.frames.held(), self.frames.wants())
+            }
+            Fault::BadBodyLength => body_line(alloc, metadata_of(&self.front), b""),
+            Fault::BodyTooLong => {
+                let more = limit_words(alloc, b"; --max-body", self.limits.body)?;
+                body_line(alloc, metadata_of(&self.front), &more)
+            }
+            _ => {
+                let mut lines = self.explain_content(alloc, fault, message)?;
+                push_limits(&mut lines, &self.limits, fault)?;
+                Ok(lines)
+            }
+        }
+    }
+
+    // The line for what the message with this number holds.
+    fn explain_content(
+        &self,
+        alloc: Global,
+        fault: &Fault,
+        message: u64,
+    ) -> Result<Vec<u8>, AllocError>
+        ensures line { IfOk result
+            (λ line. ExplainsContent self.now fault.now message line.items) }
+    {
+        match message {
+            0 => self.explain_first(alloc, fault),
+            _ => self.explain_later(alloc, fault),
+        }
+    }
+
+    // The line for the first message.
+    fn explain_first(&self, alloc: Global, fault: &Fault) -> Result<Vec<u8>, AllocError>
         ensures line { IfOk result (λ line. ExplainsFirst self.now.limits self.now.front.items
             fault.now line.items) }
     {
@@ -46,8 +96,8 @@ impl MessageRecord {
         }
     }
 
-    /// Returns the line for a later message than the first, which was refused for this fault.
-    pub(crate) fn explain_later(&self, alloc: Global, fault: &Fault) -> Result<Vec<u8>, AllocError>
+    // The line for a later message than the first.
+    fn explain_later(&self, alloc: Global, fault: &Fault) -> Result<Vec<u8>, AllocError>
         ensures line { IfOk result
             (λ line. ExplainsLater self.now.scope self.now.last fault.now line.items) }
     {
@@ -100,6 +150,17 @@ fn dictionary_words(alloc: Global, id: i64) -> Result<Vec<u8>, AllocError>
     Ok(front)
 }
 
+// The line for a dictionary that no field names.
+fn unknown_line(alloc: Global, id: i64) -> Result<Vec<u8>, AllocError>
+    ensures line { IfOk result (λ line. line.items ≡ spec.unknown_line id) }
+{
+    let mut line = Vec::new(alloc);
+    line.extend_from_slice(b"no field has dictionary ")?;
+    push_signed(&mut line, id)?;
+    line.extend_from_slice(b"\n")?;
+    Ok(line)
+}
+
 // The one column by which the values of a dictionary are read, if a field of the schema names the
 // dictionary.
 fn values_column(scope: &Scope, id: i64) -> Option<&[Field]>
@@ -124,12 +185,12 @@ fn explain_values(
 ) -> Result<Vec<u8>, AllocError>
     ensures line { IfOk result
         (λ line. MatchOption (columns_for (dictionary_columns scope.now.schema.fields) id)
-        (line.items ≡ [])
+        (line.items ≡ spec.unknown_line id)
         (λ fields. ExplainsBatch scope.now.limits fault.now [] fields head.now body.now
         (spec.dictionary_words id) line.items)) }
 {
     let Some(fields) = values_column(scope, id) else {
-        return Ok(Vec::new(alloc));
+        return unknown_line(alloc, id);
     };
     let front = dictionary_words(alloc, id)?;
     let none = BTreeMap::new(alloc);
@@ -174,12 +235,16 @@ fn explain_batch(
             push_counts(&mut line, b"buffers", head.buffers.len(), all.buffer)?;
             Ok(line)
         }
+        28 if head.length > limits.slots as i64 => {
+            push_rows(&mut line, head.length, limits.slots)?;
+            Ok(line)
+        }
         28..=34 => {
             let column = first_alone(alloc, limits, fault, fields, head, body, dictionaries)?;
             let Some(column) = column else {
                 return Ok(Vec::new(alloc));
             };
-            push_column(alloc, &mut line, head.length, body.len(), &column)?;
+            push_column(alloc, &mut line, limits, head.length, body.len(), &column)?;
             Ok(line)
         }
         _ => Ok(Vec::new(alloc)),

@@ -1,19 +1,22 @@
 //! The field of a refused schema that has the fault.
 ghost use Rattle.std.specs.Prelude.{◌≡◌, ◌+◌, ◌*◌, ◌<◌, ◌++◌, ◌↔◌, ℕ, List, None, Some, Ok, IsTrue};
-ghost use Rattle.std.specs.Prelude.{IfOk, IfSome, MatchOption, OnOk, codes};
+ghost use Rattle.std.specs.Prelude.{IfOk, IfSome, MatchOption, OnOk};
 ghost use Rattle.std.specs.Fmt.{decimal};
 ghost use Rattle.ipc_flat.specs.Views.{TableView, table_from};
+ghost use Rattle.ipc_model.specs.Answers.{AnswersUnlessOutOfMemory};
 ghost use Rattle.ipc_model.specs.Numbering.{fault_number};
 ghost use Rattle.ipc_meta.specs.Tables.{text_at, code_at};
 ghost use Rattle.job_explain.specs.FieldPaths as spec;
 ghost use Rattle.job_explain.specs.FieldPaths.{field_alone, FirstWith, IsSchemaTable, NamesBelow};
 ghost use Rattle.job_explain.specs.FieldPaths.{NoneWith, RefusedAs};
-ghost use Rattle.job_explain.specs.FieldPaths.{NamesField, name_words, type_words};
+ghost use Rattle.job_explain.specs.FieldPaths.{NamesField, cause_words, end_words, name_words};
+ghost use Rattle.job_explain.specs.FieldPaths.{type_words};
 
 use crate::column_lines::push_string;
+use crate::type_tables::push_type_table;
 use ipc_flat::{Flat, TableRef, TableVec};
 use ipc_meta::read_only_field;
-use ipc_model::{Fault, Limits};
+use ipc_model::{Fault, Limits, Schema};
 use ipc_text_temporal::push_number;
 use std::alloc::{AllocError, Global};
 
@@ -30,7 +33,18 @@ fn is_same(answer: Option<Fault>, fault: &Fault) -> Result<bool, AllocError>
     }
 }
 
-// Whether a Field table alone is refused for this fault.
+// Reads a Field table as the only field of a schema, and checks this schema.
+fn check_alone(alloc: Global, limits: &Limits, table: &TableRef<'_>) -> Result<(), Fault>
+    ensures { AnswersUnlessOutOfMemory (λ fine. fine) result (field_alone limits.now table.now) }
+{
+    let field = read_only_field(alloc, limits, table)?;
+    let mut fields = Vec::new(alloc);
+    fields.push(field)?;
+    Schema::new(fields).check(alloc, limits)?;
+    Ok(())
+}
+
+// Whether a schema with this Field table alone is refused for this fault.
 fn has_alone(
     alloc: Global,
     limits: &Limits,
@@ -40,7 +54,7 @@ fn has_alone(
     ensures answer { IfOk result (λ b. IsTrue b ↔ RefusedAs fault.now
         (field_alone limits.now table.now)) }
 {
-    is_same(read_only_field(alloc, limits, table).err(), fault)
+    is_same(check_alone(alloc, limits, table).err(), fault)
 }
 
 // The table in a place of a vector, if it is one that alone is refused for this fault.
@@ -156,12 +170,26 @@ fn push_type(out: &mut Vec<u8>, table: &TableRef<'_>) -> Result<(), AllocError>
     Ok(())
 }
 
-// Appends the type of a field, and ends the line.
-fn push_end(out: &mut Vec<u8>, table: &TableRef<'_>) -> Result<(), AllocError>
-    ensures ok { OnOk result
-        (out.new.items ≡ out.old.items ++ (type_words (code_at table.now) ++ codes "\n")) }
+// Appends the words for the width, size or unit that no type has, if the fault is F14.
+#[tactic(auto, unfolding(ipc_meta::specs::Tables::code_at))]
+fn push_cause(out: &mut Vec<u8>, fault: &Fault, table: &TableRef<'_>) -> Result<(), AllocError>
+    ensures ok { OnOk result (out.new.items ≡ out.old.items ++ cause_words fault.now table.now) }
+{
+    if fault.number() != 14 {
+        return Ok(());
+    }
+    let Ok(code) = table.scalar_u8(2, 0) else {
+        return Ok(());
+    };
+    push_type_table(out, code, table)
+}
+
+// Appends the type of the field that has the fault, and ends the line.
+fn push_end(out: &mut Vec<u8>, fault: &Fault, table: &TableRef<'_>) -> Result<(), AllocError>
+    ensures ok { OnOk result (out.new.items ≡ out.old.items ++ end_words fault.now table.now) }
 {
     push_type(out, table)?;
+    push_cause(out, fault, table)?;
     out.extend_from_slice(b"\n")?;
     Ok(())
 }
@@ -202,7 +230,7 @@ fn push_below(
             return push_below(alloc, limits, fault, depth - 1, &child, out);
         }
     }
-    push_end(out, table)
+    push_end(out, fault, table)
 }
 
 // The Schema table of the metadata of a message, if it has one.

@@ -7,11 +7,13 @@ mod columns_alone;
 mod explained;
 mod field_paths;
 mod formats;
+mod message_lines;
 mod message_record;
 mod recorder;
 mod records;
 mod schemas;
 mod scope_updates;
+mod type_tables;
 mod writes;
 
 pub use recorder::Recorder;

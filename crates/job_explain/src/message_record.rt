@@ -1,5 +1,5 @@
 //! The message that is being read, or was read last.
-ghost use Rattle.std.specs.Prelude.{◌≡◌, ◌≤◌, ◌++◌, [], length, None, IfOk, IfSome};
+ghost use Rattle.std.specs.Prelude.{◌≡◌, ◌≤◌, ◌+◌, ◌++◌, [], length, None, IfOk, IfSome};
 ghost use Rattle.ipc_frame.specs.Pieces.{taking};
 ghost use Rattle.job_explain.specs.Kept.{Keeps, KeepsFed, front_of, kept_of};
 ghost use Rattle.job_explain.specs.ScopeUpdates.{UpdatesScope};
@@ -11,11 +11,12 @@ use ipc_stream_read::Scope;
 use std::alloc::Global;
 
 /// What is kept of a stream: the first bytes of the message that is being read, or the message that
-/// was read last, if no byte of the next one has come. It also has what the messages before that
-/// one put in force.
+/// was read last, if no byte of the next one has come. It also has the number of all bytes that
+/// came, and what the messages before that one put in force.
 #[derive(Drop)]
 pub(crate) struct MessageRecord {
     pub(crate) limits: Limits,
+    pub(crate) count: u64,
     pub(crate) frames: Frames,
     pub(crate) front: Vec<u8>,
     pub(crate) last: Option<Frame>,
@@ -65,12 +66,14 @@ impl MessageRecord {
     /// Starts at the beginning of a stream.
     pub(crate) fn new(alloc: Global, limits: Limits) -> MessageRecord
         ensures limits { result.limits ≡ limits }
+        ensures count { result.count ≡ 0 }
         ensures progress { result.frames.progress ≡ taking [] }
         ensures last { result.last ≡ None }
         ensures scope { result.scope ≡ None }
     {
         MessageRecord {
             limits,
+            count: 0,
             frames: Frames::new(alloc, limits),
             front: Vec::new(alloc),
             last: None,
@@ -79,9 +82,10 @@ impl MessageRecord {
     }
 
     /// Takes the bytes that were read next, after a message that the reader accepted. Returns
-    /// `None` if memory ran out.
+    /// `None` if memory ran out, or if the bytes of the stream can't be counted any more.
     pub(crate) fn record(self, piece: &[u8]) -> Option<MessageRecord>
         ensures limits { IfSome result (λ next. next.limits ≡ self.limits) }
+        ensures counts { IfSome result (λ next. next.count ≡ self.count + length piece.now) }
         ensures keeps { IfSome result (λ next. Keeps self.limits self.frames.progress
             self.front.items piece.now next.frames.progress next.front.items next.last) }
         ensures learns { IfSome result
@@ -89,16 +93,19 @@ impl MessageRecord {
     {
         let MessageRecord {
             limits,
+            count,
             mut frames,
             front,
             last,
             scope,
         } = self;
+        let count = count.checked_add(piece.len() as u64)?;
         let scope = scope_after(*front.allocator(), limits, scope, last).ok()?;
         let outcome = frames.feed(piece);
         let (front, last) = kept_after(&limits, front, piece, outcome)?;
         Some(MessageRecord {
             limits,
+            count,
             frames,
             front,
             last,

@@ -42,14 +42,22 @@ impl<R: Source> Recorder<R> {
     /// message with the number `message`. They are empty where nothing more is known.
     ///
     /// - F1 at the first message: what the input looks like, by its first four bytes.
+    /// - F2 and F3: the size of the metadata, and for F3 its limit.
+    /// - F4: the number of bytes of the input, and how many are missing at least: those before byte
+    ///   4 or 8 of the message, or before the end of its metadata or body.
+    /// - F8 and F9: the length of the body, and for F9 its limit.
     /// - F13 to F22 at the first message: the field that has the fault, by the numbers and names of
     ///   the column and of the children on the way to it, and its type (Schema.fbs, union Type).
-    ///   There is no line if no column has the fault by itself, which is usual for F17 to F21.
+    ///   There is no such line if no column has the fault by itself, which is usual for F17, F19
+    ///   and F20. For F14 it has the width, size or unit.
+    /// - F17 to F19: then each limit that the fault can exceed.
+    /// - F25: the dictionary's id.
     /// - F26 and F27 at a later message: the numbers of nodes or buffers (Message.fbs, table
     ///   RecordBatch), those of the batch and those that its fields need.
-    /// - F28 to F34 at a later message: the first column that alone has the fault, by its number,
-    ///   name and type, with its nodes and buffers. The column of a dictionary batch is that of the
-    ///   dictionary's values.
+    /// - F28 of a later batch with more rows than the limit: their number, and the limit.
+    /// - Other F28 and F29 to F34 at a later message: the first column that alone has the fault, by
+    ///   its number, name and type, with its nodes and buffers, and the limit of rows if a node is
+    ///   longer. The column of a dictionary batch is that of the dictionary's values.
     ///
     /// Pass the fault of the message that was read last. No contract compares the two, because a
     /// reader that is generic in its source does not state which message it read last.
@@ -57,10 +65,9 @@ impl<R: Source> Recorder<R> {
         ensures lines { IfOk result
             (λ lines. Explains self.now.message_record fault.now message lines.items) }
     {
-        match (&self.message_record, message) {
-            (Some(message_record), 0) => message_record.explain(alloc, fault),
-            (Some(message_record), _) => message_record.explain_later(alloc, fault),
-            (None, _) => Ok(Vec::new(alloc)),
+        match &self.message_record {
+            Some(message_record) => message_record.explain(alloc, fault, message),
+            None => Ok(Vec::new(alloc)),
         }
     }
 

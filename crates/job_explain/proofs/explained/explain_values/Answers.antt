@@ -3,7 +3,7 @@ use Rattle.std.proofs.lemmas.Int.{to_z-of_z}
 use Rattle.std.specs.Prelude.{IfOk, MatchOption}
 use Rattle.ipc_column.specs.DictionaryBatches.{dictionaries_in, dictionary_values}
 use Rattle.ipc_dict_read.specs.ValuesColumns.{columns_for, dictionary_columns}
-use Rattle.job_explain.specs.Explained.{ExplainsBatch, dictionary_words}
+use Rattle.job_explain.specs.Explained.{ExplainsBatch, dictionary_words, unknown_line}
 use Rattle.job_explain.proofs.explained.explain_values.Goals as goal
 
 pub returns : goal.returns
@@ -19,7 +19,7 @@ returns c = record {
       ∙ c.in-Some.ensures.some in
       let none : dictionaries_in c.new-none.result ≡ [] =
       ap (λ es. map (λ e. (e.0, dictionary_values e.1.value)) es) c.new-none.ensures.empty in
-      subst (λ o. IfOk c.explain_batch.result (λ line. MatchOption o (line.items ≡ [])
+      subst (λ o. IfOk c.explain_batch.result (λ line. MatchOption o (line.items ≡ unknown_line c.args.id)
       (λ columns. ExplainsBatch limits fault [] columns head body (dictionary_words c.args.id) line.items))) (sym found)
       (subst (λ front. IfOk c.explain_batch.result (λ line. ExplainsBatch limits fault [] fields head body front line.items))
       (c.in_ok-front.ensures.words ∙ ap dictionary_words (to_z-of_z w64 c.args.id c.ranges.id))

@@ -1,7 +1,7 @@
 use Rattle.std.proofs.Common.{◌∙◌, ap, arith, drop}
 use Rattle.std.proofs.lemmas.Result.{IfOk-weaker}
 use Rattle.job_explain.proofs.Explaining.{field_explained}
-use Rattle.job_explain.proofs.message_record.MessageRecord.explain.Goals as goal
+use Rattle.job_explain.proofs.message_record.MessageRecord.explain_first.Goals as goal
 
 pub returns-in-13-to-22 : goal.returns-in-13-to-22
 returns-in-13-to-22 c = record {
