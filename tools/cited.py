@@ -110,6 +110,11 @@ class Definitions:
             clauses = [match[2] for match in FUNCTION.finditer(text)]
             clauses += TRAIT.findall(text) + GHOST.findall(text)
             found |= self.cited_in(" ".join(clauses), imports=Imports(text))
+        return self.with_cited(found)
+
+    def with_cited(self, keys):
+        """Definitions with all that they cite, directly or through others."""
+        found = set(keys)
         left = list(found)
         while left:
             new = self.cites[left.pop()] - found

@@ -4,10 +4,10 @@
     tools/definitions.py            writes the pages
     tools/definitions.py --check    fails if the pages differ, or if a definition has no comment
 
-A page has the definitions that the contracts of its calls cite, directly or through others, and
-that no earlier page has. A definition's comment is the lines that begin with `--` right above it.
-What it names of a standard is the definition's section. What the first comment of a file names is
-printed once, under the module.
+The first page has a definition with all that it cites, directly or through others. Any other has
+what the contracts of its calls cite, and no earlier page has. A definition's comment is the lines
+that begin with `--` right above it. What it names of a standard is the definition's section. What
+the first comment of a file names is printed once, under the module.
 """
 import pathlib
 import re
@@ -27,9 +27,10 @@ whole lists of bytes, without buffers or passes. Those of FlatBuffers tables ret
 in the code's order, because the format states no faults. If a function that follows the code exists
 beside a relation, its comment says so, and a proved law joins the two.
 
-Each page has the definitions that the contracts of its calls cite, directly or through others, and
-that no page above it has. So the first page is all that has to be read to know what an accepted
-stream denotes. A definition that only proofs use is on no page.
+The first page has `Denotes`, which relates the bytes of a stream to its table, with all that it
+cites, directly or through others. So this page is all that has to be read to know what an accepted
+stream denotes. Each other page has the definitions that the contracts of its calls cite, and that
+no page above it has. A definition that only proofs use is on no page.
 
 {table}
 
@@ -65,11 +66,16 @@ FIRST = {
     "STREAM": "Begin with `Denotes`, `Run` and `Step` of `ipc_stream_read`, then `Frame` of "
               "`ipc_frame`, `HeadOf` of `ipc_meta` and `Rows` of `ipc_column`. The others are what "
               "these use, lowest crate first.",
+    "REFUSALS": "Begin with `TakesTable` and `Refuses` of `ipc_stream_read`. The others are what "
+                "these use beside the definitions of the page before, lowest crate first.",
 }
 
-# The pages in the order of reading: name, title, and the files whose contracts they serve.
+# The pages in the order of reading: name, title, what they are for, and the files whose contracts
+# they serve. The first serves a definition.
+DENOTES = ("ipc_stream_read", "Stream", "Denotes")
 PAGES = [
-    ("STREAM", "What a stream denotes", "`read_table`", ["ipc_stream_read/src/table.rt"]),
+    ("STREAM", "What a stream denotes", "`Denotes`", []),
+    ("REFUSALS", "When a stream is refused", "`read_table`", ["ipc_stream_read/src/table.rt"]),
     ("READERS", "Readers, batches and columns", "`Decoder`, `StreamReader`, `Batch`, `SlotView`",
      ["ipc_stream_read/src/*.rt", "ipc_column/src/batch.rt", "ipc_column/src/*view.rt"]),
     ("WRITERS", "Writers", "`StreamWriter`, `BatchWriter`, `write_table`",
@@ -193,7 +199,8 @@ def pages(definitions):
     listed, made = set(), {}
     for name, title, calls, patterns in PAGES:
         files = [path for pattern in patterns for path in sorted((TOP / "crates").glob(pattern))]
-        new = (definitions.of_contracts(files) & definitions.public) - listed
+        cited = definitions.of_contracts(files) if files else definitions.with_cited([DENOTES])
+        new = (cited & definitions.public) - listed
         listed |= new
         keys = sorted(new, key=order.get)
         made[FOLDER / f"{name}.md"] = page(title, FIRST.get(name, ""), keys, definitions)
