@@ -2,6 +2,9 @@
 _arrowstream() {
   local words current=${COMP_WORDS[COMP_CWORD]}
   local previous=${COMP_WORDS[COMP_CWORD - 1]}
+  # bash takes --option=value for three words.
+  [ "$previous" != = ] || previous=${COMP_WORDS[COMP_CWORD - 2]}
+  [ "$current" != = ] || current=
   COMPREPLY=()
   case "${COMP_WORDS[1]} $previous" in
     "from-csv --schema") compopt -o filenames

@@ -128,6 +128,9 @@ def bash(top, pages):
             "_arrowstream() {",
             "  local words current=${COMP_WORDS[COMP_CWORD]}",
             "  local previous=${COMP_WORDS[COMP_CWORD - 1]}",
+            "  # bash takes --option=value for three words.",
+            '  [ "$previous" != = ] || previous=${COMP_WORDS[COMP_CWORD - 2]}',
+            '  [ "$current" != = ] || current=',
             "  COMPREPLY=()",
             '  case "${COMP_WORDS[1]} $previous" in',
             f"    {paths}) compopt -o filenames",
@@ -175,6 +178,7 @@ def zsh_options(page):
     for option, value, text in page.long_options():
         text = text.replace("[", "(").replace("]", ")")
         message = {None: "", "PATH": ":file:_files", "N": ":number: "}.get(value, ":text: ")
+        option += "=" if value else ""
         shown.append("    " + quoted(f"{option}[{text}]{message}"))
     return f"  {page.name}) _arguments \\\n" + " \\\n".join(shown) + " ;;"
 
