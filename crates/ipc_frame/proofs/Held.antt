@@ -4,14 +4,14 @@ use Rattle.std.proofs.Common.{length-append, length-take, length-drop, arith}
 use Rattle.std.proofs.lemmas.List.{take_at}
 use Rattle.std.proofs.Math.Seq.{take-add}
 use Rattle.ipc_model.specs.declared.limits.Limits.{Limits}
-use Rattle.ipc_frame.specs.Bodies.{KeepsOne, body_bytes}
+use Rattle.ipc_frame.specs.Buffers.{KeepsOne, filled_bytes}
 use Rattle.ipc_frame.specs.Frames.{Begins, Pending}
 use Rattle.ipc_frame.specs.Parts.{received_bytes, InMark, InSize, InMetadata, InBody, Undecided}
 use Rattle.ipc_frame.specs.Pieces.{HasBody, progress_of, taking}
 use Rattle.ipc_frame.specs.Pulled.{Behind, Comes}
-use Rattle.ipc_frame.specs.declared.body.Body.{Body}
-use Rattle.ipc_frame.specs.declared.frames.FramePhase.{FramePhase}
-use Rattle.ipc_frame.specs.declared.frames.FramePhase.TheVariants as phase
+use Rattle.ipc_frame.specs.declared.partial_buffer.PartialBuffer.{PartialBuffer}
+use Rattle.ipc_frame.specs.declared.partial_message.FramePhase.{FramePhase}
+use Rattle.ipc_frame.specs.declared.partial_message.FramePhase.TheVariants as phase
 use Rattle.ipc_frame.specs.declared.partial_message.Expectation.{Expectation}
 use Rattle.ipc_frame.specs.declared.partial_message.Expectation.TheVariants as expectation
 use Rattle.ipc_frame.specs.declared.partial_message.PartialMessage.{PartialMessage}
@@ -39,12 +39,12 @@ comes_in a b items list len room wanted k few wants h = record {
 }
 
 -- the same bytes in another list are as far
-module _ (limits : Limits) (p : PartialMessage) (b : Body) (same : body_bytes b ≡ body_bytes p.body) where
+module _ (limits : Limits) (p : PartialMessage) (b : PartialBuffer) (same : filled_bytes b ≡ filled_bytes p.body) where
   abbrev pub with_body : PartialMessage
   with_body = record { start = p.start; meta = p.meta; body = b }
 
   pub same_bytes : received_bytes with_body ≡ received_bytes p
-  same_bytes = ap (λ z. p.start ++ (p.meta.items ++ z)) same
+  same_bytes = ap (λ z. p.start ++ (filled_bytes p.meta ++ z)) same
 
   pub same_progress : (s : FramePhase) → progress_of with_body s ≡ progress_of p s
   same_progress (phase.Reading a) = ap taking same_bytes
@@ -56,19 +56,19 @@ module _ (limits : Limits) (p : PartialMessage) (b : Body) (same : body_bytes b 
 
   pub sound_there : (a : Expectation) → Undecided limits p a → Undecided limits with_body a
   sound_there expectation.Continuation h = record {
-    fits = subst (λ z. InMark p.start p.meta.items z) (sym same) h.fits;
+    fits = subst (λ z. InMark p.start (filled_bytes p.meta) z) (sym same) h.fits;
     pending = pending_there _ h.pending;
   }
   sound_there expectation.Size h = record {
-    fits = subst (λ z. InSize p.start p.meta.items z) (sym same) h.fits;
+    fits = subst (λ z. InSize p.start (filled_bytes p.meta) z) (sym same) h.fits;
     pending = pending_there _ h.pending;
   }
   sound_there (expectation.Metadata n) h = record {
-    fits = subst (λ z. InMetadata limits p.start p.meta.items z n) (sym same) h.fits;
+    fits = subst (λ z. InMetadata limits p.start (filled_bytes p.meta) z n) (sym same) h.fits;
     pending = pending_there _ h.pending;
   }
   sound_there (expectation.Body n) h = record {
-    fits = subst (λ z. InBody limits p.start p.meta.items z n) (sym same) h.fits;
+    fits = subst (λ z. InBody limits p.start (filled_bytes p.meta) z n) (sym same) h.fits;
     pending = subst (λ j. Pending limits (received_bytes with_body) j) (ap (λ z. n - length z) (sym same)) (pending_there _ h.pending);
   }
 
@@ -76,39 +76,51 @@ module _ (limits : Limits) (p : PartialMessage) (b : Body) (same : body_bytes b 
 
 -- the first eight bytes and the metadata alone are no longer than stated
 module _ (limits : Limits) (p : PartialMessage) where
-  abbrev parts : length (received_bytes p) ≡ length p.start + (length p.meta.items + length (body_bytes p.body))
-  parts = omega (arith, length-append p.start (p.meta.items ++ body_bytes p.body), length-append p.meta.items (body_bytes p.body))
+  abbrev parts : length (received_bytes p) ≡ length p.start + (length (filled_bytes p.meta) + length (filled_bytes p.body))
+  parts = omega (
+    arith,
+    length-append p.start (filled_bytes p.meta ++ filled_bytes p.body),
+    length-append (filled_bytes p.meta) (filled_bytes p.body),
+  )
 
   -- none came, and so the bytes have no part of a body
-  pub no_body : (a : Expectation) → Undecided limits p a → body_bytes p.body ≡ [] → HasBody limits (received_bytes p) → ⊥
+  pub no_body : (a : Expectation) → Undecided limits p a → filled_bytes p.body ≡ [] → HasBody limits (received_bytes p) → ⊥
   no_body expectation.Continuation h none b = omega (arith, parts, ap length none, ap length h.fits.no_metadata, h.fits.few, b.1.prefix)
   no_body expectation.Size h none b = omega (arith, parts, ap length none, ap length h.fits.no_metadata, h.fits.few, b.2)
   no_body (expectation.Metadata n) h none b =
-      let begins : Begins limits (received_bytes p) n = begins_longer p.start (p.meta.items ++ body_bytes p.body) n h.fits.begins in
+      let begins : Begins limits (received_bytes p) n =
+      begins_longer p.start (filled_bytes p.meta ++ filled_bytes p.body) n h.fits.begins in
       omega (arith, parts, ap length none, h.fits.eight, h.fits.few, b.2, begins_one (received_bytes p) b.0 n b.1 begins)
   no_body (expectation.Body n) h none b =
-      let begins : Begins limits (received_bytes p) (length p.meta.items) =
-      begins_longer p.start (p.meta.items ++ body_bytes p.body) (length p.meta.items) h.fits.begins in
-      omega (arith, parts, ap length none, h.fits.eight, b.2, begins_one (received_bytes p) b.0 (length p.meta.items) b.1 begins)
+      let begins : Begins limits (received_bytes p) (length (filled_bytes p.meta)) =
+      begins_longer p.start (filled_bytes p.meta ++ filled_bytes p.body) (length (filled_bytes p.meta)) h.fits.begins in
+      omega (
+        arith,
+        parts,
+        ap length none,
+        h.fits.eight,
+        b.2,
+        begins_one (received_bytes p) b.0 (length (filled_bytes p.meta)) b.1 begins,
+      )
 
   none_of : (b : List ℕ) → (0 < length b → ⊥) → b ≡ []
   none_of [] h = refl
   none_of (x ∷ xs) h = absurd (h (omega arith))
 
   -- the bytes have no part of a body, and so none came
-  pub none_came : (a : Expectation) → Undecided limits p a → (HasBody limits (received_bytes p) → ⊥) → body_bytes p.body ≡ []
+  pub none_came : (a : Expectation) → Undecided limits p a → (HasBody limits (received_bytes p) → ⊥) → filled_bytes p.body ≡ []
   none_came expectation.Continuation h not = h.fits.no_body
   none_came expectation.Size h not = h.fits.no_body
   none_came (expectation.Metadata n) h not = h.fits.no_body
-  none_came (expectation.Body n) h not = none_of (body_bytes p.body) (λ some. not (
-    length p.meta.items,
-    begins_longer p.start (p.meta.items ++ body_bytes p.body) (length p.meta.items) h.fits.begins,
+  none_came (expectation.Body n) h not = none_of (filled_bytes p.body) (λ some. not (
+    length (filled_bytes p.meta),
+    begins_longer p.start (filled_bytes p.meta ++ filled_bytes p.body) (length (filled_bytes p.meta)) h.fits.begins,
     omega (arith, parts, h.fits.eight, some),
   ))
 
   -- so a buffer is taken for the body exactly where it is taken for the bytes
   pub keeps_there : (a : Expectation) (old new offered : ℕ) → Undecided limits p a
-      → KeepsOne ((body_bytes p.body ≡ []) × (old < offered)) old new offered
+      → KeepsOne ((filled_bytes p.body ≡ []) × (old < offered)) old new offered
       → KeepsOne ((HasBody limits (received_bytes p) → ⊥) × (old < offered)) old new offered
   keeps_there a old new offered h k = record {
     taken = λ t. k.taken (none_came a h t.0, t.1);

@@ -9,7 +9,7 @@ use Rattle.ipc_model.specs.declared.limits.Limits.{Limits}
 use Rattle.ipc_meta.specs.declared.head.Head.{Head}
 use Rattle.ipc_meta.specs.Causes.{Cause}
 use Rattle.ipc_meta.specs.Heads.{HeadOf}
-use Rattle.ipc_frame.specs.Bodies.{body_bytes}
+use Rattle.ipc_frame.specs.Buffers.{filled_bytes}
 use Rattle.ipc_frame.specs.Frames.{end_of_stream, Frame, Begins, Pending, in_metadata, in_body}
 use Rattle.ipc_frame.specs.Sees.{RefusesMessage}
 use Rattle.ipc_frame.specs.Parts.{received_bytes, InSize, InMetadata, InBody, Undecided}
@@ -63,10 +63,10 @@ module _ (limits : Limits) (s m b : List ℕ) (eight : length s ≡ 8) where
 
 -- ---- the first eight bytes
 
-alone : (p : PartialMessage) → p.meta.items ≡ [] → body_bytes p.body ≡ [] → received_bytes p ≡ p.start
-alone p a b = ap (λ z. p.start ++ (z ++ body_bytes p.body)) a ∙ (ap (λ z. p.start ++ z) b ∙ append-nil p.start)
+alone : (p : PartialMessage) → (filled_bytes p.meta) ≡ [] → filled_bytes p.body ≡ [] → received_bytes p ≡ p.start
+alone p a b = ap (λ z. p.start ++ (z ++ filled_bytes p.body)) a ∙ (ap (λ z. p.start ++ z) b ∙ append-nil p.start)
 
-module _ (limits : Limits) (p : PartialMessage) (h : InSize p.start p.meta.items (body_bytes p.body)) where
+module _ (limits : Limits) (p : PartialMessage) (h : InSize p.start (filled_bytes p.meta) (filled_bytes p.body)) where
   module _ (whole : 8 ≤ length p.start) where
     begins : (n : ℕ) → int32 p.start 4 ≡ pos n → n ≤ limits.metadata → Begins limits p.start n
     begins n is fits = record { prefix = whole; marked = h.marked; sized = is; fits = fits }
@@ -79,7 +79,7 @@ module _ (limits : Limits) (p : PartialMessage) (h : InSize p.start p.meta.items
 
     pub sized : (n : ℕ) → int32 p.start 4 ≡ pos n → n ≤ limits.metadata → 0 < n → Undecided limits p (expectation.Metadata n)
     sized n is fits some =
-        let none : length p.meta.items ≡ 0 = ap length h.no_metadata in
+        let none : length (filled_bytes p.meta) ≡ 0 = ap length h.no_metadata in
         let eight : length p.start ≡ 8 = omega (arith, whole, h.few) in
         let size = begins n is fits in
         record {
@@ -89,52 +89,52 @@ module _ (limits : Limits) (p : PartialMessage) (h : InSize p.start p.meta.items
 
 -- ---- the metadata
 
-module _ (limits : Limits) (p : PartialMessage) (n : ℕ) (h : InMetadata limits p.start p.meta.items (body_bytes p.body) n) where
-  pub metadata_short : length p.meta.items < n → Undecided limits p (expectation.Metadata n)
+module _ (limits : Limits) (p : PartialMessage) (n : ℕ) (h : InMetadata limits p.start (filled_bytes p.meta) (filled_bytes p.body) n) where
+  pub metadata_short : length (filled_bytes p.meta) < n → Undecided limits p (expectation.Metadata n)
   metadata_short short = record {
     fits = h;
     pending = awaits_metadata limits _ _ _ h.eight n _ h.begins h.no_body (omega arith) (omega arith);
   }
 
-  module _ (whole : n ≤ length p.meta.items) where
-    all : n ≡ length p.meta.items
+  module _ (whole : n ≤ length (filled_bytes p.meta)) where
+    all : n ≡ length (filled_bytes p.meta)
     all = omega (arith, h.few)
 
-    here : Begins limits p.start (length p.meta.items)
+    here : Begins limits p.start (length (filled_bytes p.meta))
     here = subst (λ j. Begins limits p.start j) all h.begins
 
-    none : length (body_bytes p.body) ≡ 0
+    none : length (filled_bytes p.body) ≡ 0
     none = ap length h.no_body
 
-    pub stated : (k : ℕ) (head : Head) → HeadOf limits p.meta.items head k → 0 < k
+    pub stated : (k : ℕ) (head : Head) → HeadOf limits (filled_bytes p.meta) head k → 0 < k
         → Undecided limits p (expectation.Body k)
     stated k head states some = record {
       fits = record { eight = h.eight; begins = here; head = head; states = states; few = omega (arith, none) };
       pending = awaits_body limits _ _ _ h.eight k _ head here states (omega (arith, none)) (omega (arith, none));
     }
 
-    pub empty_body : (head : Head) → HeadOf limits p.meta.items head 0 → Frame limits (received_bytes p) p.meta.items head
-        (body_bytes p.body)
+    pub empty_body : (head : Head) → HeadOf limits (filled_bytes p.meta) head 0 → Frame limits (received_bytes p) (filled_bytes p.meta) head
+        (filled_bytes p.body)
     empty_body head states =
-        whole_frame limits _ _ _ h.eight head here (subst (λ j. HeadOf limits p.meta.items head j) (sym none) states)
+        whole_frame limits _ _ _ h.eight head here (subst (λ j. HeadOf limits (filled_bytes p.meta) head j) (sym none) states)
 
-    pub refused_metadata : (fault : Fault) → ((head : Head) (k : ℕ) → HeadOf limits p.meta.items head k → ⊥)
-        → Cause limits p.meta.items fault → RefusesMessage limits (received_bytes p) fault
+    pub refused_metadata : (fault : Fault) → ((head : Head) (k : ℕ) → HeadOf limits (filled_bytes p.meta) head k → ⊥)
+        → Cause limits (filled_bytes p.meta) fault → RefusesMessage limits (received_bytes p) fault
     refused_metadata fault states cause = no_head limits _ _ _ h.eight n fault all h.some h.begins states cause
 
 -- ---- the body
 
-module _ (limits : Limits) (p : PartialMessage) (n : ℕ) (h : InBody limits p.start p.meta.items (body_bytes p.body) n) where
-  pub body_short : length (body_bytes p.body) < n → Undecided limits p (expectation.Body n)
+module _ (limits : Limits) (p : PartialMessage) (n : ℕ) (h : InBody limits p.start (filled_bytes p.meta) (filled_bytes p.body) n) where
+  pub body_short : length (filled_bytes p.body) < n → Undecided limits p (expectation.Body n)
   body_short short = record {
     fits = h;
     pending = awaits_body limits _ _ _ h.eight n _ h.head h.begins h.states (omega arith) (omega arith);
   }
 
-  pub whole_body : (k : ℕ) (head : Head) → n ≤ length (body_bytes p.body) → HeadOf limits p.meta.items head k → k ≡ n
-      → Frame limits (received_bytes p) p.meta.items head (body_bytes p.body)
+  pub whole_body : (k : ℕ) (head : Head) → n ≤ length (filled_bytes p.body) → HeadOf limits (filled_bytes p.meta) head k → k ≡ n
+      → Frame limits (received_bytes p) (filled_bytes p.meta) head (filled_bytes p.body)
   whole_body k head whole states same =
-      let all : k ≡ length (body_bytes p.body) = omega (arith, h.few) in
-      whole_frame limits _ _ _ h.eight head h.begins (subst (λ j. HeadOf limits p.meta.items head j) all states)
+      let all : k ≡ length (filled_bytes p.body) = omega (arith, h.few) in
+      whole_frame limits _ _ _ h.eight head h.begins (subst (λ j. HeadOf limits (filled_bytes p.meta) head j) all states)
 
 -- ---- no byte

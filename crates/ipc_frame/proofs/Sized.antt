@@ -1,18 +1,16 @@
 -- The first eight bytes of a message, behind which it takes memory.
-use Rattle.std.proofs.Common.{subst, ℕ, ◌<◌, List, [], ◌∷◌, ◌++◌, length, take, drop, append_assoc, arith}
-use Rattle.std.proofs.lemmas.List.{take-append-drop}
+use Rattle.std.proofs.Common.{ℕ, ◌<◌, List, [], ◌∷◌, ◌++◌, length, arith}
 use Rattle.ipc_model.specs.declared.limits.Limits.{Limits}
 use Rattle.ipc_meta.specs.declared.head.Head.{Head}
 use Rattle.ipc_meta.specs.Heads.{HeadOf}
 use Rattle.ipc_meta.proofs.Empty.{no_metadata}
-use Rattle.ipc_frame.specs.Bodies.{body_bytes}
+use Rattle.ipc_frame.specs.Buffers.{filled_bytes}
 use Rattle.ipc_frame.specs.Frames.{Frame, IsSized}
 use Rattle.ipc_frame.specs.Parts.{received_bytes, FitsExpectation, HasSize}
 use Rattle.ipc_frame.specs.declared.partial_message.Expectation.{Expectation}
 use Rattle.ipc_frame.specs.declared.partial_message.Expectation.TheVariants as expectation
 use Rattle.ipc_frame.specs.declared.partial_message.PartialMessage.{PartialMessage}
 use Rattle.ipc_frame.proofs.Exact.{begins_longer}
-use Rattle.ipc_frame.proofs.Stepped.{Feeding}
 
 -- bytes with a size have it with more bytes behind them
 pub sized_longer : {limits : Limits} → (z c : List ℕ) → IsSized limits z → IsSized limits (z ++ c)
@@ -29,20 +27,10 @@ pub sized_at : (limits : Limits) (p : PartialMessage) (a : Expectation) → HasS
 sized_at limits p expectation.Continuation has fits = absurd has
 sized_at limits p expectation.Size has fits = absurd has
 sized_at limits p (expectation.Metadata n) has fits =
-    sized_longer p.start (p.meta.items ++ body_bytes p.body) (n, fits.some, fits.begins)
+    sized_longer p.start (filled_bytes p.meta ++ filled_bytes p.body) (n, fits.some, fits.begins)
 sized_at limits p (expectation.Body n) has fits =
-    sized_longer p.start (p.meta.items ++ body_bytes p.body)
-    (length p.meta.items, some_metadata p.meta.items fits.head n fits.states, fits.begins)
-
--- and so have the bytes that are fed
-pub feeding_sized : (limits : Limits) (old piece : List ℕ) (p : PartialMessage) (a : Expectation) (taken : ℕ)
-    → Feeding limits old piece p a taken
-    → HasSize a → IsSized limits (old ++ piece)
-feeding_sized limits old piece p a taken h has =
-    subst (λ z. IsSized limits (old ++ z)) (take-append-drop taken piece)
-    (subst (IsSized limits) (append_assoc old (take taken piece) (drop taken piece))
-    (sized_longer (old ++ take taken piece) (drop taken piece)
-    (subst (IsSized limits) h.kept (sized_at limits p a has h.undecided.fits))))
+    sized_longer p.start (filled_bytes p.meta ++ filled_bytes p.body)
+    (length (filled_bytes p.meta), some_metadata (filled_bytes p.meta) fits.head n fits.states, fits.begins)
 
 -- bytes with a size have it with none behind them
 pub sized_alone : {limits : Limits} → (z : List ℕ) → IsSized limits z → IsSized limits (z ++ [])

@@ -1,8 +1,7 @@
 pub mod Frames
 pub mod Sees
-pub mod Bodies
+pub mod Buffers
 pub mod Parts
-pub mod Steps
 pub mod Pieces
 pub mod Failures
 pub mod Pulled

@@ -7,7 +7,7 @@ use Rattle.ipc_meta.specs.Heads.{HeadOf}
 use Rattle.ipc_model.specs.Answers.{UnlessOutOfMemory}
 use Rattle.ipc_model.specs.declared.fault.Fault.{Fault}
 use Rattle.ipc_model.specs.declared.limits.Limits.{Limits}
-use Rattle.ipc_frame.specs.Bodies.{body_bytes}
+use Rattle.ipc_frame.specs.Buffers.{filled_bytes}
 use Rattle.ipc_frame.specs.Frames.{continuation_marker, end_of_stream, Frame, Begins, Pending}
 use Rattle.ipc_frame.specs.Sees.{RefusesMessage}
 use Rattle.ipc_frame.specs.declared.partial_message.PartialMessage.{PartialMessage}
@@ -18,7 +18,7 @@ use Rattle.ipc_frame.specs.declared.decision.Decision.TheVariants as decision
 
 -- all bytes that have come
 abbrev pub received_bytes : PartialMessage → List ℕ
-received_bytes p = p.start ++ (p.meta.items ++ body_bytes p.body)
+received_bytes p = p.start ++ (filled_bytes p.meta ++ filled_bytes p.body)
 
 -- how many bytes the buffers of a message have room for: the metadata's and the body's
 pub record Capacity : Type 0 where
@@ -31,7 +31,7 @@ no_capacity = record { metadata = 0; body = 0 }
 
 -- the room of the buffers of a message
 abbrev pub capacity_of : PartialMessage → Capacity
-capacity_of p = record { metadata = vec_capacity p.meta; body = vec_capacity p.body.list }
+capacity_of p = record { metadata = vec_capacity p.meta.list; body = vec_capacity p.body.list }
 
 -- each buffer has room for at most twice the `count` bytes of the message that have come, and 64
 -- KiB, or for what it had room for before
@@ -43,8 +43,8 @@ pub record GrowsWithBytes (old new : Capacity) (count : ℕ) : Type 0 where
 abbrev pub bytes_needed : PartialMessage → Expectation → ℕ
 bytes_needed p expectation.Continuation = 4 - length p.start
 bytes_needed p expectation.Size = 8 - length p.start
-bytes_needed p (expectation.Metadata size) = size - length p.meta.items
-bytes_needed p (expectation.Body size) = size - length (body_bytes p.body)
+bytes_needed p (expectation.Metadata size) = size - length (filled_bytes p.meta)
+bytes_needed p (expectation.Body size) = size - length (filled_bytes p.body)
 
 -- the mark is being read: at most four bytes have come, none of them of the metadata or the body
 pub record InMark (start meta body : List ℕ) : Type 0 where
@@ -78,12 +78,14 @@ pub record InBody (limits : Limits) (start meta body : List ℕ) (size : ℕ) : 
 
 -- the parts before the awaited one are complete, and the awaited one has at most its size
 abbrev pub FitsExpectation : Limits → PartialMessage → Expectation → Type 0
-FitsExpectation limits p expectation.Continuation = InMark p.start p.meta.items (body_bytes p.body)
-FitsExpectation limits p expectation.Size = InSize p.start p.meta.items (body_bytes p.body)
+FitsExpectation limits p expectation.Continuation =
+    InMark p.start (filled_bytes p.meta) (filled_bytes p.body)
+FitsExpectation limits p expectation.Size =
+    InSize p.start (filled_bytes p.meta) (filled_bytes p.body)
 FitsExpectation limits p (expectation.Metadata size) =
-    InMetadata limits p.start p.meta.items (body_bytes p.body) size
-FitsExpectation limits p (expectation.Body size) = InBody limits p.start p.meta.items
-    (body_bytes p.body) size
+    InMetadata limits p.start (filled_bytes p.meta) (filled_bytes p.body) size
+FitsExpectation limits p (expectation.Body size) = InBody limits p.start (filled_bytes p.meta)
+    (filled_bytes p.body) size
 
 -- nothing is decided: more of the awaited part has to come
 pub record Undecided (limits : Limits) (p : PartialMessage) (a : Expectation) : Type 0 where
@@ -95,7 +97,7 @@ abbrev pub Decides : Limits → PartialMessage → Result Decision Fault → Typ
 Decides limits p (Ok (decision.More a)) = Undecided limits p a
 Decides limits p (Ok decision.End) = received_bytes p ≡ end_of_stream
 Decides limits p (Ok (decision.Message head)) =
-    Frame limits (received_bytes p) p.meta.items head (body_bytes p.body)
+    Frame limits (received_bytes p) (filled_bytes p.meta) head (filled_bytes p.body)
 Decides limits p (Err fault) =
     UnlessOutOfMemory fault (RefusesMessage limits (received_bytes p) fault)
 

@@ -7,17 +7,14 @@ use Rattle.ipc_model.specs.declared.fault.Fault.{Fault}
 use Rattle.ipc_model.specs.declared.fault.Fault.TheVariants.{Failed, Truncated}
 use Rattle.ipc_model.specs.declared.limits.Limits.{Limits}
 use Rattle.ipc_frame.specs.Frames.{Begins, IsSized, Pending}
-use Rattle.ipc_frame.specs.Sees.{IsFrame}
+use Rattle.ipc_frame.specs.Sees.{IsFrame, RefusesMessage}
 use Rattle.ipc_frame.specs.Decisions.{RefusesNow}
 use Rattle.ipc_frame.specs.Parts.{Capacity, received_bytes, no_capacity, capacity_of, Undecided}
 use Rattle.ipc_frame.specs.declared.frame.Frame.{Frame as Framed}
 use Rattle.ipc_frame.specs.declared.frame.Frame.TheVariants as f
-use Rattle.ipc_frame.specs.declared.frames.FramePhase.{FramePhase}
-use Rattle.ipc_frame.specs.declared.frames.FramePhase.TheVariants as phase
-use Rattle.ipc_frame.specs.declared.partial_message.Expectation.TheVariants.{Continuation}
+use Rattle.ipc_frame.specs.declared.partial_message.FramePhase.{FramePhase}
+use Rattle.ipc_frame.specs.declared.partial_message.FramePhase.TheVariants as phase
 use Rattle.ipc_frame.specs.declared.partial_message.PartialMessage.{PartialMessage}
-use Rattle.ipc_frame.specs.declared.step.MessageStep.{MessageStep}
-use Rattle.ipc_frame.specs.declared.step.MessageStep.TheVariants.{More, Whole}
 
 -- the state of the stream of messages: these bytes of the current message have come, the stream has
 -- ended, or it was refused
@@ -45,25 +42,18 @@ IsSound limits p (phase.Reading a) = Undecided limits p a
 IsSound limits p phase.Ended = (received_bytes p ≡ []) × (capacity_of p ≡ no_capacity)
 IsSound limits p phase.Refused = (received_bytes p ≡ []) × (capacity_of p ≡ no_capacity)
 
--- the phase after a frame: after a message the next one is awaited, after the end mark nothing
-abbrev pub phase_after : Framed → FramePhase
-phase_after (f.Message meta head body) = phase.Reading Continuation
-phase_after f.End = phase.Ended
-
--- what a call does after a step: the stored parts, the next phase, and the result. After a refusal
--- no bytes are stored and no buffer is kept
-abbrev pub FinishesStep : Result MessageStep Fault → PartialMessage → PartialMessage → FramePhase
-    → Result (Option Framed) Fault → Type 0
-FinishesStep (Ok (More a)) old new next r = (new ≡ old) × (next ≡ phase.Reading a) × (r ≡ Ok None)
-FinishesStep (Ok (Whole frame)) old new next r =
-    (new ≡ old) × (next ≡ phase_after frame) × (r ≡ Ok (Some frame))
-FinishesStep (Err fault) old new next r = (received_bytes new ≡ [])
-    × (capacity_of new ≡ no_capacity) × (next ≡ phase.Refused) × (r ≡ Err fault)
-
 -- the progress after a frame: after a message another one may come, after the end mark none
 abbrev pub behind : Framed → Progress
 behind (f.Message meta head body) = taking []
 behind f.End = ended
+
+-- the result of the bytes z of a message: they are stored and undecided, or they are a frame, or
+-- they are refused
+abbrev pub Concludes : Limits → List ℕ → Progress → Result (Option Framed) Fault → Type 0
+Concludes limits z new (Ok None) = (new ≡ taking z) × ((k : ℕ) × Pending limits z k)
+Concludes limits z new (Ok (Some frame)) = (new ≡ behind frame) × IsFrame limits z frame
+Concludes limits z new (Err fault) =
+    (new ≡ refused) × UnlessOutOfMemory fault (RefusesMessage limits z fault)
 
 -- how a piece is taken. The stored bytes with a beginning of the piece are a frame, or are refused
 -- at their last byte; or the whole piece is stored and nothing is decided. After the end no bytes

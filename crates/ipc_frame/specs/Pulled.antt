@@ -8,13 +8,8 @@ use Rattle.ipc_model.specs.declared.limits.Limits.{Limits}
 use Rattle.ipc_frame.specs.Frames.{Pending}
 use Rattle.ipc_frame.specs.Decisions.{RefusesNow}
 use Rattle.ipc_frame.specs.Failures.{FailsAs, UnlessOutside}
-use Rattle.ipc_frame.specs.Parts.{received_bytes, Undecided}
-use Rattle.ipc_frame.specs.Steps.{IsWhole}
 use Rattle.ipc_frame.specs.Pieces.{Progress, taking, ended, refused, Feeds}
 use Rattle.ipc_frame.specs.declared.frame.Frame.{Frame as Framed}
-use Rattle.ipc_frame.specs.declared.partial_message.PartialMessage.{PartialMessage}
-use Rattle.ipc_frame.specs.declared.step.MessageStep.{MessageStep}
-use Rattle.ipc_frame.specs.declared.step.MessageStep.TheVariants.{More, Whole}
 
 -- k bytes were read into a buffer after its first `start` bytes; k is 0 only at the source's end
 pub record Behind (old new : Option (List ℕ)) (list_old list_new : List ℕ)
@@ -34,30 +29,6 @@ pub record Comes (old new : Option (List ℕ)) (list_old list_new : List ℕ)
   pub few : k ≤ wanted
   pub bytes : Consumes old new came
   pub at_end : k ≡ 0 → IsAtEnd new
-
--- the result of the bytes that came after z: all are stored and undecided, or they complete a
--- frame, or they are refused at their last byte. In the first case, none came only at the source's
--- end
-abbrev pub GivesOn : Limits → List ℕ → List ℕ → Option (List ℕ) → PartialMessage
-    → Result MessageStep Fault
-    → Type 0
-GivesOn limits z came left p (Ok (More a)) =
-    (came ≡ [] → IsAtEnd left) × (received_bytes p ≡ z ++ came) × Undecided limits p a
-GivesOn limits z came left p (Ok (Whole frame)) = IsWhole limits (z ++ came) p frame
-GivesOn limits z came left p (Err fault) =
-    UnlessOutside fault (RefusesNow limits (z ++ came) fault)
-
--- `count` bytes were read after z, at most the number up to the next decision, and the result is
--- theirs
-pub record ReadsOn (limits : Limits) (old new : Option (List ℕ)) (z : List ℕ) (p : PartialMessage)
-    (count : ℕ) (r : Result MessageStep Fault) : Type 0 where
-  pub came : List ℕ
-  pub counted : length came ≡ count
-  pub wants : ℕ
-  pub undecided : Pending limits z wants
-  pub few : length came ≤ wants
-  pub bytes : Consumes old new came
-  pub gives : GivesOn limits z came new p r
 
 -- the result is what `feed` returns for the bytes that came; a refusal comes at the last of them
 abbrev pub Gives : Limits → Progress → List ℕ → Progress → Result (Option Framed) Fault → Type 0

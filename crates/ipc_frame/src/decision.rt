@@ -73,7 +73,7 @@ fn decide_metadata(
     if parts.meta.len() < size {
         return Ok(Decision::More(Expectation::Metadata(size)));
     }
-    let (head, len) = read_message(alloc, limits, &parts.meta)?;
+    let (head, len) = read_message(alloc, limits, parts.meta.as_slice())?;
     if len == 0 {
         return Ok(Decision::Message(head));
     }
@@ -94,7 +94,7 @@ fn decide_body(
     if parts.body.len() < size {
         return Ok(Decision::More(Expectation::Body(size)));
     }
-    let (head, _) = read_message(alloc, limits, &parts.meta)?;
+    let (head, _) = read_message(alloc, limits, parts.meta.as_slice())?;
     Ok(Decision::Message(head))
 }
 

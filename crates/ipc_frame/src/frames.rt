@@ -1,60 +1,11 @@
-ghost use Rattle.std.specs.Prelude.{◌≡◌};
-ghost use Rattle.ipc_frame.specs.Pieces.{FinishesStep, phase_after};
-
 use crate::frame::Frame;
-use crate::partial_message::{Expectation, PartialMessage, bytes_needed};
-use crate::pull::read_on;
-use crate::step::{MessageStep, feed_on};
+use crate::partial_message::{Expectation, FramePhase, PartialMessage, bytes_needed};
+use crate::pull::read_part;
+use crate::step::{conclude, feed_on, refuse};
 use ipc_device::Source;
 use ipc_model::{Fault, Limits};
 use std::alloc::Global;
 use std::marker::Model;
-
-// Whether messages still come, and what is awaited of the one at hand.
-#[derive(Clone, Copy)]
-pub(crate) enum FramePhase {
-    Reading(Expectation),
-    Ended,
-    Refused,
-}
-
-// After a message another one may come; after the end-of-stream mark nothing comes.
-fn phase_after(frame: &Frame) -> FramePhase
-    ensures { result ≡ phase_after frame.now }
-{
-    match frame {
-        Frame::Message { .. } => FramePhase::Reading(Expectation::Continuation),
-        Frame::End => FramePhase::Ended,
-    }
-}
-
-// Sets the phase after a step, and returns the frame that the step completes. After a refusal no
-// bytes and no buffers are kept. It takes the fields, because they break the invariant of `Frames`
-// until a refusal is finished.
-fn finish_step(
-    alloc: Global,
-    parts: &mut PartialMessage,
-    phase: &mut FramePhase,
-    step: Result<MessageStep, Fault>,
-) -> Result<Option<Frame>, Fault>
-    ensures { FinishesStep step parts.old parts.new phase.new result }
-{
-    match step {
-        Ok(MessageStep::More(expectation)) => {
-            *phase = FramePhase::Reading(expectation);
-            Ok(None)
-        }
-        Ok(MessageStep::Whole(frame)) => {
-            *phase = phase_after(&frame);
-            Ok(Some(frame))
-        }
-        Err(fault) => {
-            *parts = PartialMessage::new(alloc);
-            *phase = FramePhase::Refused;
-            Err(fault)
-        }
-    }
-}
 
 /// Splits a stream, whose bytes arrive in pieces of any length, into its messages (Arrow Columnar
 /// Format, "Encapsulated message format" and "IPC Streaming Format").
@@ -96,11 +47,11 @@ impl Model for Frames {
 impl Frames {
     ghost use Rattle.std.specs.Prelude.{◌≡◌, ◌≤◌, ◌+◌, [], IfErr, IfSome, MatchResult, OnOk};
     ghost use Rattle.std.specs.Prelude.{vec_capacity};
-    ghost use Rattle.ipc_frame.specs.Bodies.{KeepsOne};
+    ghost use Rattle.ipc_frame.specs.Buffers.{KeepsOne};
     ghost use Rattle.ipc_frame.specs.Parts.{GrowsWithBytes, no_capacity};
     ghost use Rattle.ipc_frame.specs.Pulled.{FailsWhile, TakesFromSource};
     ghost use Rattle.ipc_frame.specs.Pieces.{Closes, Feeds, DropsLists, TakesBuffer, TakesMemory};
-    ghost use Rattle.ipc_frame.specs.Pieces.{Wants, held_of, taking};
+    ghost use Rattle.ipc_frame.specs.Pieces.{Wants, held_of, refused, taking};
 
     /// Starts at the beginning of a stream. All that it accepts, in each call, is within `limits`.
     pub fn new(alloc: Global, limits: Limits) -> Frames
@@ -146,21 +97,13 @@ impl Frames {
         ensures memory { IfErr result (λ fault. fault ≡ Fault.OutOfMemory
             → TakesMemory self.old.limits self.old.progress piece.now) }
     {
-        match self.phase {
-            FramePhase::Ended => Ok((0, None)),
-            FramePhase::Refused => Err(Fault::Failed),
-            FramePhase::Reading(expectation) => {
-                let (taken, step) = feed_on(
-                    self.alloc,
-                    &self.limits,
-                    &mut self.parts,
-                    expectation,
-                    piece,
-                );
-                let frame = finish_step(self.alloc, &mut self.parts, &mut self.phase, step)?;
-                Ok((taken, frame))
-            }
-        }
+        feed_on(
+            self.alloc,
+            &self.limits,
+            &mut self.parts,
+            &mut self.phase,
+            piece,
+        )
     }
 
     /// Takes at most `wants` bytes from the source. The code calls it once, and stores what comes
@@ -195,15 +138,22 @@ impl Frames {
             FramePhase::Ended => (0, Ok(None)),
             FramePhase::Refused => (0, Err(Fault::Failed)),
             FramePhase::Reading(expectation) => {
-                let (count, step) = read_on(
-                    self.alloc,
-                    &self.limits,
-                    source,
-                    &mut self.parts,
-                    expectation,
-                );
-                let result = finish_step(self.alloc, &mut self.parts, &mut self.phase, step);
-                (count, result)
+                match read_part(&self.limits, source, &mut self.parts, expectation) {
+                    Ok(count) => {
+                        let result = conclude(
+                            self.alloc,
+                            &self.limits,
+                            &mut self.parts,
+                            &mut self.phase,
+                            expectation,
+                        );
+                        (count, result)
+                    }
+                    Err(fault) => {
+                        let fault = refuse(self.alloc, &mut self.parts, &mut self.phase, fault);
+                        (0, Err(fault))
+                    }
+                }
             }
         }
     }
@@ -255,6 +205,25 @@ impl Frames {
         self.parts.start.len() + self.parts.meta.len() + self.parts.body.len()
     }
 
+    /// Returns the limits that it was created with.
+    pub fn limits(&self) -> Limits
+        ensures { result ≡ self.now.limits }
+    {
+        self.limits
+    }
+
+    /// Refuses the stream for a fault that the caller found in a message, and returns this fault.
+    /// From now on each call returns F35 (`Failed`), and takes no bytes. It takes no memory.
+    pub fn refuse(&mut self, fault: Fault) -> Fault
+        ensures fault { result ≡ fault }
+        ensures progress { self.new.progress ≡ refused }
+        ensures limits { self.new.limits ≡ self.old.limits }
+        // No buffer is kept.
+        ensures let_go { self.new.room ≡ no_capacity }
+    {
+        refuse(self.alloc, &mut self.parts, &mut self.phase, fault)
+    }
+
     /// Ends the input: no more bytes come. Returns `Ok` before the first message, between two
     /// messages, and after the end-of-stream mark, also in a second call. It takes no memory.
     ///
@@ -275,9 +244,8 @@ impl Frames {
                 Ok(())
             }
             FramePhase::Reading(_) => {
-                self.parts = PartialMessage::new(self.alloc);
-                self.phase = FramePhase::Refused;
-                Err(Fault::Truncated)
+                let fault = Fault::Truncated;
+                Err(refuse(self.alloc, &mut self.parts, &mut self.phase, fault))
             }
         }
     }

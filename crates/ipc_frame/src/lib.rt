@@ -2,12 +2,12 @@
 //! the metadata, the metadata and the body (Arrow Columnar Format, "Encapsulated message format").
 #![tactic(auto)]
 
-mod body;
 mod decision;
 mod frame;
 mod frames;
 pub mod laws;
 mod message_prefix;
+mod partial_buffer;
 mod partial_message;
 mod pull;
 mod room;

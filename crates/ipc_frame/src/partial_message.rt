@@ -1,11 +1,10 @@
 ghost use Rattle.std.specs.Prelude.{◌≡◌, ◌≤◌, ◌++◌, [], length, OnErr, OnOk};
-ghost use Rattle.ipc_frame.specs.Bodies.{body_bytes};
+ghost use Rattle.ipc_frame.specs.Buffers.{filled_bytes};
 ghost use Rattle.ipc_frame.specs.Parts.{FitsExpectation, HasSize, received_bytes, no_capacity};
 ghost use Rattle.ipc_frame.specs.Parts.{GrowsWithBytes, capacity_of, bytes_needed};
 
-use crate::body::Body;
 use crate::message_prefix::MessagePrefix;
-use crate::room::append;
+use crate::partial_buffer::PartialBuffer;
 use ipc_model::Limits;
 use std::alloc::{AllocError, Global};
 
@@ -14,8 +13,8 @@ use std::alloc::{AllocError, Global};
 #[derive(Drop)]
 pub struct PartialMessage {
     pub start: MessagePrefix,
-    pub meta: Vec<u8>,
-    pub body: Body,
+    pub meta: PartialBuffer,
+    pub body: PartialBuffer,
 }
 
 // What the next decision about a message waits for: its mark, the size of its metadata, or all
@@ -28,18 +27,26 @@ pub enum Expectation {
     Body(usize),
 }
 
+// Whether messages still come, and what is awaited of the one at hand.
+#[derive(Clone, Copy)]
+pub enum FramePhase {
+    Reading(Expectation),
+    Ended,
+    Refused,
+}
+
 impl PartialMessage {
     // With no byte.
     pub fn new(alloc: Global) -> PartialMessage
         ensures start { result.start ≡ [] }
-        ensures meta { result.meta.items ≡ [] }
-        ensures body { body_bytes result.body ≡ [] }
+        ensures meta { filled_bytes result.meta ≡ [] }
+        ensures body { filled_bytes result.body ≡ [] }
         ensures room { capacity_of result ≡ no_capacity }
     {
         PartialMessage {
             start: MessagePrefix::new(),
-            meta: Vec::new(alloc),
-            body: Body::new(alloc),
+            meta: PartialBuffer::new(alloc),
+            body: PartialBuffer::new(alloc),
         }
     }
 }
@@ -77,7 +84,7 @@ pub fn extend(
             parts.start.extend(bytes);
             Ok(())
         }
-        Expectation::Metadata(_) => append(&mut parts.meta, bytes),
+        Expectation::Metadata(_) => parts.meta.extend(bytes),
         Expectation::Body(_) => parts.body.extend(bytes),
     }
 }

@@ -1,84 +1,113 @@
-ghost use Rattle.std.specs.Prelude.{◌≡◌, ◌++◌, length, IfErr, OnOk};
-ghost use Rattle.ipc_frame.specs.Frames.{IsSized};
-ghost use Rattle.ipc_frame.specs.Parts.{FitsExpectation, GrowsWithBytes, HasSize, Undecided};
-ghost use Rattle.ipc_frame.specs.Parts.{capacity_of, received_bytes};
-ghost use Rattle.ipc_frame.specs.Steps.{Concludes, FeedsOn};
+ghost use Rattle.std.specs.Prelude.{◌≡◌, [], IfErr, IfSome, MatchResult};
+ghost use Rattle.ipc_frame.specs.Parts.{FitsExpectation, GrowsWithBytes, HasSize};
+ghost use Rattle.ipc_frame.specs.Parts.{capacity_of, no_capacity, received_bytes};
+ghost use Rattle.ipc_frame.specs.Pieces.{Concludes, Feeds, IsSound, TakesMemory, held_of};
+ghost use Rattle.ipc_frame.specs.Pieces.{progress_of};
 
-use crate::body::Body;
 use crate::decision::{Decision, decide};
 use crate::frame::Frame;
 use crate::message_prefix::MessagePrefix;
-use crate::partial_message::{Expectation, PartialMessage, bytes_needed, extend};
+use crate::partial_buffer::PartialBuffer;
+use crate::partial_message::{Expectation, FramePhase, PartialMessage, bytes_needed, extend};
 use ipc_model::{Fault, Limits};
 use std::alloc::Global;
 use std::mem::replace;
 
-// What is known of a message whose bytes came: more are awaited, or it is whole.
-#[derive(Drop)]
-pub enum MessageStep {
-    More(Expectation),
-    Whole(Frame),
+// Keeps no byte and no buffer, and takes no more, for this fault.
+pub fn refuse(
+    alloc: Global,
+    parts: &mut PartialMessage,
+    phase: &mut FramePhase,
+    fault: Fault,
+) -> Fault
+    ensures fault { result ≡ fault }
+    ensures phase { phase.new ≡ FramePhase.Refused }
+    ensures bytes { received_bytes parts.new ≡ [] }
+    ensures room { capacity_of parts.new ≡ no_capacity }
+{
+    *parts = PartialMessage::new(alloc);
+    *phase = FramePhase::Refused;
+    fault
 }
 
-// What the bytes that came complete. A complete message moves out with its buffers, and nothing
-// is kept after it.
+// What the bytes that came complete, and what is awaited after them. A complete message moves out
+// with its buffers. No buffer is kept after it, after the end-of-stream mark and after a refusal.
+// It takes the fields of `Frames`, because they break its invariant until the phase is set.
 pub fn conclude(
     alloc: Global,
     limits: &Limits,
     parts: &mut PartialMessage,
+    phase: &mut FramePhase,
     expectation: Expectation,
-) -> Result<MessageStep, Fault>
+) -> Result<Option<Frame>, Fault>
     requires { FitsExpectation limits.now parts.old expectation }
-    ensures concludes { Concludes limits.now (received_bytes parts.old) parts.new result }
+    ensures sound { IsSound limits.now parts.new phase.new }
+    ensures concludes { Concludes limits.now (received_bytes parts.old)
+        (progress_of parts.new phase.new) result }
     ensures memory { IfErr result (λ fault. fault ≡ Fault.OutOfMemory → HasSize expectation) }
-    ensures room { OnOk result (GrowsWithBytes (capacity_of parts.old) (capacity_of parts.new)
-        (length (received_bytes parts.new))) }
+    ensures moved { MatchResult result (λ found. IfSome found
+        (λ _. capacity_of parts.new ≡ no_capacity))
+        (λ _. capacity_of parts.new ≡ no_capacity) }
+    ensures room { GrowsWithBytes (capacity_of parts.old) (capacity_of parts.new) 0 }
 {
-    match decide(alloc, limits, parts, expectation)? {
-        Decision::More(expectation) => Ok(MessageStep::More(expectation)),
-        Decision::End => {
+    match decide(alloc, limits, parts, expectation) {
+        Ok(Decision::More(next)) => {
+            *phase = FramePhase::Reading(next);
+            Ok(None)
+        }
+        Ok(Decision::End) => {
             *parts = PartialMessage::new(alloc);
-            Ok(MessageStep::Whole(Frame::End))
+            *phase = FramePhase::Ended;
+            Ok(Some(Frame::End))
         }
-        Decision::Message(head) => {
+        Ok(Decision::Message(head)) => {
             parts.start = MessagePrefix::new();
-            let meta = replace(&mut parts.meta, Vec::new(alloc));
-            let body = replace(&mut parts.body, Body::new(alloc)).into_list();
-            Ok(MessageStep::Whole(Frame::Message { meta, head, body }))
+            let meta = replace(&mut parts.meta, PartialBuffer::new(alloc)).into_list();
+            let body = replace(&mut parts.body, PartialBuffer::new(alloc)).into_list();
+            *phase = FramePhase::Reading(Expectation::Continuation);
+            Ok(Some(Frame::Message { meta, head, body }))
         }
+        Err(fault) => Err(refuse(alloc, parts, phase, fault)),
     }
 }
 
-// Takes the piece up to the end of the first frame, or the whole piece if no frame ends in it.
-// Returns the number of bytes taken, also with a refusal, and the step that they complete.
+// Takes the piece part by part, up to the end of the first frame, as `Frames::feed` does.
 pub fn feed_on(
     alloc: Global,
     limits: &Limits,
     parts: &mut PartialMessage,
-    expectation: Expectation,
+    phase: &mut FramePhase,
     piece: &[u8],
-) -> (usize, Result<MessageStep, Fault>)
-    requires { Undecided limits.now parts.old expectation }
-    ensures feeds { FeedsOn limits.now (received_bytes parts.old) piece.now parts.new result.0
-        result.1 }
-    ensures memory { IfErr result.1 (λ fault. fault ≡ Fault.OutOfMemory
-        → IsSized limits.now (received_bytes parts.old ++ piece.now)) }
-    ensures room { OnOk result.1 (GrowsWithBytes (capacity_of parts.old) (capacity_of parts.new)
-        (length (received_bytes parts.new))) }
+) -> Result<(usize, Option<Frame>), Fault>
+    requires { IsSound limits.now parts.old phase.old }
+    ensures sound { IsSound limits.now parts.new phase.new }
+    ensures feeds { Feeds limits.now (progress_of parts.old phase.old) piece.now
+        (progress_of parts.new phase.new) result }
+    ensures memory { IfErr result (λ fault. fault ≡ Fault.OutOfMemory
+        → TakesMemory limits.now (progress_of parts.old phase.old) piece.now) }
+    ensures moved { MatchResult result (λ found. IfSome found.1
+        (λ _. capacity_of parts.new ≡ no_capacity))
+        (λ _. capacity_of parts.new ≡ no_capacity) }
+    ensures room { GrowsWithBytes (capacity_of parts.old) (capacity_of parts.new)
+        (held_of (progress_of parts.new phase.new)) }
 {
-    let mut expectation = expectation;
     let mut taken = 0;
-    while taken < piece.len() {
+    loop {
+        let expectation = match *phase {
+            FramePhase::Ended => return Ok((0, None)),
+            FramePhase::Refused => return Err(Fault::Failed),
+            FramePhase::Reading(expectation) => expectation,
+        };
+        if taken == piece.len() {
+            return Ok((taken, None));
+        }
         let count = bytes_needed(limits, parts, expectation).min(piece.len() - taken);
         if extend(limits, parts, expectation, &piece[taken..taken + count]).is_err() {
-            return (taken, Err(Fault::OutOfMemory));
+            return Err(refuse(alloc, parts, phase, Fault::OutOfMemory));
         }
         taken += count;
-        match conclude(alloc, limits, parts, expectation) {
-            Ok(MessageStep::More(next)) => expectation = next,
-            Ok(MessageStep::Whole(frame)) => return (taken, Ok(MessageStep::Whole(frame))),
-            Err(fault) => return (taken, Err(fault)),
+        if let Some(frame) = conclude(alloc, limits, parts, phase, expectation)? {
+            return Ok((taken, Some(frame)));
         }
     }
-    (taken, Ok(MessageStep::More(expectation)))
 }

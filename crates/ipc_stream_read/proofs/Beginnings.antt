@@ -1,5 +1,5 @@
 -- Where bytes hold a table, messages at their front are the first messages of that table.
-use Rattle.std.proofs.Common.{◌≡◌, ◌∙◌, refl, sym, ap, subst, ℕ, inl, List, [], ◌∷◌, ◌++◌, map, append_assoc, Option, Some, None, Ok}
+use Rattle.std.proofs.Common.{◌≡◌, ◌∙◌, refl, sym, ap, ℕ, inl, inr, List, [], ◌∷◌, ◌++◌, map, append_assoc, Option, Some, None, Ok}
 use Rattle.std.specs.Io.KnownBytes.{Consumes, IsAtEnd}
 use Rattle.std.proofs.lemmas.List.{append-nil}
 use Rattle.ipc_model.specs.declared.limits.Limits.{Limits}
@@ -7,29 +7,12 @@ use Rattle.ipc_model.specs.declared.schema.Schema.{Schema}
 use Rattle.ipc_model.specs.declared.table.BatchRows.{BatchRows}
 use Rattle.ipc_model.specs.declared.table.Table.{Table}
 use Rattle.ipc_frame.specs.Frames.{end_of_stream}
-use Rattle.ipc_frame.proofs.OneFrame.{frame_one}
 use Rattle.ipc_stream_read.specs.declared.end.End.{End}
 use Rattle.ipc_stream_read.specs.declared.end.End.TheVariants.{Mark, Closed}
 use Rattle.ipc_stream_read.specs.Reasons.{Reads}
 use Rattle.ipc_stream_read.proofs.Reasons.{run_told}
-use Rattle.ipc_stream_read.specs.Stream.{State, Event, schema, batch, Step, Run, done, more, events_of, Denotes}
-use Rattle.ipc_stream_read.proofs.OneReading.{IsStop, at_eos, frame_stop, step_one}
-
--- of two runs of messages over the same bytes, one up to where a run may stop, the other tells the first events of it
-pub run_begins : {limits : Limits} → {σ τ υ : State} {x y : List ℕ} {es fs : List Event} (a b : List ℕ) → Run limits σ x es τ
-    → Run limits σ y fs υ → IsStop a → x ++ a ≡ y ++ b → (rest : List Event) × (es ≡ fs ++ rest)
-run_begins {limits} a b done done s e = ([], refl)
-run_begins {limits} a b done (more {x = x} {metadata = m} {body = body} {y = y} {h = g} f p q) s e =
-    absurd (frame_stop x m body (y ++ b) a g f (sym (append_assoc x y b) ∙ sym e) s)
-run_begins {limits} a b (more {es = es} {fs = fs} f p q) done s e = (es ++ fs, refl)
-run_begins {limits} a b (more {σ = σ} {τ = τ} {υ = υ} {x = x} {metadata = m} {body = body} {y = y} {h = g} {es = es} {fs = fs} f p q)
-    (more {τ = τ'} {υ = υ'} {x = x'} {metadata = m'} {body = body'} {y = y'} {h = g'} {es = es'} {fs = fs'} f' p' q') s e =
-    let same = frame_one x x' m m' body body' (y ++ a) (y' ++ b) g g' f f' (sym (append_assoc x y a) ∙ (e ∙ append_assoc x' y' b)) in
-    let other : Step limits σ g body es' τ' = subst (λ z. Step limits σ z body es' τ') (sym same.same_head)
-    (subst (λ z. Step limits σ g' z es' τ') (sym same.same_body) p') in
-    let step = step_one p other in
-    let rest = run_begins a b q (subst (λ z. Run limits z y' fs' υ') (sym step.1) q') s same.same_rest in
-    (rest.0, ap (λ l. l ++ fs) step.0 ∙ (ap (λ l. es' ++ l) rest.1 ∙ sym (append_assoc es' fs' rest.0)))
+use Rattle.ipc_stream_read.specs.Stream.{State, Event, schema, batch, Run, events_of, Denotes}
+use Rattle.ipc_stream_read.proofs.OneReading.{IsStop, at_eos, overlap, stops_there}
 
 -- batches whose events begin those of others begin them
 batches_begin : (xs ys : List BatchRows) (rest : List Event) → map batch xs ≡ map batch ys ++ rest
@@ -87,7 +70,10 @@ holds_closed x t d = record { state = d.0; whole = x; rest = []; run = d.1; join
 -- the messages at the front of such bytes are the first of the table
 pub front_begins : {limits : Limits} → (z x b : List ℕ) (t : Table) (fs : List Event) (υ : State) → Holds limits z t → z ≡ x ++ b
     → Run limits None x fs υ → (rest : List Event) × (events_of t ≡ fs ++ rest)
-front_begins z x b t fs υ h is run = run_begins h.rest b h.run run h.stop (h.joined ∙ is)
+front_begins z x b t fs υ h is run = elim (overlap h.rest b h.run run (h.joined ∙ is)) [
+  | inl g ↦ ([], (stops_there g h.stop).events ∙ sym (append-nil fs))
+  | inr g ↦ (g.events, g.told)
+]
 
 -- what denotes a table and its end is read to that end
 pub reads_of : {limits : Limits} → (x : List ℕ) (left : Option (List ℕ)) (t : Table) (end : End) → Denotes limits x t end

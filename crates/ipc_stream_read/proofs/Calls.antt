@@ -1,80 +1,43 @@
 -- What a call of a reader answers where a message, or an end, is at the front of what its source gives.
-use Rattle.std.proofs.Common.{◌≡◌, ◌∙◌, refl, sym, ap, subst, ℕ, ◌⊎◌, inl, inr, List, [], ◌∷◌, ◌++◌, Option, Some, None, Result, Ok, Err}
+use Rattle.std.proofs.Common.{◌≡◌, ◌∙◌, refl, sym, ap, subst, ℕ, inl, inr, List, [], ◌∷◌, ◌++◌, Option, Some, None, Result, Ok, Err}
 use Rattle.std.proofs.Common.{append_assoc}
-use Rattle.std.specs.Prelude.{IfErr, IfOk, MatchResult}
+use Rattle.std.specs.Prelude.{MatchResult}
 use Rattle.std.specs.Io.KnownBytes.{Consumes}
 use Rattle.ipc_model.specs.declared.fault.Fault.{Fault}
 use Rattle.ipc_model.specs.declared.schema.Schema.{Schema}
 use Rattle.ipc_model.specs.declared.table.BatchRows.{BatchRows}
-use Rattle.ipc_meta.specs.declared.head.Head.{Head}
 use Rattle.ipc_frame.specs.Frames.{end_of_stream}
-use Rattle.ipc_frame.proofs.OneFrame.{frame_one}
 use Rattle.ipc_stream_read.specs.Found.{ReadRows, batch_rows}
 use Rattle.ipc_stream_read.specs.declared.end.End.{End}
 use Rattle.ipc_stream_read.specs.declared.end.End.TheVariants.{Mark, Closed}
-use Rattle.ipc_stream_read.specs.declared.stream_phase.StreamPhase.{StreamPhase}
-use Rattle.ipc_stream_read.specs.declared.stream_phase.StreamPhase.TheVariants as phase
-use Rattle.ipc_stream_read.specs.Reader.{BeginsEnd, EndsBehind, GivesBatch, NextAnswer, NextCall, Opens, OpenFails, Reader, in_force_of}
+use Rattle.ipc_stream_read.specs.Reader as phase
+use Rattle.ipc_stream_read.specs.Reader.{BeginsEnd, EndsBehind, GivesBatch, LeadsTo, NextAnswer, NextCall, Opens, OpenFails, Reader}
+use Rattle.ipc_stream_read.specs.Reader.{StreamPhase, in_force_of}
 use Rattle.ipc_stream_read.specs.Reasons.{Ends, IsOutside, Reads}
-use Rattle.ipc_stream_read.specs.Stream.{Event, InForce, Run, State, Step, batch, came, done, first, more, schema, sets}
+use Rattle.ipc_stream_read.specs.Stream.{Event, InForce, Run, State, batch, schema}
 use Rattle.ipc_stream_read.specs.Stream.{OpensStream, SetsOnly, DenotesOneBatch}
-use Rattle.ipc_stream_read.proofs.OneReading.{IsStop, frame_stop, one_run, step_one}
-use Rattle.ipc_stream_read.proofs.Reasons.{both_none, run_breaks, told_breaks}
+use Rattle.ipc_stream_read.proofs.OneReading.{IsStop, one_run, overlap, stops_there}
+use Rattle.ipc_stream_read.proofs.Reasons.{run_breaks, told_breaks}
 use Rattle.ipc_stream_read.proofs.Runs.{told_run}
 use Rattle.ipc_model.specs.declared.limits.Limits.{Limits}
 
 -- ---- the first event of a run
 
-step_event : {limits : Limits} → {σ τ : State} {g : Head} {body : List ℕ} {es : List Event} → Step limits σ g body es τ
-    → (es ≡ []) ⊎ ((d : Event) × (es ≡ d ∷ []))
-step_event (first {s = s}) = inr (schema s, refl)
-step_event (came {pairs = pairs} {rows = rows} r) = inr (batch (record { pairs = pairs; rows = rows }), refl)
-step_event (sets found r) = inl refl
-
 -- two runs over the same bytes tell one first event
 pub first_same : {limits : Limits} → {σ τ υ : State} {x y : List ℕ} {es fs : List Event} (u v : List ℕ) (d e : Event)
     (ds gs : List Event) → Run limits σ x es τ → Run limits σ y fs υ → es ≡ d ∷ ds → fs ≡ e ∷ gs → x ++ u ≡ y ++ v → d ≡ e
-first_same u v d e ds gs done q p r joined = absurd (cc)
-first_same u v d e ds gs (more frame step rest) done p r joined = absurd (cc)
-first_same {limits} u v d e ds gs
-    (more {σ = σ} {τ = τ} {x = x} {metadata = m} {body = body} {y = y} {h = g} {es = es} {fs = fs} frame step rest)
-    (more {τ = τ'} {υ = υ'} {x = x'} {metadata = m'} {body = body'} {y = y'} {h = g'} {es = es'} {fs = fs'} frame' step' rest')
-    p r joined =
-    let same = frame_one x x' m m' body body' (y ++ u) (y' ++ v) g g' frame frame'
-    (sym (append_assoc x y u) ∙ (joined ∙ append_assoc x' y' v)) in
-    let other : Step limits σ g body es' τ' = subst (λ q. Step limits σ q body es' τ') (sym same.same_head)
-    (subst (λ q. Step limits σ g' q es' τ') (sym same.same_body) step') in
-    let one = step_one step other in
-    let behind : es ++ fs' ≡ e ∷ gs = ap (λ l. l ++ fs') one.0 ∙ r in
-    elim (step_event step) [
-      | inl none ↦ first_same u v d e ds gs rest (subst (λ q. Run limits q y' fs' υ') (sym one.1) rest')
-          (sym (ap (λ l. l ++ fs) none) ∙ p) (sym (ap (λ l. l ++ fs') none) ∙ behind) same.same_rest
-      | inr some ↦
-          let a : some.0 ∷ fs ≡ d ∷ ds = sym (ap (λ l. l ++ fs) some.1) ∙ p in
-          let b : some.0 ∷ fs' ≡ e ∷ gs = sym (ap (λ l. l ++ fs') some.1) ∙ behind in
-          let k : some.0 ≡ d = cc in
-          let l : some.0 ≡ e = cc in
-          sym k ∙ l
-    ]
+first_same u v d e ds gs p q here there joined = elim (overlap u v p q joined) [
+  | inl g ↦ let both : e ∷ gs ≡ d ∷ (ds ++ g.events) = sym there ∙ (g.told ∙ ap (λ l. l ++ g.events) here) in cc
+  | inr g ↦ let both : d ∷ ds ≡ e ∷ (gs ++ g.events) = sym here ∙ (g.told ∙ ap (λ l. l ++ g.events) there) in cc
+]
 
 -- where a run tells an event, none that tells nothing comes to where it may stop
 pub run_not_end : {limits : Limits} → {σ τ υ : State} {x y : List ℕ} {es fs : List Event} (u a : List ℕ) (d : Event) (ds : List Event)
     → Run limits σ x es τ → Run limits σ y fs υ → es ≡ d ∷ ds → fs ≡ [] → IsStop a → x ++ u ≡ y ++ a → ⊥
-run_not_end u a d ds done q p r stop joined = absurd (cc)
-run_not_end {limits} u a d ds (more {x = x} {metadata = m} {body = body} {y = y} {h = g} frame step rest) done p r stop joined =
-    frame_stop x m body (y ++ u) a g frame (sym (append_assoc x y u) ∙ joined) stop
-run_not_end {limits} u a d ds
-    (more {σ = σ} {τ = τ} {x = x} {metadata = m} {body = body} {y = y} {h = g} {es = es} {fs = fs} frame step rest)
-    (more {τ = τ'} {υ = υ'} {x = x'} {metadata = m'} {body = body'} {y = y'} {h = g'} {es = es'} {fs = fs'} frame' step' rest')
-    p r stop joined =
-    let same = frame_one x x' m m' body body' (y ++ u) (y' ++ a) g g' frame frame'
-    (sym (append_assoc x y u) ∙ (joined ∙ append_assoc x' y' a)) in
-    let other : Step limits σ g body es' τ' = subst (λ q. Step limits σ q body es' τ') (sym same.same_head)
-    (subst (λ q. Step limits σ g' q es' τ') (sym same.same_body) step') in
-    let one = step_one step other in
-    let parts = both_none es' fs' r in
-    run_not_end u a d ds rest (subst (λ q. Run limits q y' fs' υ') (sym one.1) rest')
-    (sym (ap (λ l. l ++ fs) (one.0 ∙ parts.0)) ∙ p) parts.1 stop same.same_rest
+run_not_end u a d ds p q here none stop joined = elim (overlap u a p q joined) [
+  | inl g ↦ let bad : [] ≡ d ∷ (ds ++ g.events) = sym none ∙ (g.told ∙ ap (λ l. l ++ g.events) here) in absurd (cc)
+  | inr g ↦ let bad : [] ≡ d ∷ ds = sym none ∙ ((stops_there g stop).events ∙ here) in absurd (cc)
+]
 
 -- where reading ends by itself, a run may stop
 ends_stop : (limits : Limits) (σ : State) (z b : List ℕ) (end : End) → Ends limits σ z (Some b) (Ok end) → IsStop (z ++ b)
@@ -107,15 +70,28 @@ opens_fails {limits} old new fault x rest s h is o =
     k.2 ∙ (ap (λ y. y ++ k.0) reads.joined ∙ append_assoc reads.whole reads.rest k.0) in
     told_breaks rest reads.rest k.0 fault o (λ none. absurd (cc)) reads.run refl reads.ends joined
 
--- the schema, or out of memory or a failure of the source
-pub opens_or : {limits : Limits} → {T E : Type 0} (r : Result T E) (view : T → Reader) (left : E → Option (List ℕ)) (fault : E
-    → Fault) (old : Option (List ℕ))
-    (x rest : List ℕ) (s : Schema)
-    → IfOk r (λ t. Opens limits old (view t)) → IfErr r (λ e. OpenFails limits old (left e) (fault e)) → old ≡ Some (x ++ rest)
-    → OpensStream limits s x
-    → MatchResult r (λ t. (view t).schema ≡ s) (λ e. IsOutside (fault e))
-opens_or (Ok t) view left fault old x rest s opened refused is o = opens_schema old (view t) x rest s opened is o
-opens_or (Err e) view left fault old x rest s opened refused is o = opens_fails old (left e) (fault e) x rest s refused is o
+-- ---- what a call answers while the stream is read
+
+abbrev pub ReadGives : Reader → Reader → List ℕ → Result (Option ReadRows) Fault → StreamPhase → Type 0
+ReadGives old new x (Ok (Some found)) p = LeadsTo old new x (batch (batch_rows found))
+ReadGives old new x (Ok None) p = (end : End) × (p ≡ phase.Ended end) × EndsBehind old new x (Ok end)
+ReadGives old new x (Err fault) p = EndsBehind old new x (Err fault)
+
+gives_by : (old new : Reader) (x : List ℕ) (r : Result (Option ReadRows) Fault) (p : StreamPhase) → NextAnswer old new phase.Reading x r p
+    → ReadGives old new x r p
+gives_by old new x (Ok (Some found)) phase.Reading h = h.0
+gives_by old new x (Ok (Some found)) (phase.Ended end) h = absurd h
+gives_by old new x (Ok (Some found)) phase.Refused h = absurd h
+gives_by old new x (Ok None) phase.Reading h = absurd h
+gives_by old new x (Ok None) (phase.Ended end) h = (end, refl, h)
+gives_by old new x (Ok None) phase.Refused h = absurd h
+gives_by old new x (Err fault) phase.Reading h = absurd h
+gives_by old new x (Err fault) (phase.Ended end) h = absurd h
+gives_by old new x (Err fault) phase.Refused h = h
+
+pub read_gives : (old new : Reader) (r : Result (Option ReadRows) Fault) (h : NextCall old new r) → old.phase ≡ phase.Reading
+    → ReadGives old new h.x r new.phase
+read_gives old new r h reading = gives_by old new h.x r new.phase (subst (λ p. NextAnswer old new p h.x r new.phase) reading h.gives)
 
 -- ---- a batch
 
@@ -131,22 +107,16 @@ module _ (old new : Reader) (x u z b : List ℕ) (rows : BatchRows) (τ : State)
   bytes_now : (answer : Result End Fault) (h : EndsBehind old new z answer) → x ++ u ≡ h.whole ++ (h.rest ++ b)
   bytes_now answer h = joined ∙ (ap (λ y. y ++ b) h.joined ∙ append_assoc h.whole h.rest b)
 
-  gives_batch : (r : Result (Option ReadRows) Fault) (p : StreamPhase) → NextAnswer old new phase.Reading z r p → RowsOr r
-  gives_batch (Ok (Some found)) phase.Reading h =
-      let run = told_run (Some (in_force_of old)) (Some (in_force_of new)) z (batch (batch_rows found)) h.0.last in
+  gives_batch : (r : Result (Option ReadRows) Fault) (p : StreamPhase) → ReadGives old new z r p → RowsOr r
+  gives_batch (Ok (Some found)) p h =
+      let run = told_run (Some (in_force_of old)) (Some (in_force_of new)) z (batch (batch_rows found)) h.last in
       let one : batch rows ≡ batch (batch_rows found) =
       first_same u b (batch rows) (batch (batch_rows found)) [] [] tells run refl refl joined in
       let same : batch_rows found ≡ rows = cc in same
-  gives_batch (Ok (Some found)) (phase.Ended end) h = absurd h
-  gives_batch (Ok (Some found)) phase.Refused h = absurd h
-  gives_batch (Ok None) phase.Reading h = absurd h
-  gives_batch (Ok None) (phase.Ended end) h =
-      absurd (run_not_end u (h.rest ++ b) (batch rows) [] tells h.run refl refl
-      (ends_stop old.limits (Some (in_force_of new)) h.rest b end (ends_now (Ok end) h)) (bytes_now (Ok end) h))
-  gives_batch (Ok None) phase.Refused h = absurd h
-  gives_batch (Err fault) phase.Reading h = absurd h
-  gives_batch (Err fault) (phase.Ended end) h = absurd h
-  gives_batch (Err fault) phase.Refused h =
+  gives_batch (Ok None) p h =
+      absurd (run_not_end u (h.2.rest ++ b) (batch rows) [] tells h.2.run refl refl
+      (ends_stop old.limits (Some (in_force_of new)) h.2.rest b h.0 (ends_now (Ok h.0) h.2)) (bytes_now (Ok h.0) h.2))
+  gives_batch (Err fault) p h =
       told_breaks u h.rest b fault tells (λ none. absurd (cc)) h.run refl (ends_now (Err fault) h) (bytes_now (Err fault) h)
 
 -- where messages that tell a batch are next, the call gives its rows, unless memory runs out or the source fails
@@ -155,8 +125,7 @@ pub next_batch : (old new : Reader) (r : Result (Option ReadRows) Fault) (x rest
     → MatchResult r (λ found. GivesBatch found rows) IsOutside
 next_batch old new r x rest rows h reading is tells =
     let k = known (x ++ rest) h.x old.remaining new.remaining is h.bytes in
-    gives_batch old new x rest h.x k.0 rows tells.0 tells.1 k.1 k.2 r new.phase
-    (subst (λ p. NextAnswer old new p h.x r new.phase) reading h.gives)
+    gives_batch old new x rest h.x k.0 rows tells.0 tells.1 k.1 k.2 r new.phase (read_gives old new r h reading)
 
 -- ---- an end
 
@@ -184,23 +153,17 @@ module _ (old new : Reader) (x u z b : List ℕ) (o : InForce) (end : End)
   bytes_there : (answer : Result End Fault) (h : EndsBehind old new z answer) → x ++ u ≡ h.whole ++ (h.rest ++ b)
   bytes_there answer h = joined ∙ (ap (λ y. y ++ b) h.joined ∙ append_assoc h.whole h.rest b)
 
-  gives_end : (r : Result (Option ReadRows) Fault) (p : StreamPhase) → NextAnswer old new phase.Reading z r p
+  gives_end : (r : Result (Option ReadRows) Fault) (p : StreamPhase) → ReadGives old new z r p
       → MatchResult r (λ found. (found ≡ None) × (p ≡ phase.Ended end)) IsOutside
-  gives_end (Ok (Some found)) phase.Reading h =
-      let run = told_run (Some (in_force_of old)) (Some (in_force_of new)) z (batch (batch_rows found)) h.0.last in
+  gives_end (Ok (Some found)) p h =
+      let run = told_run (Some (in_force_of old)) (Some (in_force_of new)) z (batch (batch_rows found)) h.last in
       absurd (run_not_end b u (batch (batch_rows found)) [] run only refl refl (stop_at end u begins) (sym joined))
-  gives_end (Ok (Some found)) (phase.Ended other) h = absurd h
-  gives_end (Ok (Some found)) phase.Refused h = absurd h
-  gives_end (Ok None) phase.Reading h = absurd h
-  gives_end (Ok None) (phase.Ended other) h =
-      let ends = ends_there (Ok other) h in
-      let one = one_run u (h.rest ++ b) only h.run (stop_at end u begins)
-      (ends_stop old.limits (Some (in_force_of new)) h.rest b other ends) (bytes_there (Ok other) h) in
-      (refl, same_end old.limits (Some (in_force_of new)) h.rest b end other (subst (BeginsEnd end) one.rest begins) ends)
-  gives_end (Ok None) phase.Refused h = absurd h
-  gives_end (Err fault) phase.Reading h = absurd h
-  gives_end (Err fault) (phase.Ended other) h = absurd h
-  gives_end (Err fault) phase.Refused h =
+  gives_end (Ok None) p h =
+      let ends = ends_there (Ok h.0) h.2 in
+      let one = one_run u (h.2.rest ++ b) only h.2.run (stop_at end u begins)
+      (ends_stop old.limits (Some (in_force_of new)) h.2.rest b h.0 ends) (bytes_there (Ok h.0) h.2) in
+      (refl, h.1 ∙ same_end old.limits (Some (in_force_of new)) h.2.rest b end h.0 (subst (BeginsEnd end) one.rest begins) ends)
+  gives_end (Err fault) p h =
       run_breaks u h.rest b fault only h.run (λ none. absurd (cc)) (stop_at end u begins) (ends_there (Err fault) h)
       (bytes_there (Err fault) h)
 
@@ -210,5 +173,4 @@ pub next_end : (old new : Reader) (r : Result (Option ReadRows) Fault) (x z : Li
     → MatchResult r (λ found. (found ≡ None) × (new.phase ≡ phase.Ended end)) IsOutside
 next_end old new r x z o end h reading is only begins =
     let k = known (x ++ z) h.x old.remaining new.remaining is h.bytes in
-    gives_end old new x z h.x k.0 o end only k.1 begins k.2 r new.phase
-    (subst (λ p. NextAnswer old new p h.x r new.phase) reading h.gives)
+    gives_end old new x z h.x k.0 o end only k.1 begins k.2 r new.phase (read_gives old new r h reading)

@@ -1,9 +1,9 @@
 -- What a frame brings to a stream is what the stream denotes.
-use Rattle.std.proofs.Common.{◌≡◌, ◌≢◌, ◌∙◌, refl, sym, ap, ℕ, ℤ, inl, inr, List, [], ◌∷◌, Option, Some, None}
+use Rattle.std.proofs.Common.{◌≡◌, ◌≢◌, ◌∙◌, refl, sym, ap, subst, ℕ, ℤ, inl, inr, List, [], ◌∷◌, Option, Some, None}
 use Rattle.std.proofs.Common.{Ok, Err, length}
 use Rattle.ipc_model.specs.Answers.{UnlessOutOfMemory}
 use Rattle.ipc_model.specs.declared.fault.Fault.{Fault}
-use Rattle.ipc_model.specs.declared.fault.Fault.TheVariants.{NotContinued, BadMetadataLength, MetadataTooLong}
+use Rattle.ipc_model.specs.declared.fault.Fault.TheVariants.{NotContinued, BadMetadataLength, MetadataTooLong, Read}
 use Rattle.ipc_model.specs.declared.limits.Limits.{Limits}
 use Rattle.ipc_model.specs.declared.schema.Schema.{Schema}
 use Rattle.ipc_meta.specs.declared.head.Head.{Head}
@@ -125,6 +125,20 @@ pub frame_reason : (limits : Limits) (σ τ : State) (x : List ℕ) (frame : Fra
 frame_reason limits σ τ x frame e is brings = λ other.
     let falls = body_falls limits x frame is in
     (falls.0, (frame_refused limits σ x frame e is ((brings_refused limits σ τ frame e brings).1 other), falls.1))
+
+-- no frame is refused for a failure of the source
+no_read : (limits : Limits) (σ : State) (frame : Framed) → RefusesFrame limits σ frame Read → ⊥
+no_read limits None frame r = absurd (let bad = r.0 in cc)
+no_read limits (Some o) f.End r = r
+no_read limits (Some o) (f.Message meta (h.Schema s) body) r = absurd (cc)
+no_read limits (Some o) (f.Message meta (h.Dictionary id b) body) (inl r) = absurd (let bad = r.0 in cc)
+no_read limits (Some o) (f.Message meta (h.Dictionary id b) body) (inr r) = r.2
+no_read limits (Some o) (f.Message meta (h.Batch b pairs) body) r = r
+
+pub not_read : (limits : Limits) (σ τ : State) (frame : Framed) (e : Fault) → Brings limits σ frame τ (Err e) → e ≢ Read
+not_read limits σ τ frame e brings is =
+    no_read limits σ frame ((brings_refused limits σ τ frame Read (subst (λ x. Brings limits σ frame τ (Err x)) is brings)).1
+    (λ out. absurd (cc)))
 
 -- a refusal leaves what is in force
 pub refused_stays : (limits : Limits) (σ τ : State) (frame : Framed) (e : Fault) → Brings limits σ frame τ (Err e) → τ ≡ σ

@@ -2,7 +2,6 @@
 use Rattle.std.proofs.Common.{◌≡◌, ◌≢◌, ◌∙◌, refl, sym, ap, subst, ℕ, ◌-◌, ◌^◌, ◌≤◌, List, [], ◌∷◌, ◌++◌, Option, Some, None}
 use Rattle.std.proofs.Common.{Result, Ok, Err, length, take, drop, arith}
 use Rattle.std.specs.Prelude.{Bool, true, false, IfErr}
-use Rattle.std.specs.Io.KnownBytes.{Consumes, IsAtEnd}
 use Rattle.std.proofs.lemmas.List.{append-nil}
 use Rattle.ipc_frame.proofs.Exact.{pending_none}
 use Rattle.ipc_frame.proofs.Sized.{frame_sized, sized_longer}
@@ -14,28 +13,28 @@ use Rattle.ipc_model.specs.declared.fault.Fault.TheVariants.{OutOfMemory}
 use Rattle.ipc_model.specs.declared.limits.Limits.{Limits}
 use Rattle.ipc_frame.specs.Frames.{IsSized, Pending}
 use Rattle.ipc_frame.specs.Sees.{IsFrame}
-use Rattle.ipc_frame.specs.Pieces.{Framing, behind}
+use Rattle.ipc_frame.specs.Pieces.{Framing, Progress, behind}
+use Rattle.ipc_frame.specs.Parts.{Capacity, no_capacity}
 use Rattle.ipc_frame.specs.Pieces as frames
 use Rattle.ipc_frame.specs.Pulled as pulled
 use Rattle.ipc_frame.specs.declared.frame.Frame.{Frame as Framed}
 use Rattle.ipc_frame.specs.declared.frame.Frame.TheVariants as f
 use Rattle.ipc_stream_read.specs.declared.stream_state.StreamState.{StreamState}
-use Rattle.ipc_stream_read.specs.declared.stream_phase.StreamPhase.TheVariants as phase
-use Rattle.ipc_stream_read.specs.declared.end.End.TheVariants.{Mark}
+use Rattle.ipc_stream_read.specs.declared.end.End.{End}
+use Rattle.ipc_stream_read.specs.declared.end.End.TheVariants.{Closed, Mark}
 use Rattle.ipc_stream_read.specs.declared.event.Event.{Event as ReturnedEvent}
 use Rattle.ipc_stream_read.specs.declared.event.Event.TheVariants as report
 use Rattle.ipc_stream_read.specs.Counts.{count_up}
-use Rattle.ipc_stream_read.specs.StreamStates.{Brings, IsMessageFrame, IsWellFormedFrame, IsRefused, IsSound, Moves, decoding_of, stage_of}
-use Rattle.ipc_stream_read.specs.Decoding.{Decoding, taking, over, refused, Reaches, Waits, ReportsEvent, RefusesAt, FeedsOn, FeedsAt}
-use Rattle.ipc_stream_read.specs.Decoding.{Feeds, Gives}
-use Rattle.ipc_stream_read.specs.Decoding.{IsFew, EndsAt, Draws, ReportsOneEvent}
+use Rattle.ipc_stream_read.specs.StreamStates.{Brings, IsMessageFrame, IsWellFormedFrame, Moves, decoding_of, stage_of}
+use Rattle.ipc_stream_read.specs.Decoding.{Decoding, taking, over, refused, Reaches, Waits, ReportsEvent, RefusesAt, FeedsOn}
+use Rattle.ipc_frame.specs.Failures.{FailsAs}
+use Rattle.ipc_stream_read.specs.Decoding.{FailsWhile, FeedsAt, Feeds, Gives, IsFew, EndsAt, Draws, ReportsOneEvent}
 use Rattle.ipc_stream_read.specs.Scopes.{state_of}
-use Rattle.ipc_stream_read.specs.MessageFeeds.{FeedsSilent}
 use Rattle.ipc_stream_read.specs.Found.{batch_rows}
 use Rattle.ipc_stream_read.specs.Stream.{State, Event, Run, done, schema, batch, IsMessage}
 use Rattle.ipc_stream_read.specs.Verdicts.{Decision, Reason}
-use Rattle.ipc_stream_read.proofs.Courses.{frame_well_formed, Brought, brought, early_reason, frame_reason, refused_stays}
-use Rattle.ipc_stream_read.proofs.Feeding.{all_bytes}
+use Rattle.ipc_stream_read.proofs.Courses.{frame_well_formed, Brought, brought, early_reason, frame_reason, not_read, refused_stays}
+use Rattle.ipc_stream_read.proofs.Feeding.{FeedsSilent, all_bytes}
 use Rattle.ipc_stream_read.proofs.Runs.{messages_none, messages_one, run_one}
 
 -- want of memory, and any other fault
@@ -58,25 +57,26 @@ message_sized limits x (f.Message meta head body) is message = frame_sized x met
 message_sized limits x f.End is message = absurd message
 
 -- how a decoder goes on behind what a frame brought
-abbrev pub Went : Decoding → Decoding → Option ReturnedEvent → Type 0
-Went old new (Some report.End) = (new.stage ≡ over Mark) × (new.messages ≡ old.messages)
-Went old new found = (new.stage ≡ taking []) × (new.messages ≡ count_up old.messages 1)
+abbrev Went : ℕ → Decoding → Option ReturnedEvent → Type 0
+Went messages new (Some report.End) = (new.stage ≡ over Mark) × (new.messages ≡ messages)
+Went messages new found = (new.stage ≡ taking []) × (new.messages ≡ count_up messages 1)
 
 -- it does, where the frame was taken
-pub went : (before after : Framing) (c d : StreamState) (σ τ : State) (limits : Limits) (frame : Framed) (found : Option ReturnedEvent)
-    → Brings limits σ frame τ (Ok found) → after.progress ≡ behind frame → c.phase ≡ phase.Reading → Moves c d (Ok found)
-    → Went (decoding_of before c) (decoding_of after d) found
-went before after c d σ τ limits f.End None b p r m = absurd b
-went before after c d σ τ limits f.End (Some report.Schema) b p r m = absurd b
-went before after c d σ τ limits f.End (Some (report.Batch found pairs)) b p r m = absurd b
-went before after c d σ τ limits f.End (Some report.End) b p r m = (ap (stage_of after.progress) m.0, m.1)
-went before after c d σ τ limits (f.Message meta g body) None b p r m =
-    (ap (stage_of after.progress) (m.0 ∙ r) ∙ ap (λ q. stage_of q phase.Reading) p, m.1)
-went before after c d σ τ limits (f.Message meta g body) (Some report.Schema) b p r m =
-    (ap (stage_of after.progress) (m.0 ∙ r) ∙ ap (λ q. stage_of q phase.Reading) p, m.1)
-went before after c d σ τ limits (f.Message meta g body) (Some (report.Batch found pairs)) b p r m =
-    (ap (stage_of after.progress) (m.0 ∙ r) ∙ ap (λ q. stage_of q phase.Reading) p, m.1)
-went before after c d σ τ limits (f.Message meta g body) (Some report.End) b p r m = absurd b
+went : (mid last : Framing) (c d : StreamState) (σ τ : State) (limits : Limits) (frame : Framed) (found : Option ReturnedEvent)
+    → Brings limits σ frame τ (Ok found) → mid.progress ≡ behind frame → Moves mid last c d (Ok found)
+    → Went c.messages (decoding_of last d) found
+went mid last c d σ τ limits f.End None b p m = absurd b
+went mid last c d σ τ limits f.End (Some report.Schema) b p m = absurd b
+went mid last c d σ τ limits f.End (Some (report.Batch found pairs)) b p m = absurd b
+went mid last c d σ τ limits f.End (Some report.End) b p m =
+    (ap (λ f. stage_of f.progress d.end) m.0 ∙ (ap (λ q. stage_of q d.end) p ∙ ap (stage_of frames.ended) m.1.0), m.1.1)
+went mid last c d σ τ limits (f.Message meta g body) None b p m =
+    (ap (λ f. stage_of f.progress d.end) m.0 ∙ ap (λ q. stage_of q d.end) p, m.1.1)
+went mid last c d σ τ limits (f.Message meta g body) (Some report.Schema) b p m =
+    (ap (λ f. stage_of f.progress d.end) m.0 ∙ ap (λ q. stage_of q d.end) p, m.1.1)
+went mid last c d σ τ limits (f.Message meta g body) (Some (report.Batch found pairs)) b p m =
+    (ap (λ f. stage_of f.progress d.end) m.0 ∙ ap (λ q. stage_of q d.end) p, m.1.1)
+went mid last c d σ τ limits (f.Message meta g body) (Some report.End) b p m = absurd b
 
 -- from what was kept, with what is in force and counted as it was
 module _ (old new : Decoding) (fits : old.messages ≤ 2 ^ 64 - 1) where
@@ -110,14 +110,14 @@ module _ (old new : Decoding) (fits : old.messages ≤ 2 ^ 64 - 1) where
   }
 
   -- a frame that is taken tells its event
-  pub tells : (x : List ℕ) (e : ReturnedEvent) → Brought old.limits old.state new.state x (Some e) → Went old new (Some e)
+  pub tells : (x : List ℕ) (e : ReturnedEvent) → Brought old.limits old.state new.state x (Some e) → Went old.messages new (Some e)
       → ReportsEvent old new x e
   tells x report.Schema b m = (b.0, one_told x (schema b.0) b.1 m.0 m.1)
   tells x (report.Batch found pairs) b m = (one_told x (batch (batch_rows (found, pairs))) b.0 m.0 m.1, b.1)
   tells x report.End b m = (subst (λ z. Reaches old new x [] z) b.0 (still x b.1 m.1), b.2, m.0)
 
   -- or tells nothing
-  pub silent : (x : List ℕ) → Brought old.limits old.state new.state x None → Went old new None → Reaches old new x [] []
+  pub silent : (x : List ℕ) → Brought old.limits old.state new.state x None → Went old.messages new None → Reaches old new x [] []
   silent x b m = record {
     reached = record { whole = x; joined = sym (append-nil x); run = run_one b.frame b.step };
     counted = omega (arith, m.1, messages_one b.frame b.step);
@@ -157,226 +157,265 @@ module _ (old new : Decoding) (fits : old.messages ≤ 2 ^ 64 - 1) where
 
 -- ---- the calls
 
-module _ (before after : Framing) (c d : StreamState) (sound : IsSound before c) (reading : c.phase ≡ phase.Reading)
-    (fits : c.messages ≤ 2 ^ 64 - 1) (old : Decoding) (seen : decoding_of before c ≡ old) where
-  abbrev new : Decoding
-  new = decoding_of after d
+-- what the frames answered
+abbrev count_in : Result (ℕ × Option Framed) Fault → ℕ
+count_in (Ok r) = r.0
+count_in (Err e) = 0
 
-  -- the bytes that are kept
-  abbrev pub kept : List ℕ
-  kept = (sound.takes reading).0
+abbrev found_in : Result (ℕ × Option Framed) Fault → Option Framed
+found_in (Ok r) = r.1
+found_in (Err e) = None
 
-  abbrev takes : before.progress ≡ frames.taking kept
-  takes = (sound.takes reading).1
+ok_not_err : {r : ℕ × Option Framed} {e : Fault} → Ok r ≡ Err e → ⊥
+ok_not_err is = absurd (cc)
 
-  stage_is : (decoding_of before c).stage ≡ taking kept
-  stage_is = ap (stage_of before.progress) reading ∙ ap (λ p. stage_of p phase.Reading) takes
+err_same : {e f : Fault} (r : Result (ℕ × Option Framed) Fault) → r ≡ Err e → r ≡ Err f → e ≡ f
+err_same r a b = cc
 
-  at_stage : (piece : List ℕ) (r : Result (ℕ × Option ReturnedEvent) Fault) → FeedsOn (decoding_of before c) kept piece new r
-      → Feeds old piece new r
-  at_stage piece r h =
-      subst (λ o. Feeds o piece new r) seen (subst (λ s. FeedsAt (decoding_of before c) s piece new r) (sym stage_is) h)
+-- what the frames do with a piece, where they find this
+pub feeds_at : (limits : Limits) (p q : Progress) (piece : List ℕ) (n : ℕ) (f g : Option Framed) → f ≡ g
+    → frames.Feeds limits p piece q (Ok (n, f)) → frames.Feeds limits p piece q (Ok (n, g))
+feeds_at limits p q piece n f g is h = subst (λ x. frames.Feeds limits p piece q (Ok (n, x))) is h
 
-  -- what the frames do with a piece, under the limits of the stream
-  fed : (piece : List ℕ) (r q : Result (ℕ × Option Framed) Fault) → r ≡ q
-      → frames.Feeds before.limits before.progress piece after.progress r
-      → frames.Feeds c.limits (frames.taking kept) piece after.progress q
-  fed piece r q is h =
-      subst (λ x. frames.Feeds c.limits (frames.taking kept) piece after.progress x) is
-      (subst (λ l. frames.Feeds l (frames.taking kept) piece after.progress r) sound.same_limits
-      (subst (λ p. frames.Feeds before.limits p piece after.progress r) takes h))
+-- what the frames take of a source, where they answer this
+pub takes_at : (limits : Limits) (a b : Option (List ℕ)) (p q : Progress) (n : ℕ) (r s : Result (Option Framed) Fault) → r ≡ s
+    → pulled.TakesFromSource limits a b p q n r → pulled.TakesFromSource limits a b p q n s
+takes_at limits a b p q n r s is t = subst (pulled.TakesFromSource limits a b p q n) is t
 
-  -- what the frames do with a piece, where they tell this of it
-  abbrev pub FramesFeed : List ℕ → Result (ℕ × Option Framed) Fault → Type 0
-  FramesFeed piece r = frames.Feeds before.limits before.progress piece after.progress r
+-- a frame is found where bytes are kept
+where_taking : (P : Progress → Type 0) (limits : Limits) (p q : Progress) (piece : List ℕ) (n : ℕ) (frame : Framed)
+    → frames.Feeds limits p piece q (Ok (n, Some frame))
+    → ((z : List ℕ) → frames.Feeds limits (frames.taking z) piece q (Ok (n, Some frame)) → P (frames.taking z)) → P p
+where_taking P limits (frames.taking z) q piece n frame h then = then z h
+where_taking P limits frames.ended q piece n frame h then = absurd (let bad : Some frame ≡ None = ap found_in h.1 in cc)
+where_taking P limits frames.refused q piece n frame h then = absurd (ok_not_err h.1)
 
-  -- where memory runs out for the frames, the size of the metadata came
-  fed_memory : (piece : List ℕ) → frames.TakesMemory before.limits before.progress piece → IsSized c.limits (kept ++ piece)
-  fed_memory piece h =
-      subst (λ l. frames.TakesMemory l (frames.taking kept) piece) sound.same_limits
-      (subst (λ p. frames.TakesMemory before.limits p piece) takes h)
+-- a schema that the frames bring keeps the rules
+pub fed_well_formed : (limits others : Limits) (p q : Progress) (piece : List ℕ) (n : ℕ) (frame : Framed) → others ≡ limits
+    → frames.Feeds limits p piece q (Ok (n, Some frame)) → IsWellFormedFrame others frame
+fed_well_formed limits others p q piece n frame same h =
+    subst (λ l. IsWellFormedFrame l frame) (sym same) (where_taking (λ r. IsWellFormedFrame limits frame) limits p q piece n frame h
+    (λ z f. frame_well_formed limits (z ++ take n piece) frame f.2))
 
-  -- the whole piece is kept
-  pub feeds_none : (n : ℕ) (piece : List ℕ) (found : Option Framed) → found ≡ None → FramesFeed piece (Ok (n, found)) → d ≡ c
-      → Feeds old piece new (Ok (n, None))
-  feeds_none n piece found is h same =
-      let g = fed piece (Ok (n, found)) (Ok (n, None)) (ap (λ f. Ok (n, f)) is) h in
-      let stage = ap (λ e. stage_of after.progress e.phase) same ∙ (ap (stage_of after.progress) reading
-      ∙ ap (λ p. stage_of p phase.Reading) g.1) in
-      at_stage piece (Ok (n, None)) (
-        g.0,
-        waits (decoding_of before c) new fits (kept ++ piece) g.2.0 (ap (λ e. state_of e.scope) same) (ap (λ e. e.messages) same)
-            stage g.2.1,
-      )
+-- the stage after the end
+over_is : (end : Option End) → (e : End) × (stage_of frames.ended end ≡ over e)
+over_is None = (Closed, refl)
+over_is (Some e) = (e, refl)
 
-  -- what the frames refuse is refused
-  pub feeds_refused : (piece : List ℕ) (e f : Fault) → f ≡ e → FramesFeed piece (Err e)
-      → (e ≡ OutOfMemory → frames.TakesMemory before.limits before.progress piece) → IsRefused c d → Feeds old piece new (Err f)
-  feeds_refused piece e f is h memory gone =
-      let g = fed piece (Err e) (Err f) (ap Err (sym is)) h in
-      at_stage piece (Err f)
-      (refuses (decoding_of before c) new fits kept piece f (ap state_of gone.2) gone.3 (ap (stage_of after.progress) gone.0)
-      (λ other. let why = g.1 other in
-      (why.0, why.1, early_reason c.limits (state_of c.scope) (kept ++ take why.0 piece) f why.2))
-      (λ out. fed_memory piece (memory (sym is ∙ out))))
+-- a decoder, by the progress of its frames
+module _ (limits : Limits) (room : Capacity) (c : StreamState) (fits : c.messages ≤ 2 ^ 64 - 1) where
+  abbrev old : Progress → Decoding
+  old p = decoding_of (record { limits = limits; progress = p; room = room }) c
 
-  -- a frame that is taken tells its event
-  pub feeds_event : (n : ℕ) (piece : List ℕ) (found : Option Framed) (frame : Framed) (r : Option ReturnedEvent) (e : ReturnedEvent) → r
-      ≡ Some e
-      → found ≡ Some frame
-      → FramesFeed piece (Ok (n, found)) → Brings c.limits (state_of c.scope) frame (state_of d.scope) (Ok r) → Moves c d (Ok r)
-      → Feeds old piece new (Ok (n, Some e))
-  feeds_event n piece found frame r e report is h brings moves =
-      let g = fed piece (Ok (n, found)) (Ok (n, Some frame)) (ap (λ f. Ok (n, f)) is) h in
-      let b = subst (λ q. Brings c.limits (state_of c.scope) frame (state_of d.scope) (Ok q)) report brings in
-      let m = subst (λ q. Moves c d (Ok q)) report moves in
-      at_stage piece (Ok (n, Some e)) (
-        g.0,
-        tells (decoding_of before c) new fits (kept ++ take n piece) e
-            (brought c.limits (state_of c.scope) (state_of d.scope) (kept ++ take n piece) frame (Some e) g.2 b)
-            (went before after c d (state_of c.scope) (state_of d.scope) c.limits frame (Some e) b g.1 reading m),
-      )
+  -- a call of the frames that brings no frame
+  module _ (after : Framing) (same : after.limits ≡ limits) (let_go : frames.DropsLists after.progress after.room) where
+    abbrev here : Decoding
+    here = decoding_of after c
 
-  -- or tells nothing
-  pub feeds_silent : (n : ℕ) (piece : List ℕ) (found : Option Framed) (frame : Framed) (r : Option ReturnedEvent) → r ≡ None
-      → found ≡ Some frame
-      → FramesFeed piece (Ok (n, found)) → Brings c.limits (state_of c.scope) frame (state_of d.scope) (Ok r) → Moves c d (Ok r)
-      → FeedsSilent old piece n new
-  feeds_silent n piece found frame r report is h brings moves =
-      let g = fed piece (Ok (n, found)) (Ok (n, Some frame)) (ap (λ f. Ok (n, f)) is) h in
-      let b = subst (λ q. Brings c.limits (state_of c.scope) frame (state_of d.scope) (Ok q)) report brings in
-      let m = subst (λ q. Moves c d (Ok q)) report moves in
-      let x = kept ++ take n piece in
-      let one = brought c.limits (state_of c.scope) (state_of d.scope) x frame None g.2 b in
-      let on = went before after c d (state_of c.scope) (state_of d.scope) c.limits frame None b g.1 reading m in
-      subst (λ o. FeedsSilent o piece n new) seen (record {
-        kept = kept;
-        stage = stage_is;
-        some = omega (arith, one.frame.prefix);
-        within = g.0;
-        reaches = silent (decoding_of before c) new fits x one on;
-        between = on.0;
-      })
+    -- after the end and after a refusal it changes nothing
+    stays : (p : Progress) → after.progress ≡ p → room ≡ no_capacity → after.room ≡ no_capacity → here ≡ old p
+    stays p is none gone =
+        let now : after ≡ record { limits = limits; progress = p; room = room } =
+        λ i. record { limits = same i; progress = is i; room = (gone ∙ sym none) i } in
+        ap (λ f. decoding_of f c) now
 
-  -- a frame that is refused is so at its last byte
-  pub feeds_frame_refused : (n : ℕ) (piece : List ℕ) (found : Option Framed) (frame : Framed) (e : Fault) → found ≡ Some frame
-      → FramesFeed piece (Ok (n, found)) → Brings c.limits (state_of c.scope) frame (state_of d.scope) (Err e) → Moves c d (Err e)
-      → (e ≡ OutOfMemory → IsMessageFrame frame) → Feeds old piece new (Err e)
-  feeds_frame_refused n piece found frame e is h b m memory =
-      let g = fed piece (Ok (n, found)) (Ok (n, Some frame)) (ap (λ f. Ok (n, f)) is) h in
-      at_stage piece (Err e)
-      (refuses (decoding_of before c) new fits kept piece e (refused_stays c.limits (state_of c.scope) (state_of d.scope) frame e b) m.1
-      (ap (stage_of after.progress) m.0)
-      (λ other. (
-        n,
-        g.0,
-        frame_reason c.limits (state_of c.scope) (state_of d.scope) (kept ++ take n piece) frame e g.2 b other,
-      ))
-      (λ out. subst (IsSized c.limits) (all_bytes kept piece n)
-      (sized_longer (kept ++ take n piece) (drop n piece) (message_sized c.limits (kept ++ take n piece) frame g.2 (memory out)))))
+    ended_stays : after.progress ≡ frames.ended → room ≡ no_capacity → here ≡ old frames.ended
+    ended_stays is none = stays frames.ended is none (subst (λ p. frames.DropsLists p after.room) is let_go)
 
-  -- a schema that the frames bring keeps the rules
-  pub fed_well_formed : (n : ℕ) (piece : List ℕ) (found : Option Framed) (frame : Framed) → found ≡ Some frame
-      → FramesFeed piece (Ok (n, found)) → IsWellFormedFrame c.limits frame
-  fed_well_formed n piece found frame is h =
-      let g = fed piece (Ok (n, found)) (Ok (n, Some frame)) (ap (λ f. Ok (n, f)) is) h in
-      frame_well_formed c.limits (kept ++ take n piece) frame g.2
+    refused_stay : after.progress ≡ frames.refused → room ≡ no_capacity → here ≡ old frames.refused
+    refused_stay is none = stays frames.refused is none (subst (λ p. frames.DropsLists p after.room) is let_go)
 
-  -- what the frames take of a source, under the limits of the stream
-  module _ (from to : Option (List ℕ)) (count : ℕ) (r : Result (Option Framed) Fault)
-      (t : pulled.TakesFromSource before.limits from to before.progress after.progress count r) where
-    took : (q : Result (Option Framed) Fault) → r ≡ q → pulled.TakesFromSource c.limits from to (frames.taking kept) after.progress count q
-    took q is =
-        subst (λ x. pulled.TakesFromSource c.limits from to (frames.taking kept) after.progress count x) is
-        (subst (λ l. pulled.TakesFromSource l from to (frames.taking kept) after.progress count r) sound.same_limits
-        (subst (λ p. pulled.TakesFromSource before.limits from to p after.progress count r) takes t))
-
-    drawn : (a : Result (Option ReturnedEvent) Fault) (came : List ℕ) → length came ≡ count → Consumes from to came
-        → IsFew c.limits (taking kept) came → EndsAt (taking kept) came to a → Gives (decoding_of before c) (taking kept) came new a
-        → Draws from to old new count a
-    drawn a came counted bytes few at_end gives = subst (λ o. Draws from to o new count a) seen (record {
-      came = came;
-      counted = counted;
-      bytes = bytes;
-      few = subst (λ s. IsFew c.limits s came) (sym stage_is) few;
-      at_end = subst (λ s. EndsAt s came to a) (sym stage_is) at_end;
-      gives = subst (λ s. Gives (decoding_of before c) s came new a) (sym stage_is) gives;
-    })
-
-    -- all that came is kept
-    pub draws_none : r ≡ Ok None → d ≡ c → Draws from to old new count (Ok None)
-    draws_none is same =
-        let g = took (Ok None) is in
-        let f = g.gives in
-        let stage = ap (λ e. stage_of after.progress e.phase) same ∙ (ap (stage_of after.progress) reading
-        ∙ ap (λ p. stage_of p phase.Reading) f.1) in
-        drawn (Ok None) g.came g.counted g.bytes g.few g.at_end (
-          refl,
-          waits (decoding_of before c) new fits (kept ++ g.came) f.2.0 (ap (λ e. state_of e.scope) same) (ap (λ e. e.messages) same)
-              stage f.2.1,
-        )
+    -- nothing is decided
+    pub feeds_none : (p : Progress) (piece : List ℕ) (n : ℕ) → frames.DropsLists p room
+        → frames.Feeds limits p piece after.progress (Ok (n, None)) → Feeds (old p) piece here (Ok (n, None))
+    feeds_none (frames.taking z) piece n drops h = (
+      h.0,
+      waits (old (frames.taking z)) here fits (z ++ piece) h.2.0 refl refl (ap (λ p. stage_of p c.end) h.1) h.2.1,
+    )
+    feeds_none frames.ended piece n drops h =
+        subst (λ s. FeedsAt (old frames.ended) s piece here (Ok (n, None))) (sym (over_is c.end).1)
+        (ended_stays h.0 drops, ap (λ k. Ok (k, None)) (ap count_in h.1))
+    feeds_none frames.refused piece n drops h = absurd (ok_not_err h.1)
 
     -- what the frames refuse is refused
-    pub draws_refused : (e f : Fault) → f ≡ e → r ≡ Err e
-        → IfErr r (λ fault. fault ≡ OutOfMemory → frames.TakesMemory before.limits before.progress []) → IsRefused c d
-        → Draws from to old new count (Err f)
-    draws_refused e f same is memory gone =
-        let g = took (Err f) (is ∙ ap Err (sym same)) in
-        let sized = subst (λ q. IfErr q (λ fault. fault ≡ OutOfMemory → frames.TakesMemory before.limits before.progress [])) is memory in
-        drawn (Err f) g.came g.counted g.bytes g.few tt (
-          ap (stage_of after.progress) gone.0,
-          ap state_of gone.2,
-          gone.3,
-          (λ a b. early_reason c.limits (state_of c.scope) (kept ++ g.came) f (g.gives.1 a b)),
-          λ out. sized_longer kept g.came (subst (IsSized c.limits) (append-nil kept) (fed_memory [] (sized (sym same ∙ out)))),
-        )
+    pub feeds_refused : (p : Progress) (piece : List ℕ) (e : Fault) → frames.DropsLists p room
+        → frames.Feeds limits p piece after.progress (Err e) → (e ≡ OutOfMemory → frames.TakesMemory limits p piece)
+        → Feeds (old p) piece here (Err e)
+    feeds_refused (frames.taking z) piece e drops h memory =
+        refuses (old (frames.taking z)) here fits z piece e refl refl (ap (λ p. stage_of p c.end) h.0)
+        (λ other. let why = h.1 other in (why.0, why.1, early_reason limits (state_of c.scope) (z ++ take why.0 piece) e why.2)) memory
+    feeds_refused frames.ended piece e drops h memory = absurd (ok_not_err (sym h.1))
+    feeds_refused frames.refused piece e drops h memory = (refused_stay h.0 drops, ap Err (err_same (Err e) refl h.1))
 
-    -- a frame that is taken tells its event, or nothing
-    pub draws_frame : (frame : Framed) (found : Option ReturnedEvent) → r ≡ Ok (Some frame)
-        → Brings c.limits (state_of c.scope) frame (state_of d.scope) (Ok found)
-        → Moves c d (Ok found) → Draws from to old new count (Ok found)
-    draws_frame frame None is b m =
-        let g = took (Ok (Some frame)) is in
-        let f = g.gives in
-        let whole = subst (λ y. IsFrame c.limits (kept ++ y) frame) (take-length g.came) f.2 in
-        let x = kept ++ g.came in
-        let one = brought c.limits (state_of c.scope) (state_of d.scope) x frame None whole b in
-        let on = went before after c d (state_of c.scope) (state_of d.scope) c.limits frame None b f.1 reading m in
-        let some : g.came ≡ [] → IsAtEnd to = λ none.
-        absurd (pending_frame kept frame g.few.0 g.few.1
-        (subst (λ y. IsFrame c.limits y frame) (ap (λ y. kept ++ y) none ∙ append-nil kept) whole)) in
-        drawn (Ok None) g.came g.counted g.bytes g.few some (
-          refl,
-          ([], silent (decoding_of before c) new fits x one on, on.0, (4, pending_none)),
-        )
-    draws_frame frame (Some e) is b m =
-        let g = took (Ok (Some frame)) is in
-        let f = g.gives in
-        let x = kept ++ take (length g.came) g.came in
-        drawn (Ok (Some e)) g.came g.counted g.bytes g.few tt (
+    -- what comes from a source is kept
+    pub draws_none : (p : Progress) (from to : Option (List ℕ)) (count : ℕ) → frames.DropsLists p room
+        → pulled.TakesFromSource limits from to p after.progress count (Ok None) → Draws from to (old p) here count (Ok None)
+    draws_none p from to count drops t = record {
+      came = t.came;
+      counted = t.counted;
+      bytes = t.bytes;
+      few = few_at p t.came t.few;
+      at_end = end_at p t.came t.at_end;
+      gives = feeds_none p t.came (length t.came) drops t.gives;
+    }
+      where
+        few_at : (q : Progress) (came : List ℕ) → pulled.IsFew limits q came → IsFew limits (old q).stage came
+        few_at (frames.taking z) came few = few
+        few_at frames.ended came few = subst (λ s. IsFew limits s came) (sym (over_is c.end).1) few
+        few_at frames.refused came few = few
+
+        end_at : (q : Progress) (came : List ℕ) → pulled.EndsAt q came to (Ok None) → EndsAt (old q).stage came to (Ok None)
+        end_at (frames.taking z) came end = end
+        end_at frames.ended came end = subst (λ s. EndsAt s came to (Ok None)) (sym (over_is c.end).1) tt
+        end_at frames.refused came end = tt
+
+    refused_by : (p : Progress) (from to : Option (List ℕ)) (count : ℕ) (e : Fault) → frames.DropsLists p room
+        → pulled.TakesFromSource limits from to p after.progress count (Err e)
+        → (e ≡ OutOfMemory → frames.TakesMemory limits p []) → Draws from to (old p) here count (Err e)
+    refused_by (frames.taking z) from to count e drops t memory = record {
+      came = t.came;
+      counted = t.counted;
+      bytes = t.bytes;
+      few = t.few;
+      at_end = tt;
+      gives = (
+        ap (λ p. stage_of p c.end) t.gives.0,
+        refl,
+        refl,
+        (λ a b. early_reason limits (state_of c.scope) (z ++ t.came) e (t.gives.1 a b)),
+        λ out. sized_longer z t.came (subst (IsSized limits) (append-nil z) (memory out)),
+      );
+    }
+    refused_by frames.ended from to count e drops t memory = absurd (ok_not_err (sym t.gives.1))
+    refused_by frames.refused from to count e drops t memory = record {
+      came = t.came;
+      counted = t.counted;
+      bytes = t.bytes;
+      few = t.few;
+      at_end = tt;
+      gives = (refused_stay t.gives.0 drops, ap Err (err_same (Err e) refl t.gives.1));
+    }
+
+    -- or it is refused
+    pub draws_refused : (p : Progress) (from to : Option (List ℕ)) (count : ℕ) (r : Result (Option Framed) Fault) (e : Fault) → r ≡ Err e
+        → frames.DropsLists p room → pulled.TakesFromSource limits from to p after.progress count r
+        → IfErr r (λ fault. fault ≡ OutOfMemory → frames.TakesMemory limits p []) → Draws from to (old p) here count (Err e)
+    draws_refused p from to count r e is drops t memory = refused_by p from to count e drops
+        (takes_at limits from to p after.progress count r (Err e) is t)
+        (subst (λ q. IfErr q (λ fault. fault ≡ OutOfMemory → frames.TakesMemory limits p [])) is memory)
+
+  -- a frame that the frames find, and what it brings
+  module _ (mid last : Framing) (d : StreamState) (same : mid.limits ≡ limits) (frame : Framed) where
+    abbrev new : Decoding
+    new = decoding_of last d
+
+    abbrev Bringing : Result (Option ReturnedEvent) Fault → Type 0
+    Bringing r = Brings mid.limits (state_of c.scope) frame (state_of d.scope) r
+
+    brings : (r : Result (Option ReturnedEvent) Fault) → Bringing r → Brings limits (state_of c.scope) frame (state_of d.scope) r
+    brings r b = subst (λ l. Brings l (state_of c.scope) frame (state_of d.scope) r) same b
+
+    on : (found : Option ReturnedEvent) → Bringing (Ok found) → mid.progress ≡ behind frame → Moves mid last c d (Ok found)
+        → Went c.messages new found
+    on found b at m = went mid last c d (state_of c.scope) (state_of d.scope) mid.limits frame found b at m
+
+    -- a frame that is taken tells its event
+    pub feeds_event : (p : Progress) (piece : List ℕ) (n : ℕ) (e : ReturnedEvent)
+        → frames.Feeds limits p piece mid.progress (Ok (n, Some frame)) → Bringing (Ok (Some e)) → Moves mid last c d (Ok (Some e))
+        → Feeds (old p) piece new (Ok (n, Some e))
+    feeds_event p piece n e h b m =
+        where_taking (λ q. Feeds (old q) piece new (Ok (n, Some e))) limits p mid.progress piece n frame h (λ z f. (
           f.0,
-          tells (decoding_of before c) new fits x e
-              (brought c.limits (state_of c.scope) (state_of d.scope) x frame (Some e) f.2 b)
-              (went before after c d (state_of c.scope) (state_of d.scope) c.limits frame (Some e) b f.1 reading m),
-        )
+          tells (old (frames.taking z)) new fits (z ++ take n piece) e
+              (brought limits (state_of c.scope) (state_of d.scope) (z ++ take n piece) frame (Some e) f.2 (brings (Ok (Some e)) b))
+              (on (Some e) b f.1 m),
+        ))
+
+    -- or tells nothing
+    pub feeds_silent : (p : Progress) (piece : List ℕ) (n : ℕ) → frames.Feeds limits p piece mid.progress (Ok (n, Some frame))
+        → Bringing (Ok None) → Moves mid last c d (Ok None) → FeedsSilent (old p) piece n new
+    feeds_silent p piece n h b m =
+        where_taking (λ q. FeedsSilent (old q) piece n new) limits p mid.progress piece n frame h (λ z f.
+        let one = brought limits (state_of c.scope) (state_of d.scope) (z ++ take n piece) frame None f.2 (brings (Ok None) b) in
+        let w = on None b f.1 m in record {
+          kept = z;
+          stage = refl;
+          some = omega (arith, one.frame.prefix);
+          within = f.0;
+          reaches = silent (old (frames.taking z)) new fits (z ++ take n piece) one w;
+          between = w.0;
+        })
 
     -- a frame that is refused is so at its last byte
-    pub draws_frame_refused : (frame : Framed) (e : Fault) → r ≡ Ok (Some frame)
-        → Brings c.limits (state_of c.scope) frame (state_of d.scope) (Err e) → Moves c d (Err e)
-        → (e ≡ OutOfMemory → IsMessageFrame frame) → Draws from to old new count (Err e)
-    draws_frame_refused frame e is b m memory =
-        let g = took (Ok (Some frame)) is in
-        let whole = subst (λ y. IsFrame c.limits (kept ++ y) frame) (take-length g.came) g.gives.2 in
-        drawn (Err e) g.came g.counted g.bytes g.few tt (
-          ap (stage_of after.progress) m.0,
-          refused_stays c.limits (state_of c.scope) (state_of d.scope) frame e b,
-          m.1,
-          (λ x y. frame_reason c.limits (state_of c.scope) (state_of d.scope) (kept ++ g.came) frame e whole b y),
-          λ out. message_sized c.limits (kept ++ g.came) frame whole (memory out),
+    pub feeds_frame_refused : (p : Progress) (piece : List ℕ) (n : ℕ) (e : Fault)
+        → frames.Feeds limits p piece mid.progress (Ok (n, Some frame)) → Bringing (Err e) → Moves mid last c d (Err e)
+        → (e ≡ OutOfMemory → IsMessageFrame frame) → Feeds (old p) piece new (Err e)
+    feeds_frame_refused p piece n e h b m memory =
+        where_taking (λ q. Feeds (old q) piece new (Err e)) limits p mid.progress piece n frame h (λ z f.
+        refuses (old (frames.taking z)) new fits z piece e
+        (refused_stays limits (state_of c.scope) (state_of d.scope) frame e (brings (Err e) b)) m.3 (ap (λ p. stage_of p d.end) m.0)
+        (λ other. (
+          n,
+          f.0,
+          frame_reason limits (state_of c.scope) (state_of d.scope) (z ++ take n piece) frame e f.2 (brings (Err e) b) other,
+        ))
+        (λ out. subst (IsSized limits) (all_bytes z piece n)
+        (sized_longer (z ++ take n piece) (drop n piece) (message_sized limits (z ++ take n piece) frame f.2 (memory out)))))
+
+    -- what a frame that came from a source brings is answered, and the source worked
+    pub draws_frame : (p : Progress) (from to : Option (List ℕ)) (count : ℕ) (r : Result (Option ReturnedEvent) Fault)
+        → pulled.TakesFromSource limits from to p mid.progress count (Ok (Some frame)) → Bringing r → Moves mid last c d r
+        → IfErr r (λ fault. fault ≡ OutOfMemory → IsMessageFrame frame) → Draws from to (old p) new count r
+    draws_frame p from to count r t b m memory =
+        where_taking (λ q. pulled.IsFew limits q t.came → Draws from to (old q) new count r) limits p mid.progress t.came
+        (length t.came) frame t.gives (λ z f few. record {
+          came = t.came;
+          counted = t.counted;
+          bytes = t.bytes;
+          few = few;
+          at_end = ends z r (whole z f) few;
+          gives = gives z r f b m memory;
+        }) t.few
+      where
+        whole : (z : List ℕ) → frames.Feeds limits (frames.taking z) t.came mid.progress (Ok (length t.came, Some frame))
+            → IsFrame limits (z ++ t.came) frame
+        whole z f = subst (λ y. IsFrame limits (z ++ y) frame) (take-length t.came) f.2
+
+        ends : (z : List ℕ) (q : Result (Option ReturnedEvent) Fault) → IsFrame limits (z ++ t.came) frame
+            → pulled.IsFew limits (frames.taking z) t.came → EndsAt (taking z) t.came to q
+        ends z (Ok None) is few = λ none. absurd (pending_frame z frame few.0 few.1
+            (subst (λ y. IsFrame limits y frame) (ap (λ y. z ++ y) none ∙ append-nil z) is))
+        ends z (Ok (Some e)) is few = tt
+        ends z (Err e) is few = tt
+
+        gives : (z : List ℕ) (q : Result (Option ReturnedEvent) Fault)
+            → frames.Feeds limits (frames.taking z) t.came mid.progress (Ok (length t.came, Some frame))
+            → Bringing q → Moves mid last c d q → IfErr q (λ fault. fault ≡ OutOfMemory → IsMessageFrame frame)
+            → Gives (old (frames.taking z)) (taking z) t.came new q
+        gives z (Ok None) f b m memory =
+            let one = brought limits (state_of c.scope) (state_of d.scope) (z ++ t.came) frame None (whole z f) (brings (Ok None) b) in
+            let w = on None b f.1 m in
+            (refl, ([], silent (old (frames.taking z)) new fits (z ++ t.came) one w, w.0, (4, pending_none)))
+        gives z (Ok (Some e)) f b m memory = feeds_event (frames.taking z) t.came (length t.came) e f b m
+        gives z (Err e) f b m memory = (
+          ap (λ p. stage_of p d.end) m.0,
+          refused_stays limits (state_of c.scope) (state_of d.scope) frame e (brings (Err e) b),
+          m.3,
+          (λ x y. frame_reason limits (state_of c.scope) (state_of d.scope) (z ++ t.came) frame e (whole z f) (brings (Err e) b) y),
+          λ out. message_sized limits (z ++ t.came) frame (whole z f) (memory out),
         )
 
-    -- a schema that the frames bring keeps the rules
-    pub drawn_well_formed : (frame : Framed) → r ≡ Ok (Some frame) → IsWellFormedFrame c.limits frame
-    drawn_well_formed frame is =
-        let g = took (Ok (Some frame)) is in
-        frame_well_formed c.limits (kept ++ take (length g.came) g.came) frame g.gives.2
+    pub draws_failures : (p : Progress) (from to : Option (List ℕ)) (count f0 f1 : ℕ) (r : Result (Option ReturnedEvent) Fault)
+        (s : Result (Option Framed) Fault) → s ≡ Ok (Some frame) → pulled.TakesFromSource limits from to p mid.progress count s
+        → Bringing r → pulled.FailsWhile p f0 f1 s → FailsWhile (old p).stage f0 f1 r
+    draws_failures p from to count f0 f1 r s is taken b h =
+        let t = takes_at limits from to p mid.progress count s (Ok (Some frame)) is taken in
+        where_taking (λ q. pulled.FailsWhile q f0 f1 (Ok (Some frame)) → FailsWhile (old q).stage f0 f1 r) limits p mid.progress t.came
+        (length t.came) frame t.gives (λ z f works. by_result r b works) (subst (pulled.FailsWhile p f0 f1) is h)
+      where
+        by_result : (q : Result (Option ReturnedEvent) Fault) → Bringing q → (f0 ≡ 0) × (f1 ≡ 0) → FailsAs f0 f1 q
+        by_result (Ok event) b works = works
+        by_result (Err e) b works = record {
+          failed = λ read. absurd (not_read mid.limits (state_of c.scope) (state_of d.scope) frame e b read);
+          stayed = λ other. works.1 ∙ sym works.0;
+        }

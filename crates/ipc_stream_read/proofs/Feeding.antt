@@ -1,7 +1,7 @@
 -- Calls of a decoder, one behind another.
-use Rattle.std.proofs.Common.{◌≡◌, ◌∙◌, refl, sym, ap, subst, ℕ, ◌+◌, ◌≤◌, ◌⊎◌, inl, inr, List, [], ◌++◌, Option, Some}
+use Rattle.std.proofs.Common.{◌≡◌, ◌∙◌, refl, sym, ap, subst, ℕ, ◌+◌, ◌-◌, ◌<◌, ◌≤◌, ◌⊎◌, inl, inr, List, [], ◌++◌, Option, Some}
 use Rattle.std.proofs.Common.{None}
-use Rattle.std.proofs.Common.{Result, Ok, Err, length, length-drop, append_assoc, take, drop, arith}
+use Rattle.std.proofs.Common.{Result, Ok, Err, length, length-append, length-drop, length-take, append_assoc, take, drop, arith}
 use Rattle.std.proofs.Math.Seq.{take-add}
 use Rattle.std.proofs.lemmas.List.{take-append-drop}
 use Rattle.ipc_model.specs.Answers.{UnlessOutOfMemory}
@@ -11,13 +11,10 @@ use Rattle.ipc_frame.specs.Frames.{end_of_stream, IsSized, Pending}
 use Rattle.ipc_column.specs.Contents.{Contents}
 use Rattle.ipc_stream_read.specs.declared.event.Event.{Event as ReturnedEvent}
 use Rattle.ipc_stream_read.specs.declared.event.Event.TheVariants as report
-use Rattle.ipc_stream_read.specs.declared.feed_progress.FeedProgress.{FeedProgress}
-use Rattle.ipc_stream_read.specs.declared.feed_progress.FeedProgress.TheVariants as fed
 use Rattle.ipc_stream_read.specs.Counts.{messages_in}
 use Rattle.ipc_stream_read.specs.Decoding.{Decoding, FeedsAt, FeedsOn, Feeds, Reaches, RefusesAt, ReportsEvent, ReportsLastEvent}
 use Rattle.ipc_stream_read.specs.Decoding.{ReportsOneEvent, Waits}
-use Rattle.ipc_stream_read.specs.Decoding.{taking}
-use Rattle.ipc_stream_read.specs.MessageFeeds.{FeedsMessage, FeedsSilent}
+use Rattle.ipc_stream_read.specs.Decoding.{kept_bytes, taking}
 use Rattle.ipc_stream_read.specs.Found.{batch_rows}
 use Rattle.ipc_stream_read.specs.ReadBatches.{IsReadFrom}
 use Rattle.ipc_stream_read.specs.Stream.{State, Event, schema, batch}
@@ -89,11 +86,28 @@ module _ (a b c : Decoding) (x z w : List ℕ) (same : b.limits ≡ a.limits) (p
     λ out. subst (λ l. IsSized l h.0) same (h.3 out),
   )
 
--- what is fed of the rest of a piece is what an equal answer says
-pub message_at : (now new : Decoding) (piece rest : List ℕ) (k n : ℕ) (f g : FeedProgress) → f ≡ g → rest ≡ drop k piece
-    → FeedsMessage now rest new (Ok (n, f)) → FeedsMessage now (drop k piece) new (Ok (n, g))
-message_at now new piece rest k n f g is same h =
-    subst (λ y. FeedsMessage now y new (Ok (n, g))) same (subst (λ x. FeedsMessage now rest new (Ok (n, x))) is h)
+-- the stored bytes with a beginning of the piece end with a message that reports no event
+pub record FeedsSilent (old : Decoding) (piece : List ℕ) (n : ℕ) (new : Decoding) : Type 0 where
+  pub kept : List ℕ
+  pub stage : old.stage ≡ taking kept
+  pub some : 0 < length (kept ++ take n piece)
+  pub within : n ≤ length piece
+  pub reaches : Reaches old new (kept ++ take n piece) [] []
+  pub between : new.stage ≡ taking []
+
+-- after it fewer bytes are stored and to be taken
+pub silent_falls : (old new : Decoding) (piece : List ℕ) (k n : ℕ) → FeedsSilent old (drop k piece) n new
+    → kept_bytes new.stage + (length piece - (k + n)) < kept_bytes old.stage + (length piece - k)
+silent_falls old new piece k n h = omega (
+  arith,
+  ap kept_bytes h.between,
+  ap kept_bytes h.stage,
+  h.some,
+  h.within,
+  length-append h.kept (take n (drop k piece)),
+  length-take n (drop k piece),
+  length-drop k piece,
+)
 
 -- of a piece so many bytes were taken: none yet, or those through messages that tell nothing
 pub record Feeding (old : Decoding) (piece : List ℕ) (taken : ℕ) (now : Decoding) : Type 0 where
@@ -161,13 +175,6 @@ module _ (old now new : Decoding) (piece : List ℕ) (k : ℕ) (f : Feeding old 
           subst (Feeds old piece new) (sym (first_piece r s.0))
           (subst (λ m. Feeds old (drop m piece) new r) s.0 (subst (λ d. Feeds d (drop k piece) new r) s.1 h))
       by_cases (inr s) = feeds_then s.0 s.1 s.2 s.3 r h
-
-  pub fed_more : (n : ℕ) → FeedsMessage now (drop k piece) new (Ok (n, fed.More)) → Feeds old piece new (Ok (k + n, None))
-  fed_more n h = fed_then (Ok (n, None)) h
-
-  pub fed_event : (n : ℕ) (e : ReturnedEvent) → FeedsMessage now (drop k piece) new (Ok (n, fed.WithEvent e))
-      → Feeds old piece new (Ok (k + n, Some e))
-  fed_event n e h = fed_then (Ok (n, Some e)) h
 
   -- a message that tells nothing is one more
   pub feeding_more : (n : ℕ) → new.limits ≡ now.limits → FeedsSilent now (drop k piece) n new → Feeding old piece (k + n) new

@@ -8,16 +8,15 @@ use Rattle.ipc_meta.specs.declared.head.Head.{Head}
 use Rattle.ipc_column.specs.Contents.{Contents}
 use Rattle.ipc_frame.specs.Frames.{end_of_stream}
 use Rattle.ipc_stream_read.specs.declared.end.End.{End}
-use Rattle.ipc_stream_read.specs.declared.end.End.TheVariants.{Mark, Closed}
+use Rattle.ipc_stream_read.specs.declared.end.End.TheVariants.{Mark}
 use Rattle.ipc_stream_read.specs.declared.event.Event.{Event as ReturnedEvent}
 use Rattle.ipc_stream_read.specs.declared.event.Event.TheVariants as report
-use Rattle.ipc_stream_read.specs.declared.source_reading.NextItem.TheVariants as next
-use Rattle.ipc_stream_read.specs.Decoding.{Decoding, Stage, taking, refused, HasColumns, Reaches, schema_of}
+use Rattle.ipc_stream_read.specs.Decoding.{Decoding, Stage, taking, over, refused, HasColumns, Reaches, ReportsEvent, schema_of}
 use Rattle.ipc_stream_read.specs.Found.{batch_rows}
 use Rattle.ipc_stream_read.specs.Reader.{schema_in}
 use Rattle.ipc_stream_read.specs.Reasons.{NeedsMemory, Reads}
 use Rattle.ipc_stream_read.specs.Stream.{State, Event, schema, batch, Step, first, came, sets, Run, done, more, initial_state}
-use Rattle.ipc_stream_read.specs.Taken.{HasAllColumns, Pulls, ReadsNext, StopsAt, TakesSchema}
+use Rattle.ipc_stream_read.specs.Taken.{Pulls, StopsAt, TakesSchema}
 use Rattle.ipc_stream_read.proofs.Reasons.{run_open, step_open}
 use Rattle.ipc_stream_read.proofs.Runs.{messages_none, told_run}
 
@@ -92,54 +91,26 @@ decoding_is d l s g m a b c e =
 
 -- ---- behind the schema
 
-module _ (old new : Option (List ℕ)) (n0 n1 : ℕ) (before after : Decoding) (same_limits : after.limits ≡ before.limits)
-    (some : before.state ≢ None) where
-  -- a batch that is pulled is next
-  pub next_batch : (found : Contents) (pairs : List (List ℕ × List ℕ))
-      → Pulls old new n0 n1 before after (Ok (Some (report.Batch found pairs)))
-      → ReadsNext old new n0 n1 before after (Ok (next.Batch found pairs))
-  next_batch found pairs p = record { x = p.x; takes = p.takes; same_limits = same_limits; gives = p.gives }
+-- the end mark that is pulled ends the stream
+pub mark_stops : (before after : Decoding) (x : List ℕ) (left : Option (List ℕ)) → ReportsEvent before after x report.End
+    → StopsAt before after x left (over Mark) (Ok Mark)
+mark_stops before after x left h = record { rest = end_of_stream; reaches = h.0; ends = (refl, h.1); memory = tt; at = h.2 }
 
-  -- the end mark that is pulled ends the stream
-  pub next_mark : Pulls old new n0 n1 before after (Ok (Some report.End)) → ReadsNext old new n0 n1 before after (Ok (next.Ended Mark))
-  next_mark p = record {
-    x = p.x;
-    takes = p.takes;
-    same_limits = same_limits;
-    gives = record { rest = end_of_stream; reaches = p.gives.0; ends = (refl, p.gives.1); memory = tt; at = p.gives.2 };
-  }
+-- no second schema is told
+pub no_second : (before after : Decoding) (x : List ℕ) → before.state ≢ None → ReportsEvent before after x report.Schema → ⊥
+no_second before after x some h = step_no_schema h.0 h.1.last.report.step (run_open h.1.last.run some) refl
 
-  -- so does the end of the source
-  pub next_closed : Pulls old new n0 n1 before after (Ok None) → ReadsNext old new n0 n1 before after (Ok (next.Ended Closed))
-  next_closed p = record { x = p.x; takes = p.takes; same_limits = same_limits; gives = p.gives }
-
-  -- what is refused is refused
-  pub next_broken : (e : Fault) → Pulls old new n0 n1 before after (Err e) → ReadsNext old new n0 n1 before after (Err e)
-  next_broken e p = record { x = p.x; takes = p.takes; same_limits = same_limits; gives = p.gives }
-
-  -- no second schema is told
-  pub next_no_schema : Pulls old new n0 n1 before after (Ok (Some report.Schema)) → ⊥
-  next_no_schema p =
-      let last = p.gives.1.last in
-      step_no_schema p.gives.0 last.report.step (run_open last.run some) refl
-
-  -- a batch has a column for each field
-  pub next_columns : (found : Contents) (pairs : List (List ℕ × List ℕ))
-      → Pulls old new n0 n1 before after (Ok (Some (report.Batch found pairs))) → HasColumns after.state (report.Batch found pairs)
-      → HasAllColumns before.state (next.Batch found pairs)
-  next_columns found pairs p h =
-      let b = batch (batch_rows (found, pairs)) in
-      columns_of before.state after.state
-      (run_keeps (told_run before.state after.state p.x b p.gives.0.last) some).of_state h
-    where
-      columns_of : (σ τ : State) → schema_of τ ≡ schema_of σ → HasColumns τ (report.Batch found pairs)
-          → HasAllColumns σ (next.Batch found pairs)
-      columns_of None τ same h = tt
-      columns_of (Some o) None same h = let bad : None ≡ Some o.schema = same in absurd (cc)
-      columns_of (Some o) (Some u) same h =
-          let both : Some u.schema ≡ Some o.schema = same in
-          let one : u.schema ≡ o.schema = cc in
-          h ∙ ap (λ s. length s.fields) one
+-- a batch has a column for each field
+pub next_columns : (before after : Decoding) (x : List ℕ) (found : Contents) (pairs : List (List ℕ × List ℕ)) → before.state ≢ None
+    → ReportsEvent before after x (report.Batch found pairs) → HasColumns after.state (report.Batch found pairs)
+    → found.columns ≡ length (schema_in before.state).fields
+next_columns before after x found pairs some h columns =
+    let run = told_run before.state after.state x (batch (batch_rows (found, pairs))) h.0.last in
+    columns_of after.state (run_open run some) columns ∙ ap (λ s. length s.fields) (run_keeps run some).in_state
+  where
+    columns_of : (σ : State) → σ ≢ None → HasColumns σ (report.Batch found pairs) → found.columns ≡ length (schema_in σ).fields
+    columns_of None some h = absurd (some refl)
+    columns_of (Some o) some h = h
 
 -- what was pulled is what an equal answer says
 pub pulls_at : (old new : Option (List ℕ)) (n0 n1 : ℕ) (before after : Decoding) (r q : Result (Option ReturnedEvent) Fault) → r ≡ q

@@ -1,7 +1,7 @@
 -- Each stream has one reading.
 use Rattle.std.proofs.Common.{◌≡◌, ◌∙◌, refl, sym, ap, subst, ℕ, ◌⊎◌, inl, inr, List, [], ◌∷◌, ◌++◌, length, map, append_assoc, Some}
 use Rattle.std.proofs.Common.{length-append, arith}
-use Rattle.std.proofs.lemmas.List.{append-nil, append_cancel_left}
+use Rattle.std.proofs.lemmas.List.{append-nil, append_cancel_left, append_cancel_right}
 use Rattle.ipc_model.specs.declared.table.BatchRows.{BatchRows}
 use Rattle.ipc_model.specs.declared.table.Table.{Table}
 use Rattle.ipc_meta.specs.declared.head.Head.{Head}
@@ -38,6 +38,65 @@ pub frame_stop : {limits : Limits} → (x m body u a : List ℕ) (g : Head) → 
 frame_stop x m body u a g f e (inl none) = omega (arith, f.prefix, length-append x u, ap length e, ap length none)
 frame_stop x m body u a g f e (inr (c, is)) = no_frame_at_end x m body u c g f (e ∙ is)
 
+-- of two runs over the same bytes the second goes on with these messages where the first ends
+pub record GoesOn (limits : Limits) (σ τ : State) (es fs : List Event) (a b : List ℕ) : Type 0 where
+  pub bytes : List ℕ
+  pub events : List Event
+  pub run : Run limits σ bytes events τ
+  pub rest : a ≡ bytes ++ b
+  pub told : fs ≡ es ++ events
+
+-- of two runs over the same bytes one goes on where the other ends
+pub overlap : {limits : Limits} → {σ τ υ : State} {x y : List ℕ} {es fs : List Event} (a b : List ℕ) → Run limits σ x es τ
+    → Run limits σ y fs υ → x ++ a ≡ y ++ b → GoesOn limits τ υ es fs a b ⊎ GoesOn limits υ τ fs es b a
+overlap {y = y} {fs = fs} a b done q e = inl (record { bytes = y; events = fs; run = q; rest = e; told = refl })
+overlap {limits} a b (more {x = x} {y = y} {es = es} {fs = fs} f p q) done e =
+    inr (record { bytes = x ++ y; events = es ++ fs; run = more f p q; rest = sym e; told = refl })
+overlap {limits} a b (more {σ = σ} {τ = τ} {υ = υ} {x = x} {metadata = m} {body = body} {y = y} {h = g} {es = es} {fs = fs} f p q)
+    (more {τ = τ'} {υ = υ'} {x = x'} {metadata = m'} {body = body'} {y = y'} {h = g'} {es = es'} {fs = fs'} f' p' q') e =
+    let same = frame_one x x' m m' body body' (y ++ a) (y' ++ b) g g' f f' (sym (append_assoc x y a) ∙ (e ∙ append_assoc x' y' b)) in
+    let other : Step limits σ g body es' τ' = subst (λ z. Step limits σ z body es' τ') (sym same.same_head)
+    (subst (λ z. Step limits σ g' z es' τ') (sym same.same_body) p') in
+    let step = step_one p other in
+    let later = overlap a b q (subst (λ z. Run limits z y' fs' υ') (sym step.1) q') same.same_rest in
+    elim later [
+      | inl k ↦ inl (record {
+        bytes = k.bytes;
+        events = k.events;
+        run = k.run;
+        rest = k.rest;
+        told =
+            ap (λ l. es' ++ l) k.told ∙ (sym (append_assoc es' fs k.events) ∙ ap (λ l. (l ++ fs) ++ k.events) (sym step.0));
+      })
+      | inr k ↦ inr (record {
+        bytes = k.bytes;
+        events = k.events;
+        run = k.run;
+        rest = k.rest;
+        told =
+            ap (λ l. l ++ fs) step.0 ∙ (ap (λ l. es' ++ l) k.told ∙ sym (append_assoc es' fs' k.events));
+      })
+    ]
+
+-- two runs tell the same events and leave the same rest and the same state
+pub record SameEnd (σ τ : State) (a b : List ℕ) (es fs : List Event) : Type 0 where
+  pub rest : a ≡ b
+  pub events : es ≡ fs
+  pub state : σ ≡ τ
+
+no_more : {limits : Limits} → {σ τ : State} {x : List ℕ} {ds : List Event} (a b : List ℕ) → Run limits σ x ds τ → a ≡ x ++ b → IsStop a
+    → SameEnd σ τ a b ds []
+no_more a b done rest stop = record { rest = rest; events = refl; state = refl }
+no_more a b (more {x = x} {metadata = m} {body = body} {y = y} {h = h} f p q) rest stop =
+    absurd (frame_stop x m body (y ++ b) a h f (sym (append_assoc x y b) ∙ sym rest) stop)
+
+-- no run goes on where the other may stop
+pub stops_there : {limits : Limits} → {σ τ : State} {es fs : List Event} {a b : List ℕ} → GoesOn limits σ τ es fs a b → IsStop a
+    → SameEnd σ τ a b es fs
+stops_there {es = es} {a = a} {b = b} g stop =
+    let same = no_more a b g.run g.rest stop in
+    record { rest = same.rest; events = sym (g.told ∙ (ap (λ l. es ++ l) same.events ∙ append-nil es)); state = same.state }
+
 -- two runs of messages over the same bytes are the same bytes, tell the same events and leave the same rest
 pub record SameRun (x y a b : List ℕ) (es fs : List Event) : Type 0 where
   pub bytes : x ≡ y
@@ -46,24 +105,17 @@ pub record SameRun (x y a b : List ℕ) (es fs : List Event) : Type 0 where
 
 -- of the messages from a state on there is one run at most up to where it may stop
 pub one_run : {limits : Limits} → {σ τ υ : State} {x y : List ℕ} {es fs : List Event} (a b : List ℕ) → Run limits σ x es τ
-    → Run limits σ y fs υ → IsStop a → IsStop b
-    → x ++ a ≡ y ++ b → SameRun x y a b es fs
-one_run {limits} a b done done s t e = record { bytes = refl; rest = e; events = refl }
-one_run {limits} a b done (more {x = x} {metadata = m} {body = body} {y = y} {h = g} f p q) s t e =
-    absurd (frame_stop x m body (y ++ b) a g f (sym (append_assoc x y b) ∙ sym e) s)
-one_run {limits} a b (more {x = x} {metadata = m} {body = body} {y = y} {h = g} f p q) done s t e =
-    absurd (frame_stop x m body (y ++ a) b g f (sym (append_assoc x y a) ∙ e) t)
-one_run {limits} a b (more {σ = σ} {τ = τ} {υ = υ} {x = x} {metadata = m} {body = body} {y = y} {h = g} {es = es} {fs = fs} f p q)
-    (more {τ = τ'} {υ = υ'} {x = x'} {metadata = m'} {body = body'} {y = y'} {h = g'} {es = es'} {fs = fs'} f' p' q') s t e =
-    let same = frame_one x x' m m' body body' (y ++ a) (y' ++ b) g g' f f' (sym (append_assoc x y a) ∙ (e ∙ append_assoc x' y' b)) in
-    let other : Step limits σ g body es' τ' = subst (λ z. Step limits σ z body es' τ') (sym same.same_head)
-    (subst (λ z. Step limits σ g' z es' τ') (sym same.same_body) p') in
-    let step = step_one p other in
-    let rest = one_run a b q (subst (λ z. Run limits z y' fs' υ') (sym step.1) q') s t same.same_rest in
-    record {
-      bytes = ap (λ l. l ++ y) same.same_bytes ∙ ap (λ l. x' ++ l) rest.bytes;
-      rest = rest.rest;
-      events = ap (λ l. l ++ fs) step.0 ∙ ap (λ l. es' ++ l) rest.events;
+    → Run limits σ y fs υ → IsStop a → IsStop b → x ++ a ≡ y ++ b → SameRun x y a b es fs
+one_run {x = x} {y = y} {es = es} {fs = fs} a b r q s t e = elim (overlap a b r q e) [
+  | inl g ↦ let same = stops_there g s in by_rest same.rest same.events
+  | inr g ↦ let same = stops_there g t in by_rest (sym same.rest) (sym same.events)
+]
+  where
+    by_rest : a ≡ b → es ≡ fs → SameRun x y a b es fs
+    by_rest rest events = record {
+      bytes = append_cancel_right x y b (ap (λ l. x ++ l) (sym rest) ∙ e);
+      rest = rest;
+      events = events;
     }
 
 -- events tell the table

@@ -1,5 +1,6 @@
 -- What is told of pieces is the verdict about their bytes.
-use Rattle.std.proofs.Common.{◌≡◌, ◌∙◌, refl, sym, ap, subst, ℕ, List, [], ◌∷◌, ◌++◌, Some, None, Ok, Err, Result, Option, append_assoc}
+use Rattle.std.proofs.Common.{◌≡◌, ◌∙◌, refl, sym, ap, subst, ℕ, inl, inr, List, [], ◌∷◌, ◌++◌, Some, None, Ok, Err, Result, Option}
+use Rattle.std.proofs.Common.{append_assoc}
 use Rattle.std.proofs.Common.{drop, take}
 use Rattle.std.specs.List.{concat}
 use Rattle.std.proofs.lemmas.List.{append-nil, append_cancel_left, take-append-drop}
@@ -10,18 +11,17 @@ use Rattle.ipc_stream_read.specs.declared.end.End.TheVariants.{Mark}
 use Rattle.ipc_frame.specs.Frames.{end_of_stream, Pending}
 use Rattle.ipc_frame.proofs.Decided.{pending_not_end, pending_not_frame}
 use Rattle.ipc_frame.proofs.Exact.{pending_none}
-use Rattle.ipc_frame.proofs.OneFrame.{frame_one, no_frame_at_end}
 use Rattle.ipc_stream_read.specs.declared.event.Event.{Event as ReturnedEvent}
 use Rattle.ipc_stream_read.specs.declared.event.Event.TheVariants as report
-use Rattle.ipc_stream_read.specs.Decoding.{Decoding, FeedsAt, FeedsOn, taking}
+use Rattle.ipc_stream_read.specs.Decoding.{Decoding, FeedsAt, FeedsOn, ReportsEvent, ReportsOneEvent, taking}
 use Rattle.ipc_stream_read.specs.PieceFeeds.{AnyPieces, AreReported, Call, EndsWithMark, GoesOn, HasRefusal, HasVerdict, LeavesBytes}
 use Rattle.ipc_stream_read.specs.PieceFeeds.{RefusesByVerdict}
 use Rattle.ipc_stream_read.specs.PieceFeeds.{TablePieces, ReportsVerdict, after_event, after_none, ended, fails, goes_on, kept, none}
 use Rattle.ipc_stream_read.specs.Found.{batch_rows}
-use Rattle.ipc_stream_read.specs.Stream.{Denotes, Event, Run, State, Step, batch, done, events_of, more as then, schema}
+use Rattle.ipc_stream_read.specs.Stream.{Denotes, Event, Run, State, batch, done, events_of, more as then, schema}
 use Rattle.ipc_stream_read.specs.Verdicts.{Decides, Out, Reached, Reason, Verdict}
 use Rattle.ipc_stream_read.specs.Verdicts as out
-use Rattle.ipc_stream_read.proofs.OneReading.{at_eos, one_run, step_one}
+use Rattle.ipc_stream_read.proofs.OneReading.{at_eos, one_run, overlap, stops_there}
 use Rattle.ipc_stream_read.proofs.Runs.{run_then, told_reached}
 
 -- what a call does where these bytes are kept
@@ -78,6 +78,18 @@ leaves_on out.end (report.Batch found pairs) report left on h = h
 leaves_on out.end report.End report left on h = absurd on
 leaves_on (out.refused c) e report left on h = h
 
+-- an event that is not the end is one of the stream
+record Reported (d e : Decoding) (x : List ℕ) (event : ReturnedEvent) : Type 0 where
+  told : Event
+  one : ReportsOneEvent d e x told
+  are : (report : List ReturnedEvent) (events : List Event) → AreReported report events → AreReported (event ∷ report) (told ∷ events)
+
+reported : (d e : Decoding) (x : List ℕ) (event : ReturnedEvent) → GoesOn event → ReportsEvent d e x event → Reported d e x event
+reported d e x report.Schema on h = record { told = schema h.0; one = h.1; are = λ report events a. a }
+reported d e x (report.Batch found pairs) on h =
+    record { told = batch (batch_rows (found, pairs)); one = h.0; are = λ report events a. (refl, a) }
+reported d e x report.End on h = absurd on
+
 -- after each call the rest goes on
 told_pieces : ReportsVerdict
 told_pieces d g z left k pieces events stage pending none = record {
@@ -108,37 +120,21 @@ told_pieces d g z left k pieces events stage pending (kept {e = e} {piece = piec
       verdict = all_verdict d e (z ++ piece) [] left w.0 [] w.1.reached call.1 more events v;
     }
 told_pieces d g z left k pieces events stage pending
-    (goes_on {e = e} {piece = piece} {pieces = more} {events = later} n {event = report.Schema} on call rest) =
-    let f = (feeds_on d e z piece (Ok (n, Some report.Schema)) stage call).1 in
-    let v = told_pieces e g [] left 4 (drop n piece ∷ more) later f.1.stage (subst (λ l. Pending l [] 4) (sym call.1) pending_none) rest in
-    let h = told_reached d.state e.state (z ++ take n piece) (schema f.0) f.1.last in
+    (goes_on {e = e} {piece = piece} {pieces = more} {events = later} n {event = event} on call rest) =
+    let f = reported d e (z ++ take n piece) event on (feeds_on d e z piece (Ok (n, Some event)) stage call).1 in
+    let v = told_pieces e g [] left 4 (drop n piece ∷ more) later f.one.stage (subst (λ l. Pending l [] 4) (sym call.1) pending_none)
+    rest in
+    let h = told_reached d.state e.state (z ++ take n piece) f.told f.one.last in
     record {
       x = h.whole ++ v.x;
       joined = cut_at z piece (concat more) n
-          ∙ all_joined d e (z ++ take n piece) [] left [] (schema f.0 ∷ []) h call.1 (drop n piece ∷ more) later v;
-      events = schema f.0 ∷ v.events;
-      are_told = v.are_told;
+          ∙ all_joined d e (z ++ take n piece) [] left [] (f.told ∷ []) h call.1 (drop n piece ∷ more) later v;
+      events = f.told ∷ v.events;
+      are_told = f.are later v.events v.are_told;
       out = v.out;
-      leaves = leaves_on v.out report.Schema later left on v.leaves;
-      verdict = all_verdict d e (z ++ take n piece) [] left [] (schema f.0 ∷ []) h call.1 (drop n piece ∷ more) later v;
+      leaves = leaves_on v.out event later left on v.leaves;
+      verdict = all_verdict d e (z ++ take n piece) [] left [] (f.told ∷ []) h call.1 (drop n piece ∷ more) later v;
     }
-told_pieces d g z left k pieces events stage pending
-    (goes_on {e = e} {piece = piece} {pieces = more} {events = later} n {event = report.Batch found pairs} on call rest) =
-    let f = (feeds_on d e z piece (Ok (n, Some (report.Batch found pairs))) stage call).1 in
-    let b = batch (batch_rows (found, pairs)) in
-    let v = told_pieces e g [] left 4 (drop n piece ∷ more) later f.0.stage (subst (λ l. Pending l [] 4) (sym call.1) pending_none) rest in
-    let h = told_reached d.state e.state (z ++ take n piece) b f.0.last in
-    record {
-      x = h.whole ++ v.x;
-      joined = cut_at z piece (concat more) n
-          ∙ all_joined d e (z ++ take n piece) [] left [] (b ∷ []) h call.1 (drop n piece ∷ more) later v;
-      events = b ∷ v.events;
-      are_told = (refl, v.are_told);
-      out = v.out;
-      leaves = leaves_on v.out (report.Batch found pairs) later left on v.leaves;
-      verdict = all_verdict d e (z ++ take n piece) [] left [] (b ∷ []) h call.1 (drop n piece ∷ more) later v;
-    }
-told_pieces d g z left k pieces events stage pending (goes_on n {event = report.End} on call rest) = absurd on
 told_pieces d g z left k pieces events stage pending (ended {e = e} {piece = piece} {pieces = more} n call) =
     let f = (feeds_on d e z piece (Ok (n, Some report.End)) stage call).1 in
     record {
@@ -200,23 +196,13 @@ refused_pieces d z k pieces events fault stage pending (after_none {e = e} {piec
     refused_behind d e (z ++ piece) w.0 [] w.1.reached call.1 more events fault v z (piece ∷ more)
     (sym (append_assoc z piece (concat more))) events v.are_told
 refused_pieces d z k pieces events fault stage pending
-    (after_event {e = e} {piece = piece} {pieces = more} {events = later} n {event = report.Schema} on call rest) other =
-    let f = (feeds_on d e z piece (Ok (n, Some report.Schema)) stage call).1 in
-    let v = refused_pieces e [] 4 (drop n piece ∷ more) later fault f.1.stage (subst (λ l. Pending l [] 4) (sym call.1) pending_none) rest
+    (after_event {e = e} {piece = piece} {pieces = more} {events = later} n {event = event} on call rest) other =
+    let f = reported d e (z ++ take n piece) event on (feeds_on d e z piece (Ok (n, Some event)) stage call).1 in
+    let v = refused_pieces e [] 4 (drop n piece ∷ more) later fault f.one.stage (subst (λ l. Pending l [] 4) (sym call.1) pending_none) rest
     other in
-    let h = told_reached d.state e.state (z ++ take n piece) (schema f.0) f.1.last in
-    refused_behind d e (z ++ take n piece) [] (schema f.0 ∷ []) h call.1 (drop n piece ∷ more) later fault v z (piece ∷ more)
-    (cut_at z piece (concat more) n) (report.Schema ∷ later) v.are_told
-refused_pieces d z k pieces events fault stage pending
-    (after_event {e = e} {piece = piece} {pieces = more} {events = later} n {event = report.Batch found pairs} on call rest) other =
-    let f = (feeds_on d e z piece (Ok (n, Some (report.Batch found pairs))) stage call).1 in
-    let b = batch (batch_rows (found, pairs)) in
-    let v = refused_pieces e [] 4 (drop n piece ∷ more) later fault f.0.stage (subst (λ l. Pending l [] 4) (sym call.1) pending_none) rest
-    other in
-    let h = told_reached d.state e.state (z ++ take n piece) b f.0.last in
-    refused_behind d e (z ++ take n piece) [] (b ∷ []) h call.1 (drop n piece ∷ more) later fault v z (piece ∷ more)
-    (cut_at z piece (concat more) n) (report.Batch found pairs ∷ later) (refl, v.are_told)
-refused_pieces d z k pieces events fault stage pending (after_event n {event = report.End} on call rest) other = absurd on
+    let h = told_reached d.state e.state (z ++ take n piece) f.told f.one.last in
+    refused_behind d e (z ++ take n piece) [] (f.told ∷ []) h call.1 (drop n piece ∷ more) later fault v z (piece ∷ more)
+    (cut_at z piece (concat more) n) (event ∷ later) (f.are later v.events v.are_told)
 
 -- both together
 pub any_pieces : AnyPieces
@@ -224,26 +210,21 @@ any_pieces = (told_pieces, refused_pieces)
 
 -- ---- a table with its mark
 
+run_pending : {limits : Limits} → {σ τ : State} {x : List ℕ} {es : List Event} (w rest : List ℕ) (k : ℕ) → Run limits σ x es τ
+    → rest ≡ x ++ (end_of_stream ++ w) → Pending limits rest k → ⊥
+run_pending {limits} w rest k done is pending = pending_not_end w k (subst (λ z. Pending limits z k) is pending)
+run_pending {limits} w rest k (then {x = x} {metadata = m} {body = body} {y = y} {h = g} frame step later) is pending =
+    pending_not_frame x m body (y ++ (end_of_stream ++ w)) g k frame
+    (subst (λ z. Pending limits z k) (is ∙ append_assoc x y (end_of_stream ++ w)) pending)
+
 -- where messages end before the mark, no bytes with these at their front are undecided behind messages
 stop_pending : {limits : Limits} → {σ τ υ : State} {y u : List ℕ} {es fs : List Event} (w rest : List ℕ) (k : ℕ)
     → Run limits σ y es τ → Run limits σ u fs υ → Pending limits rest k
     → y ++ (end_of_stream ++ w) ≡ u ++ rest → ⊥
-stop_pending {limits} w rest k done done p e = pending_not_end w k (subst (λ z. Pending limits z k) (sym e) p)
-stop_pending {limits} w rest k (then {x = x} {metadata = m} {body = body} {y = y} {h = g} frame step run) done p e =
-    pending_not_frame x m body (y ++ (end_of_stream ++ w)) g k frame
-    (subst (λ z. Pending limits z k) (sym e ∙ append_assoc x y (end_of_stream ++ w)) p)
-stop_pending {limits} w rest k done (then {x = x} {metadata = m} {body = body} {y = y} {h = g} frame step run) p e =
-    no_frame_at_end x m body (y ++ rest) w g frame (sym (append_assoc x y rest) ∙ sym e)
-stop_pending {limits} w rest k
-    (then {σ = σ} {τ = τ} {x = x} {metadata = m} {body = body} {y = y} {h = g} {es = es} {fs = later} frame step run)
-    (then {τ = τ'} {υ = υ'} {x = x'} {metadata = m'} {body = body'} {y = y'} {h = g'} {es = es'} {fs = later'} frame' step' run') p e =
-    let same = frame_one x x' m m' body body' (y ++ (end_of_stream ++ w)) (y' ++ rest) g g' frame frame'
-    (sym (append_assoc x y (end_of_stream ++ w)) ∙ (e ∙ append_assoc x' y' rest)) in
-    let other : Step limits σ g body es' τ' = subst (λ q. Step limits σ q body es' τ') (sym same.same_head)
-    (subst (λ q. Step limits σ g' q es' τ') (sym same.same_body) step') in
-    let one = step_one step other in
-    stop_pending w rest k run
-    (subst (λ q. Run limits q y' later' υ') (sym one.1) run') p same.same_rest
+stop_pending {limits} w rest k p q pending e = elim (overlap (end_of_stream ++ w) rest p q e) [
+  | inl g ↦ pending_not_end w k (subst (λ z. Pending limits z k) (sym (stops_there g (at_eos w)).rest) pending)
+  | inr g ↦ run_pending w rest k g.run g.rest pending
+]
 
 module _ (d : Decoding) (x w left : List ℕ) (t : Table) (pieces : List (List ℕ)) (report : List ReturnedEvent)
     (h : HasVerdict d [] pieces report left)

@@ -1,55 +1,25 @@
 -- What the calls of a reader say.
-use Rattle.std.proofs.Common.{◌≡◌, ◌≢◌, ◌∙◌, refl, sym, ap, subst, ℕ, ◌-◌, ◌^◌, ◌≤◌, length, List, [], ◌∷◌, Option, None, Some, Ok, Err}
-use Rattle.std.proofs.Common.{Result, arith}
-use Rattle.std.proofs.KnownBytes.{Consumes-nil}
+use Rattle.std.proofs.Common.{◌≡◌, ◌≢◌, ◌∙◌, refl, sym, ap, subst, ℕ, ◌-◌, ◌^◌, ◌≤◌, length, List, [], ◌∷◌, Option, None, Some, Ok}
+use Rattle.std.proofs.Common.{Err, Result, arith}
 use Rattle.ipc_model.specs.declared.fault.Fault.{Fault}
-use Rattle.ipc_model.specs.declared.fault.Fault.TheVariants.{Failed}
 use Rattle.ipc_model.specs.declared.limits.Limits.{Limits}
 use Rattle.ipc_stream_read.specs.declared.end.End.{End}
-use Rattle.ipc_stream_read.specs.declared.stream_phase.StreamPhase.TheVariants.{Reading, Ended, Refused}
-use Rattle.ipc_stream_read.specs.declared.source_reading.NextItem.{NextItem}
-use Rattle.ipc_stream_read.specs.declared.source_reading.NextItem.TheVariants as next
+use Rattle.ipc_stream_read.specs.declared.end.End.TheVariants.{Closed, Mark}
+use Rattle.ipc_stream_read.specs.declared.event.Event.{Event as ReturnedEvent}
+use Rattle.ipc_stream_read.specs.declared.event.Event.TheVariants as report
 use Rattle.ipc_stream_read.specs.Counts.{count_up, messages_in}
-use Rattle.ipc_stream_read.specs.Decoding.{Decoding, Stage, ReportsLastEvent, ReportsOneEvent, taking, over, refused}
+use Rattle.ipc_stream_read.specs.Decoding.{Decoding, Stage, ReportsLastEvent, ReportsOneEvent, Wants, taking, over, refused}
 use Rattle.ipc_stream_read.specs.Found.{ReadRows, batch_rows}
-use Rattle.ipc_stream_read.specs.Reader.{EndsBehind, LeadsTo, NextAnswer, NextCall, OpenFails, Opens, Reader, Stays, WorksWhile}
-use Rattle.ipc_stream_read.specs.Reader.{dictionaries_in}
-use Rattle.ipc_stream_read.specs.Reader.{in_force_of}
+use Rattle.ipc_stream_read.specs.Reader.{EndsBehind, LeadsTo, NextAnswer, NextCall, OpenFails, Opens, Reader, WorksWhile}
+use Rattle.ipc_stream_read.specs.Reader.{KeepsNone, Reading, dictionaries_in, in_force_of, phase_of, schema_in}
 use Rattle.ipc_stream_read.specs.Failures.{FailsAs}
-use Rattle.ipc_stream_read.specs.Reader.{KeepsNone, phase_of, schema_in}
 use Rattle.ipc_stream_read.specs.ReadBatches.{IsReadFrom}
 use Rattle.ipc_stream_read.specs.Reasons.{Ends, NeedsMemory, Reads}
 use Rattle.ipc_stream_read.specs.Stream.{State, Event, schema, batch, Run}
-use Rattle.ipc_stream_read.specs.Taken.{ReadsNext, StopsAt, TakesSchema}
-use Rattle.ipc_stream_read.proofs.Nexts.{run_keeps}
+use Rattle.ipc_stream_read.specs.Taken.{Pulls, StopsAt, Takes, TakesSchema}
+use Rattle.ipc_stream_read.proofs.Nexts.{mark_stops, no_second, run_keeps}
 use Rattle.ipc_stream_read.proofs.Reasons.{run_open}
 use Rattle.ipc_stream_read.proofs.Runs.{told_run}
-
-module _ (r : Reader) (taken_fits : r.taken ≤ 2 ^ 64 - 1) where
-  stays : Stays r r []
-  stays = record { none = refl; in_force = refl; messages = refl }
-
-  -- a reader that refused before answers that it failed, and stays as it is
-  pub next_refused : r.phase ≡ Refused → NextCall r r (Err Failed)
-  next_refused is = record {
-    x = [];
-    bytes = Consumes-nil r.remaining;
-    gives = subst (λ p. NextAnswer r r p [] (Err Failed) p) (sym is) stays;
-    same_schema = refl;
-    same_limits = refl;
-    counted = omega arith;
-  }
-
-  -- a reader that came to its end gives no batch and stays as it is
-  pub next_ended : (end : End) → r.phase ≡ Ended end → NextCall r r (Ok None)
-  next_ended end is = record {
-    x = [];
-    bytes = Consumes-nil r.remaining;
-    gives = subst (λ p. NextAnswer r r p [] (Ok None) p) (sym is) (refl, stays);
-    same_schema = refl;
-    same_limits = refl;
-    counted = omega arith;
-  }
 
 -- what a reader is, by its source, its decoder and the bytes that were counted
 abbrev pub reader_of : Option (List ℕ) → ℕ → ℕ → Decoding → ℕ → Reader
@@ -70,10 +40,10 @@ some_is : (σ : State) → σ ≢ None → σ ≡ Some (record { schema = schema
 some_is None some = absurd (some refl)
 some_is (Some o) some = refl
 
--- what `next` answers of what was read next
-abbrev pub found_of : Result NextItem Fault → Result (Option ReadRows) Fault
-found_of (Ok (next.Batch found pairs)) = Ok (Some (found, pairs))
-found_of (Ok (next.Ended end)) = Ok None
+-- what `next` answers of what was pulled
+abbrev pub found_of : Result (Option ReturnedEvent) Fault → Result (Option ReadRows) Fault
+found_of (Ok (Some (report.Batch found pairs))) = Ok (Some (found, pairs))
+found_of (Ok found) = Ok None
 found_of (Err fault) = Err fault
 
 -- a run of so many messages, and what they tell last
@@ -84,7 +54,7 @@ abbrev CountedLast : Limits → State → List ℕ → Event → State → ℕ �
 CountedLast limits σ x e τ n = (t : ReportsLastEvent limits σ x e τ) × (messages_in t.run ≡ n)
 
 module _ (old new : Option (List ℕ)) (f0 f1 b0 b1 n0 n1 : ℕ) (before after : Decoding) (some : before.state ≢ None)
-    (reading : phase_of before.stage ≡ Reading) where
+    (reading : phase_of before.stage ≡ Reading) (same_limits : after.limits ≡ before.limits) where
   abbrev reader : Reader
   reader = reader_of old f0 b0 before n0
 
@@ -129,9 +99,20 @@ module _ (old new : Option (List ℕ)) (f0 f1 b0 b1 n0 n1 : ℕ) (before after :
       subst (λ p. NextAnswer reader now p x r now.phase) (sym reading)
       (subst (λ s. NextAnswer reader now Reading x r (phase_of s)) (sym is) h)
 
-  -- what is read next is what the reader answers
-  pub next_answers : (r : Result NextItem Fault) → ReadsNext old new n0 n1 before after r → Call (found_of r)
-  next_answers (Ok (next.Batch found pairs)) t =
+  ends_at : (x : List ℕ) (end : End) → Takes old new n0 n1 x → StopsAt before after x new (over end) (Ok end) → Call (Ok None)
+  ends_at x end takes h = record {
+    x = x;
+    bytes = takes.bytes;
+    gives = at_phases x (Ok None) (over end) h.at (behind x (over end) (Ok end) h);
+    same_schema = (run_keeps h.reaches.reached.run some).in_state;
+    same_limits = same_limits;
+    counted = takes.counted;
+  }
+
+  -- what is pulled is what the reader answers
+  pub next_answers : (r : Result (Option ReturnedEvent) Fault) → Pulls old new n0 n1 before after r → Call (found_of r)
+  next_answers (Ok (Some report.Schema)) t = absurd (no_second before after t.x some t.gives)
+  next_answers (Ok (Some (report.Batch found pairs))) t =
       let b = batch (batch_rows (found, pairs)) in
       record {
         x = t.x;
@@ -141,33 +122,28 @@ module _ (old new : Option (List ℕ)) (f0 f1 b0 b1 n0 n1 : ℕ) (before after :
           subst (λ σ. IsReadFrom before.limits σ t.x found) (some_is before.state some) t.gives.1,
         );
         same_schema = (run_keeps (told_run before.state after.state t.x b t.gives.0.last) some).in_state;
-        same_limits = t.same_limits;
+        same_limits = same_limits;
         counted = t.takes.counted;
       }
-  next_answers (Ok (next.Ended end)) t = record {
-    x = t.x;
-    bytes = t.takes.bytes;
-    gives = at_phases t.x (Ok None) (over end) t.gives.at (behind t.x (over end) (Ok end) t.gives);
-    same_schema = (run_keeps t.gives.reaches.reached.run some).in_state;
-    same_limits = t.same_limits;
-    counted = t.takes.counted;
-  }
+  next_answers (Ok (Some report.End)) t = ends_at t.x Mark t.takes (mark_stops before after t.x new t.gives)
+  next_answers (Ok None) t = ends_at t.x Closed t.takes t.gives
   next_answers (Err e) t = record {
     x = t.x;
     bytes = t.takes.bytes;
     gives = at_phases t.x (Err e) refused t.gives.at (behind t.x refused (Err e) t.gives);
     same_schema = (run_keeps t.gives.reaches.reached.run some).in_state;
-    same_limits = t.same_limits;
+    same_limits = same_limits;
     counted = t.takes.counted;
   }
 
 -- the same of a reader that is so
 pub seen_answers : (old new : Option (List ℕ)) (f0 f1 b0 b1 n0 n1 : ℕ) (before after : Decoding) (some : before.state ≢ None)
-    (reading : phase_of before.stage ≡ Reading) (o : Reader) → reader_of old f0 b0 before n0 ≡ o → (r : Result NextItem Fault)
-    → ReadsNext old new n0 n1 before after r → NextCall o (reader_of new f1 b1 after n1) (found_of r)
-seen_answers old new f0 f1 b0 b1 n0 n1 before after some reading o seen r t =
-    subst (λ q. NextCall q (reader_of new f1 b1 after n1) (found_of r)) seen
-    (next_answers old new f0 f1 b0 b1 n0 n1 before after some reading r t)
+    (reading : phase_of before.stage ≡ Reading) (same_limits : after.limits ≡ before.limits) (o : Reader)
+    → reader_of old f0 b0 before n0 ≡ o → (q r : Result (Option ReturnedEvent) Fault) → q ≡ r
+    → Pulls old new n0 n1 before after q → NextCall o (reader_of new f1 b1 after n1) (found_of r)
+seen_answers old new f0 f1 b0 b1 n0 n1 before after some reading same_limits o seen q r is t =
+    subst (λ p. NextCall p (reader_of new f1 b1 after n1) (found_of r)) seen
+    (next_answers old new f0 f1 b0 b1 n0 n1 before after some reading same_limits r (subst (Pulls old new n0 n1 before after) is t))
 
 -- what a reader keeps between two calls
 pub record Ready (failures taken : ℕ) (d : Decoding) : Type 0 where
@@ -188,18 +164,26 @@ module _ (old new : Option (List ℕ)) (f0 f1 n0 n1 : ℕ) (before after : Decod
     taken_counted = fits;
   }
 
-  -- it does so behind what was read next
-  pub ready : (r : Result NextItem Fault) → ReadsNext old new n0 n1 before after r → FailsAs f0 f1 r → Ready f1 n1 after
-  ready (Ok (next.Batch found pairs)) t fails = record {
+  -- it does so behind what was pulled
+  pub ready : (r : Result (Option ReturnedEvent) Fault) → Pulls old new n0 n1 before after r → FailsAs f0 f1 r → Ready f1 n1 after
+  ready (Ok (Some report.Schema)) t fails = absurd (no_second before after t.x some t.gives)
+  ready (Ok (Some (report.Batch found pairs))) t fails = record {
     is_open = run_open (told_run before.state after.state t.x (batch (batch_rows (found, pairs))) t.gives.0.last) some;
     between = λ z is. let same : taking [] ≡ taking z = sym t.gives.0.stage ∙ is in let none : [] ≡ z = cc in sym none;
     works = λ z is. fails.1;
     counted = omega (arith, t.gives.0.counted);
     taken_counted = omega (arith, t.takes.counted);
   }
-  ready (Ok (next.Ended end)) t fails =
-      stopped t.x (over end) (Ok end) t.gives (λ is. absurd (cc)) (omega (arith, t.takes.counted))
+  ready (Ok (Some report.End)) t fails =
+      stopped t.x (over Mark) (Ok Mark) (mark_stops before after t.x new t.gives) (λ is. absurd (cc)) (omega (arith, t.takes.counted))
+  ready (Ok None) t fails = stopped t.x (over Closed) (Ok Closed) t.gives (λ is. absurd (cc)) (omega (arith, t.takes.counted))
   ready (Err e) t fails = stopped t.x refused (Err e) t.gives (λ is. absurd (cc)) (omega (arith, t.takes.counted))
+
+-- where some are wanted, it reads
+pub wants_some : (limits : Limits) (s : Stage) (k : ℕ) → Wants limits s k → (k ≡ 0 → ⊥) → phase_of s ≡ Reading
+wants_some limits (taking z) k w some = refl
+wants_some limits (over end) k w some = absurd (some w)
+wants_some limits refused k w some = absurd (some w)
 
 -- while a reader reads, its source works
 pub reading_works : (stage : Stage) (failures : ℕ) → phase_of stage ≡ Reading → WorksWhile stage failures → failures ≡ 0

@@ -31,7 +31,7 @@ use Rattle.ipc_stream_read.specs.Reasons.{no_values}
 use Rattle.ipc_stream_read.specs.Reasons.{no_rows}
 use Rattle.ipc_stream_read.proofs.Dictionaries.{names_none}
 use Rattle.ipc_stream_read.specs.Reasons.{IsOutside, IsNoSchema}
-use Rattle.ipc_stream_read.proofs.OneReading.{IsStop, frame_stop, step_one}
+use Rattle.ipc_stream_read.proofs.OneReading.{IsStop, frame_stop, overlap, stops_there}
 use Rattle.ipc_model.specs.declared.limits.Limits.{Limits}
 
 -- ---- a state after a step has a schema
@@ -131,7 +131,7 @@ values_refused {limits} o id d columns body e b found r =
     none_refused e [] columns d body b.1 r (subst (λ c. Rows limits [] c d body b.1) same b.3)
 
 -- what two lists have together where that is nothing
-pub both_none : (es fs : List Event) → es ++ fs ≡ [] → (es ≡ []) × (fs ≡ [])
+both_none : (es fs : List Event) → es ++ fs ≡ [] → (es ≡ []) × (fs ≡ [])
 both_none [] fs h = (refl, h)
 both_none (e ∷ es) fs h = absurd (cc)
 
@@ -183,43 +183,33 @@ module _ {limits : Limits} (σ τ : State) (x m body u z b : List ℕ) (g : Head
   message_breaks e (truncated k is p short none) = absurd (message_pending k none p)
   message_breaks e (aside why wanted) = why
 
+-- where a run goes on, reading does not break off, unless memory ran out or the source failed
+goes_on : {limits : Limits} → {σ τ : State} {x : List ℕ} {es : List Event} (u z b : List ℕ) (e : Fault) → Run limits σ x es τ
+    → EndsReading limits σ z (Some b) e → z ++ b ≡ x ++ u → ((σ ≡ τ) × (es ≡ []) × (z ++ b ≡ u)) ⊎ IsOutside e
+goes_on u z b e done r eq = inl (refl, refl, eq)
+goes_on u z b e (more {σ = σ} {τ = τ} {x = x} {metadata = m} {body = body} {y = y} {h = g} {es = es} frame step rest) r eq =
+    inr (message_breaks σ τ x m body (y ++ u) z b g es frame step (sym (append_assoc x y u) ∙ sym eq) e r)
+
 -- two readings of the same bytes: one to where a run may stop, the other to where it breaks off
 pub run_breaks : {limits : Limits} → {σ τ υ : State} {x y : List ℕ} {es fs : List Event} (a z b : List ℕ) (e : Fault)
     → Run limits σ x es τ → Run limits σ y fs υ → τ ≢ None → IsStop a → EndsReading limits υ z (Some b) e → x ++ a ≡ y ++ (z ++ b)
     → IsOutside e
-run_breaks {limits} {σ = σ} a z b e done done o s r eq = stop_breaks σ z b e o (subst IsStop eq s) r
-run_breaks {limits} a z b e done (more {x = x} {metadata = m} {body = body} {y = y} {h = g} frame step rest) o s r eq =
-    absurd (frame_stop x m body (y ++ (z ++ b)) a g frame (sym (append_assoc x y (z ++ b)) ∙ sym eq) s)
-run_breaks {limits} {σ = σ} a z b e (more {τ = τ} {x = x} {metadata = m} {body = body} {y = y} {h = g} {es = es} {fs =
-    gs} frame step rest) done
-    o s r eq =
-    message_breaks σ τ x m body (y ++ a) z b g es frame step (sym (append_assoc x y a) ∙ eq) e r
-run_breaks {limits} a z b e (more {σ = σ} {τ = τ} {υ = υ} {x = x} {metadata = m} {body = body} {y = y} {h = g} {es = es}
-    {fs = fs} frame step rest) (more {τ = τ'} {υ = υ'} {x = x'} {metadata = m'} {body = body'} {y = y'} {h = g'} {es = es'}
-    {fs = fs'} frame' step' rest') o s r eq =
-    let same = frame_one x x' m m' body body' (y ++ a) (y' ++ (z ++ b)) g g' frame frame'
-    (sym (append_assoc x y a) ∙ (eq ∙ append_assoc x' y' (z ++ b))) in
-    let other : Step limits σ g body es' τ' = subst (λ q. Step limits σ q body es' τ') (sym same.same_head)
-    (subst (λ q. Step limits σ g' q es' τ') (sym same.same_body) step') in
-    let one = step_one step other in
-    run_breaks a z b e rest (subst (λ q. Run limits q y' fs' υ') (sym one.1) rest') o s r same.same_rest
+run_breaks {limits} {τ = τ} {υ = υ} a z b e p q o s r eq =
+    let stopped : τ ≡ υ → a ≡ z ++ b → IsOutside e = λ state rest.
+    stop_breaks υ z b e (subst (λ x. x ≢ None) state o) (subst IsStop rest s) r in
+    elim (overlap a (z ++ b) p q eq) [
+      | inl g ↦ let same = stops_there g s in stopped same.state same.rest
+      | inr g ↦ elim (goes_on a z b e g.run r g.rest) [ inl same ↦ stopped (sym same.0) (sym same.2) | inr out ↦ out ]
+    ]
 
 -- two readings of the same bytes: one tells something, and the other tells nothing and breaks off
 pub told_breaks : {limits : Limits} → {σ τ υ : State} {x y : List ℕ} {es fs : List Event} (u z b : List ℕ) (e : Fault)
     → Run limits σ x es τ → es ≢ [] → Run limits σ y fs υ → fs ≡ [] → EndsReading limits υ z (Some b) e → x ++ u ≡ y ++ (z ++ b)
     → IsOutside e
-told_breaks u z b e done some q none r eq = absurd (some refl)
-told_breaks {limits} {σ = σ} u z b e (more {τ = τ} {x = x} {metadata = m} {body = body} {y = y} {h = g} {es = es} {fs =
-    gs} frame step rest) some done none r eq =
-    message_breaks σ τ x m body (y ++ u) z b g es frame step (sym (append_assoc x y u) ∙ eq) e r
-told_breaks {limits} u z b e (more {σ = σ} {τ = τ} {υ = υ} {x = x} {metadata = m} {body = body} {y = y} {h = g} {es = es}
-    {fs = fs} frame step rest) some (more {τ = τ'} {υ = υ'} {x = x'} {metadata = m'} {body = body'} {y = y'} {h = g'} {es = es'}
-    {fs = fs'} frame' step' rest') none r eq =
-    let same = frame_one x x' m m' body body' (y ++ u) (y' ++ (z ++ b)) g g' frame frame'
-    (sym (append_assoc x y u) ∙ (eq ∙ append_assoc x' y' (z ++ b))) in
-    let other : Step limits σ g body es' τ' = subst (λ q. Step limits σ q body es' τ') (sym same.same_head)
-    (subst (λ q. Step limits σ g' q es' τ') (sym same.same_body) step') in
-    let one = step_one step other in
-    let parts = both_none es' fs' none in
-    told_breaks u z b e rest (λ n. some (ap (λ l. l ++ fs) (one.0 ∙ parts.0) ∙ n))
-    (subst (λ q. Run limits q y' fs' υ') (sym one.1) rest') parts.1 r same.same_rest
+told_breaks {es = es} {fs = fs} u z b e p some q none r eq = elim (overlap u (z ++ b) p q eq) [
+  | inl g ↦ absurd (some (both_none es g.events (sym g.told ∙ none)).0)
+  | inr g ↦ elim (goes_on u z b e g.run r g.rest) [
+    | inl same ↦ absurd (some (g.told ∙ (ap (λ l. l ++ g.events) none ∙ same.1)))
+    | inr out ↦ out
+  ]
+]

@@ -9,16 +9,15 @@ use Rattle.ipc_model.specs.declared.limits.Limits.{Limits}
 use Rattle.ipc_model.specs.declared.table.BatchRows.{BatchRows}
 use Rattle.ipc_stream_read.specs.declared.end.End.{End}
 use Rattle.ipc_stream_read.specs.declared.end.End.TheVariants.{Closed}
-use Rattle.ipc_stream_read.specs.declared.stream_phase.StreamPhase.{StreamPhase}
-use Rattle.ipc_stream_read.specs.declared.stream_phase.StreamPhase.TheVariants.{Reading, Ended, Refused}
 use Rattle.ipc_stream_read.specs.Counts.{count_up}
 use Rattle.ipc_stream_read.specs.Decoding.{ReportsLastEvent}
 use Rattle.ipc_stream_read.specs.Found.{ReadRows, batch_rows}
-use Rattle.ipc_stream_read.specs.Reader.{EndsBehind, LeadsTo, NextAnswer, NextCall, OpenFails, Opens, Reader, in_force_of}
+use Rattle.ipc_stream_read.specs.Reader.{EndsBehind, NextCall, OpenFails, Opens, Reader, Reading, in_force_of}
 use Rattle.ipc_stream_read.specs.Reasons.{Reads}
 use Rattle.ipc_stream_read.specs.Stream.{batch}
 use Rattle.ipc_stream_read.specs.Progress.{AreReports, opened, more, unopened, ReportsAll}
 use Rattle.ipc_stream_read.specs.Progress.{ReportsBefore, ReportsSome, ReportsTo, all_rows, report_of}
+use Rattle.ipc_stream_read.proofs.Calls.{read_gives}
 
 -- batches of a source were read and reported: so many, with so many rows
 pub record Progressed (limits : Limits) (before : Option (List ℕ)) (batches rows : ℕ) (now : Reader)
@@ -47,32 +46,6 @@ told_then (Some l) (Some m) (Some n) xs ys p q = q ∙ (ap (λ k. k ++ ys) p ∙
 all_rows_last : (batches : List BatchRows) (last : BatchRows) → all_rows (batches ++ last ∷ []) ≡ all_rows batches + length last.rows
 all_rows_last [] last = omega arith
 all_rows_last (b ∷ bs) last = let more = all_rows_last bs last in omega (arith, more)
-
--- what a call gave where the reader was reading
-batch_given : (now new : Reader) (p q : StreamPhase) (x : List ℕ) (found : ReadRows) → p ≡ Reading
-    → NextAnswer now new p x (Ok (Some found)) q
-    → LeadsTo now new x (batch (batch_rows found))
-batch_given now new Reading Reading x found is h = h.0
-batch_given now new Reading (Ended e) x found is h = absurd h
-batch_given now new Reading Refused x found is h = absurd h
-batch_given now new (Ended e) q x found is h = absurd (cc)
-batch_given now new Refused q x found is h = absurd (cc)
-
-end_given : (now new : Reader) (p q : StreamPhase) (x : List ℕ) → p ≡ Reading → NextAnswer now new p x (Ok None) q
-    → (e : End) × EndsBehind now new x (Ok e)
-end_given now new Reading Reading x is h = absurd h
-end_given now new Reading (Ended e) x is h = (e, h)
-end_given now new Reading Refused x is h = absurd h
-end_given now new (Ended e) q x is h = absurd (cc)
-end_given now new Refused q x is h = absurd (cc)
-
-fault_given : (now new : Reader) (p q : StreamPhase) (x : List ℕ) (f : Fault) → p ≡ Reading → NextAnswer now new p x (Err f) q
-    → EndsBehind now new x (Err f)
-fault_given now new Reading Reading x f is h = absurd h
-fault_given now new Reading (Ended e) x f is h = absurd h
-fault_given now new Reading Refused x f is h = h
-fault_given now new (Ended e) q x f is h = absurd (cc)
-fault_given now new Refused q x f is h = absurd (cc)
 
 -- before the first batch
 pub progressed_none : {limits : Limits} → (before : Option (List ℕ)) (r : Reader) (a : Option (List Report)) → Opens limits before r
@@ -116,7 +89,7 @@ module _ {limits : Limits} (before : Option (List ℕ)) (batches rows : ℕ) (no
         → ReportsLastEvent limits (Some (in_force_of now)) t.x (batch (batch_rows found)) (Some (in_force_of new))
     last_given found t = subst (λ l. ReportsLastEvent l (Some (in_force_of now)) t.x (batch (batch_rows found)) (Some (in_force_of new)))
         p.limits_are
-        (batch_given now new now.phase new.phase t.x found reading t.gives).last
+        (read_gives now new (Ok (Some found)) t reading).last
 
     -- one batch more was read and reported
     pub progressed_more : (found : ReadRows) (m n : ℕ) (c : Option (List Report)) → NextCall now new (Ok (Some found)) → m
@@ -180,11 +153,11 @@ module _ {limits : Limits} (before : Option (List ℕ)) (batches rows : ℕ) (no
 
     pub progressed_end : NextCall now new (Ok None) → ReportsAll limits before new.remaining a b
     progressed_end t =
-        let h = end_given now new now.phase new.phase t.x reading t.gives in
-        (h.0, ended_all t.x (Ok h.0) t.bytes h.1)
+        let h = read_gives now new (Ok None) t reading in
+        (h.0, ended_all t.x (Ok h.0) t.bytes h.2)
 
     pub progressed_break : (f : Fault) → NextCall now new (Err f) → ReportsTo limits before new.remaining a b (Err f)
-    progressed_break f t = ended_all t.x (Err f) t.bytes (fault_given now new now.phase new.phase t.x f reading t.gives)
+    progressed_break f t = ended_all t.x (Err f) t.bytes (read_gives now new (Err f) t reading)
 
 -- all reports are at least all but the last
 pub some_of_to : {limits : Limits} → (old new : Option (List ℕ)) (a b : Option (List Report)) (answer : Result End Fault)

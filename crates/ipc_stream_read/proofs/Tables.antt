@@ -12,14 +12,13 @@ use Rattle.ipc_model.specs.declared.table.BatchRows.{BatchRows}
 use Rattle.ipc_column.specs.Contents.{Contents}
 use Rattle.ipc_frame.proofs.Sized.{frame_sized}
 use Rattle.ipc_stream_read.specs.declared.end.End.{End}
-use Rattle.ipc_stream_read.specs.declared.source_reading.NextItem.{NextItem}
-use Rattle.ipc_stream_read.specs.declared.source_reading.NextItem.TheVariants as next
+use Rattle.ipc_stream_read.specs.declared.event.Event.TheVariants as report
 use Rattle.ipc_stream_read.specs.Decoding.{Decoding, ReportsLastEvent, Stage, schema_of, taking, over, refused}
 use Rattle.ipc_stream_read.specs.Found.{batch_rows}
 use Rattle.ipc_stream_read.specs.Stream.{State, Event, schema, batch, Run, done, initial_state}
 use Rattle.ipc_stream_read.specs.Reasons as reasons
 use Rattle.ipc_stream_read.specs.Reasons.{Breaks, Reads}
-use Rattle.ipc_stream_read.specs.Taken.{ReadsNext, RunsOut, StopsAt, TakesBatches, TakesSchema, TakesTable}
+use Rattle.ipc_stream_read.specs.Taken.{Pulls, RunsOut, StopsAt, Takes, TakesBatches, TakesSchema, TakesTable}
 use Rattle.ipc_stream_read.proofs.Nexts.{run_keeps, stops_reads}
 use Rattle.ipc_stream_read.proofs.Prefixes.{undecided_frame}
 use Rattle.ipc_stream_read.proofs.Reasons.{run_open}
@@ -75,13 +74,8 @@ batches_none source failed taken decoder batches some between counted within non
       same = refl;
     })
 
--- what was read next is what an equal answer says
-pub next_at : (old new : Option (List ℕ)) (n0 n1 : ℕ) (before after : Decoding) (a b : Result NextItem Fault) → a ≡ b
-    → ReadsNext old new n0 n1 before after a → ReadsNext old new n0 n1 before after b
-next_at old new n0 n1 before after a b is t = subst (ReadsNext old new n0 n1 before after) is t
-
 module _ (old now new : Option (List ℕ)) (f0 f1 n1 n2 : ℕ) (before decoder after : Decoding) (batches : List BatchRows)
-    (b : Batches old now f0 f1 n1 before decoder batches) where
+    (b : Batches old now f0 f1 n1 before decoder batches) (same_limits : after.limits ≡ decoder.limits) where
   -- reading that stops behind some batches
   reads_here : (stage : Stage) (end : Result End Fault) (x : List ℕ) → StopsAt decoder after x new stage end
       → Reads before.limits before.state (b.x ++ x) new (map batch batches ++ []) end
@@ -97,71 +91,69 @@ module _ (old now new : Option (List ℕ)) (f0 f1 n1 n2 : ℕ) (before decoder a
       (subst (λ l. Breaks l decoder.state x new [] e) b.same_limits h)
 
   -- where a fault is read behind some batches, it is answered
-  pub batches_broken : (e : Fault) → ReadsNext now new n1 n2 decoder after (Err e) → TakesBatches old new before (Err e)
+  pub batches_broken : (e : Fault) → Pulls now new n1 n2 decoder after (Err e) → TakesBatches old new before (Err e)
   batches_broken e t = record {
     x = b.x ++ t.x;
     bytes = Consumes-trans old now new b.x t.x b.bytes t.takes.bytes;
     gives = (map batch batches ++ [], breaks_here e t.x (stops_reads decoder after t.x new refused (Err e) t.gives, t.gives.memory));
   }
 
-  -- where the end is read behind some batches, they are all
-  pub batches_ended : (end : End) → ReadsNext now new n1 n2 decoder after (Ok (next.Ended end))
-      → TakesBatches old new before (Ok (batches, end))
-  batches_ended end t = record {
-    x = b.x ++ t.x;
-    bytes = Consumes-trans old now new b.x t.x b.bytes t.takes.bytes;
-    gives = subst (λ es. Reads before.limits before.state (b.x ++ t.x) new es (Ok end)) (append-nil (map batch batches))
-        (reads_here (over end) (Ok end) t.x t.gives);
-  }
+  -- where the end is read behind some batches, they are all, and the schema stays in force
+  module _ (end : End) (x : List ℕ) (takes : Takes now new n1 n2 x) (t : StopsAt decoder after x new (over end) (Ok end)) where
+    pub batches_ended : TakesBatches old new before (Ok (batches, end))
+    batches_ended = record {
+      x = b.x ++ x;
+      bytes = Consumes-trans old now new b.x x b.bytes takes.bytes;
+      gives = subst (λ es. Reads before.limits before.state (b.x ++ x) new es (Ok end)) (append-nil (map batch batches))
+          (reads_here (over end) (Ok end) x t);
+    }
 
-  -- the end leaves the schema in force
-  pub ended_stays : (end : End) → ReadsNext now new n1 n2 decoder after (Ok (next.Ended end))
-      → schema_of after.state ≡ schema_of before.state
-  ended_stays end t = (run_keeps t.gives.reaches.reached.run b.still_open).of_state ∙ b.same_schema
+    pub ended_stays : schema_of after.state ≡ schema_of before.state
+    ended_stays = (run_keeps t.reaches.reached.run b.still_open).of_state ∙ b.same_schema
 
-  module _ (found : Contents) (pairs : List (List ℕ × List ℕ)) (t : ReadsNext now new n1 n2 decoder after (Ok (next.Batch found pairs)))
-    where
-      -- the batches so far, and one more
-      abbrev all : List BatchRows
-      all = batches ++ (batch_rows (found, pairs) ∷ [])
+  module _ (found : Contents) (pairs : List (List ℕ × List ℕ))
+      (t : Pulls now new n1 n2 decoder after (Ok (Some (report.Batch found pairs)))) where
+    -- the batches so far, and one more
+    abbrev all : List BatchRows
+    all = batches ++ (batch_rows (found, pairs) ∷ [])
 
-      run_now : Run decoder.limits decoder.state t.x (batch (batch_rows (found, pairs)) ∷ []) after.state
-      run_now = told_run decoder.state after.state t.x (batch (batch_rows (found, pairs))) t.gives.0.last
+    run_now : Run decoder.limits decoder.state t.x (batch (batch_rows (found, pairs)) ∷ []) after.state
+    run_now = told_run decoder.state after.state t.x (batch (batch_rows (found, pairs))) t.gives.0.last
 
-      run_all : Run before.limits before.state (b.x ++ t.x) (map batch all) after.state
-      run_all =
-          subst (λ es. Run before.limits before.state (b.x ++ t.x) es after.state)
-          (sym (map-append batch batches (batch_rows (found, pairs) ∷ [])))
-          (run_then before.state decoder.state after.state b.x t.x (map batch batches) (batch (batch_rows (found, pairs)) ∷ []) b.run
-          (subst (λ l. Run l decoder.state t.x (batch (batch_rows (found, pairs)) ∷ []) after.state) b.same_limits run_now))
+    run_all : Run before.limits before.state (b.x ++ t.x) (map batch all) after.state
+    run_all =
+        subst (λ es. Run before.limits before.state (b.x ++ t.x) es after.state)
+        (sym (map-append batch batches (batch_rows (found, pairs) ∷ [])))
+        (run_then before.state decoder.state after.state b.x t.x (map batch batches) (batch (batch_rows (found, pairs)) ∷ []) b.run
+        (subst (λ l. Run l decoder.state t.x (batch (batch_rows (found, pairs)) ∷ []) after.state) b.same_limits run_now))
 
-      -- memory ran out for the rows of a batch that was read
-      pub batches_full : TakesBatches old new before (Err OutOfMemory)
-      batches_full = record {
-        x = b.x ++ t.x;
-        bytes = Consumes-trans old now new b.x t.x b.bytes t.takes.bytes;
-        gives = (
-          map batch batches ++ [],
-          breaks_here OutOfMemory t.x
-              (no_memory decoder.state after.state t.x new (batch (batch_rows (found, pairs))) t.gives.0.last),
-        );
-      }
+    -- memory ran out for the rows of a batch that was read
+    pub batches_full : TakesBatches old new before (Err OutOfMemory)
+    batches_full = record {
+      x = b.x ++ t.x;
+      bytes = Consumes-trans old now new b.x t.x b.bytes t.takes.bytes;
+      gives = (
+        map batch batches ++ [],
+        breaks_here OutOfMemory t.x
+            (no_memory decoder.state after.state t.x new (batch (batch_rows (found, pairs))) t.gives.0.last),
+      );
+    }
 
-      -- where one batch more is read, the batches that were read are those from before and it
-      pub batches_more : (f2 : ℕ) (kept : List BatchRows) → (f1 ≡ 0) × (f2 ≡ 0) → kept ≡ all → Batches old new f0 f2 n2 before after kept
-      batches_more f2 kept works is = subst (Batches old new f0 f2 n2 before after) (sym is) (record {
-        was_open = b.was_open;
-        still_open = run_open run_now b.still_open;
-        same_limits = t.same_limits ∙ b.same_limits;
-        same_schema = (run_keeps run_now b.still_open).of_state ∙ b.same_schema;
-        between = t.gives.0.stage;
-        counted = omega (arith, t.gives.0.counted);
-        within = omega (arith, t.takes.counted);
-        x = b.x ++ t.x;
-        bytes = Consumes-trans old now new b.x t.x b.bytes t.takes.bytes;
-        run = run_all;
-        same = works.1 ∙ (sym works.0 ∙ b.same);
-      })
+    -- where one batch more is read, the batches that were read are those from before and it
+    pub batches_more : (f2 : ℕ) (kept : List BatchRows) → (f1 ≡ 0) × (f2 ≡ 0) → kept ≡ all → Batches old new f0 f2 n2 before after kept
+    batches_more f2 kept works is = subst (Batches old new f0 f2 n2 before after) (sym is) (record {
+      was_open = b.was_open;
+      still_open = run_open run_now b.still_open;
+      same_limits = same_limits ∙ b.same_limits;
+      same_schema = (run_keeps run_now b.still_open).of_state ∙ b.same_schema;
+      between = t.gives.0.stage;
+      counted = omega (arith, t.gives.0.counted);
+      within = omega (arith, t.takes.counted);
+      x = b.x ++ t.x;
+      bytes = Consumes-trans old now new b.x t.x b.bytes t.takes.bytes;
+      run = run_all;
+      same = works.1 ∙ (sym works.0 ∙ b.same);
+    })
 
 -- ---- the whole table
 

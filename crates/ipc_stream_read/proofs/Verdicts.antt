@@ -11,14 +11,14 @@ use Rattle.ipc_meta.proofs.Empty.{no_metadata}
 use Rattle.ipc_frame.specs.Frames.{end_of_stream, Frame, Pending}
 use Rattle.ipc_frame.specs.Sees.{RefusesStart, StatesNoHead}
 use Rattle.ipc_frame.proofs.Undecided.{pending_one, pending_refused, pending_message, pending_frame}
-use Rattle.ipc_frame.proofs.OneFrame.{frame_one, no_frame_at_end}
+use Rattle.ipc_frame.proofs.OneFrame.{no_frame_at_end}
 use Rattle.ipc_frame.proofs.Decided.{start_not_end, no_head_not_end, pending_not_end, pending_not_frame, no_head_not_frame}
 use Rattle.ipc_stream_read.specs.Stream.{State, Event, Step, Run, done, more as then}
 use Rattle.ipc_stream_read.specs.Reasons.{Refuses, early, no_schema, second_schema, dictionary, no_values, no_rows}
 use Rattle.ipc_stream_read.specs.Verdicts.{Decision, at_mark, at_size, at_metadata, at_body, FallsAt}
 use Rattle.ipc_stream_read.specs.Verdicts.{Out, Decides, Reached, Verdict, SameVerdict, OneVerdict, AnyCut}
 use Rattle.ipc_stream_read.specs.Verdicts as out
-use Rattle.ipc_stream_read.proofs.OneReading.{step_one}
+use Rattle.ipc_stream_read.proofs.OneReading.{overlap}
 use Rattle.ipc_stream_read.proofs.Reasons.{message_refused}
 use Rattle.ipc_stream_read.specs.Counts.{messages_in}
 use Rattle.ipc_stream_read.proofs.Runs.{messages_then, run_then}
@@ -107,40 +107,35 @@ record SameReach (es fs : List Event) (o p : Out) (τ υ : State) (z w : List �
   same_state : τ ≡ υ
   same_rest : z ≡ w
 
+-- nothing is decided where a run goes on
+goes_on : {limits : Limits} → {σ τ : State} {x : List ℕ} {es : List Event} (z w : List ℕ) (o p : Out) → Run limits σ x es τ
+    → Decides limits σ z o → Decides limits τ w p → z ≡ x ++ w → SameReach [] es o p σ τ z w
+goes_on {limits} {σ = σ} z w o p done a b e = record {
+  same_events = refl;
+  same_out = decides_one limits σ z o p a (subst (λ x. Decides limits σ x p) (sym e) b);
+  same_state = refl;
+  same_rest = e;
+}
+goes_on z w o p (then {σ = σ} {τ = τ} {x = x} {metadata = m} {body = body} {y = y} {h = g} {es = es} frame step rest) a b e =
+    absurd (decides_step σ τ x m body (y ++ w) z g es o frame step (sym (append_assoc x y w) ∙ sym e) a)
+
 reach_one : {limits : Limits} → {σ τ υ : State} {x y : List ℕ} {es fs : List Event} (z w : List ℕ) (o p : Out)
     → Run limits σ x es τ → Run limits σ y fs υ → Decides limits τ z o → Decides limits υ w p → x ++ z ≡ y ++ w
     → SameReach es fs o p τ υ z w
-reach_one {limits} {σ = σ} z w o p done done a b e =
-    record {
-      same_events = refl;
-      same_out = decides_one limits σ z o p a (subst (λ x. Decides limits σ x p) (sym e) b);
-      same_state = refl;
-      same_rest = e;
-    }
-reach_one z w o p done
-    (then {σ = σ} {τ = τ} {x = x} {metadata = m} {body = body} {y = y} {h = g} {es = es} {fs = fs} frame step rest) a b e =
-    absurd (decides_step σ τ x m body (y ++ w) z g es o frame step
-    (sym (append_assoc x y w) ∙ sym e) a)
-reach_one z w o p
-    (then {σ = σ} {τ = τ} {x = x} {metadata = m} {body = body} {y = y} {h = g} {es = es} {fs = fs} frame step rest) done a b e =
-    absurd (decides_step σ τ x m body (y ++ z) w g es p frame step
-    (sym (append_assoc x y z) ∙ e) b)
-reach_one {limits} z w o p
-    (then {σ = σ} {τ = τ} {υ = υ} {x = x} {metadata = m} {body = body} {y = y} {h = g} {es = es} {fs = fs} frame step rest)
-    (then {τ = τ'} {υ = υ'} {x = x'} {metadata = m'} {body = body'} {y = y'} {h = g'} {es = es'} {fs = fs'} frame' step' rest') a b e =
-    let same = frame_one x x' m m' body body' (y ++ z) (y' ++ w) g g' frame frame' (sym (append_assoc x y z) ∙ (e ∙ append_assoc x' y' w))
-    in
-    let other : Step limits σ g body es' τ' = subst (λ q. Step limits σ q body es' τ') (sym same.same_head)
-    (subst (λ q. Step limits σ g' q es' τ') (sym same.same_body) step') in
-    let one = step_one step other in
-    let tail = reach_one z w o p rest
-    (subst (λ q. Run limits q y' fs' υ') (sym one.1) rest') a b same.same_rest in
-    record {
-      same_events = ap (λ l. l ++ fs) one.0 ∙ ap (λ l. es' ++ l) tail.same_events;
-      same_out = tail.same_out;
-      same_state = tail.same_state;
-      same_rest = tail.same_rest;
-    }
+reach_one {es = es} {fs = fs} z w o p r q a b e = elim (overlap z w r q e) [
+  | inl g ↦ let same = goes_on z w o p g.run a b g.rest in record {
+    same_events = sym (g.told ∙ (ap (λ l. es ++ l) (sym same.same_events) ∙ append-nil es));
+    same_out = same.same_out;
+    same_state = same.same_state;
+    same_rest = same.same_rest;
+  }
+  | inr g ↦ let same = goes_on w z p o g.run b a g.rest in record {
+    same_events = g.told ∙ (ap (λ l. fs ++ l) (sym same.same_events) ∙ append-nil fs);
+    same_out = sym same.same_out;
+    same_state = sym same.same_state;
+    same_rest = sym same.same_rest;
+  }
+]
 
 -- ---- the laws
 

@@ -6,13 +6,12 @@ pub mod Counts
 pub mod Reasons
 pub mod Verdicts
 pub mod Decoding
-pub mod MessageFeeds
 pub mod PieceFeeds
 pub mod Alone
 pub mod Scopes
+pub mod Reader
 pub mod StreamStates
 pub mod Taken
-pub mod Reader
 pub mod Laws
 pub mod Ends
 pub mod Progress

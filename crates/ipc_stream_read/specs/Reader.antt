@@ -9,9 +9,6 @@ use Rattle.ipc_model.specs.declared.table.BatchRows.{BatchRows}
 use Rattle.ipc_frame.specs.Frames.{end_of_stream}
 use Rattle.ipc_stream_read.specs.declared.end.End.{End}
 use Rattle.ipc_stream_read.specs.declared.end.End.TheVariants.{Mark, Closed}
-use Rattle.ipc_stream_read.specs.declared.stream_phase.StreamPhase.{StreamPhase}
-use Rattle.ipc_stream_read.specs.declared.stream_phase.StreamPhase.TheVariants.{Reading, Ended}
-use Rattle.ipc_stream_read.specs.declared.stream_phase.StreamPhase.TheVariants.{Refused}
 use Rattle.ipc_stream_read.specs.Decoding.{Stage, taking, over, refused, ReportsLastEvent}
 use Rattle.ipc_stream_read.specs.Stream.{DictionaryInForce, InForce, State, Event, schema, batch}
 use Rattle.ipc_stream_read.specs.Stream.{Run}
@@ -20,6 +17,13 @@ use Rattle.ipc_stream_read.specs.ReadBatches.{IsReadFrom}
 use Rattle.ipc_stream_read.specs.Reasons.{Ends, NeedsMemory, Reads}
 use Rattle.ipc_stream_read.specs.Counts.{count_up, messages_in}
 use Rattle.ipc_model.specs.declared.limits.Limits.{Limits}
+
+-- whether messages still come to a reader: the stream is being read, it ended in this way, or it
+-- was refused
+pub data StreamPhase : Type 0 where
+  Reading : StreamPhase
+  Ended : End → StreamPhase
+  Refused : StreamPhase
 
 -- the value of a reader: the bytes left in its source, the count of the source's failures, and the
 -- most bytes that the source can still give. Its limits, the schema and the dictionaries in force,

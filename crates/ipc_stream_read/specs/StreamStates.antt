@@ -21,18 +21,18 @@ use Rattle.ipc_column.specs.Contents.{Contents}
 use Rattle.ipc_column.specs.Rows.{Rows, RefusesParts}
 use Rattle.ipc_dict_read.specs.ValuesColumns.{dictionary_columns, columns_for}
 use Rattle.ipc_stream_read.specs.declared.stream_state.StreamState.{StreamState}
-use Rattle.ipc_stream_read.specs.declared.end.End.TheVariants.{Mark}
+use Rattle.ipc_stream_read.specs.declared.end.End.{End}
+use Rattle.ipc_stream_read.specs.declared.end.End.TheVariants.{Closed, Mark}
 use Rattle.ipc_stream_read.specs.declared.event.Event.{Event}
 use Rattle.ipc_stream_read.specs.declared.event.Event.TheVariants as event
-use Rattle.ipc_stream_read.specs.declared.stream_phase.StreamPhase.{StreamPhase}
-use Rattle.ipc_stream_read.specs.declared.stream_phase.StreamPhase.TheVariants as phase
 use Rattle.ipc_stream_read.specs.declared.scope.Scope.{Scope}
 use Rattle.ipc_stream_read.specs.Counts.{count_up}
 use Rattle.ipc_stream_read.specs.Decoding.{Decoding, Stage, taking, over, refused}
 use Rattle.ipc_stream_read.specs.Found.{batch_rows}
 use Rattle.ipc_stream_read.specs.ReadBatches.{IsCheckedIn}
+use Rattle.ipc_stream_read.specs.Reader.{end_of, phase_of}
 use Rattle.ipc_stream_read.specs.Reasons.{IsNoSchema, IsUnknownDictionary}
-use Rattle.ipc_stream_read.specs.Scopes.{in_scope, state_of}
+use Rattle.ipc_stream_read.specs.Scopes.{IsUnder, in_scope, state_of}
 use Rattle.ipc_stream_read.specs.Stream.{InForce, State, Step, initial_state, values_in, schema}
 use Rattle.ipc_stream_read.specs.Stream.{batch}
 
@@ -111,37 +111,38 @@ Brings limits σ frame τ (Err fault) =
     (τ ≡ σ) × UnlessOutOfMemory fault (RefusesFrame limits σ frame fault)
 Brings limits σ frame τ found = ⊥
 
--- how a result changes the phase and the number of messages
-abbrev pub Moves : StreamState → StreamState → Result (Option Event) Fault → Type 0
-Moves old new (Ok (Some event.End)) = (new.phase ≡ phase.Ended Mark) × (new.messages ≡ old.messages)
-Moves old new (Ok found) = (new.phase ≡ old.phase) × (new.messages ≡ count_up old.messages 1)
-Moves old new (Err fault) = (new.phase ≡ phase.Refused) × (new.messages ≡ old.messages)
+-- how an event changes how the stream ended and the number of messages
+abbrev pub Moved : StreamState → StreamState → Option Event → Type 0
+Moved old new (Some event.End) = (new.end ≡ Some Mark) × (new.messages ≡ old.messages)
+Moved old new found = (new.end ≡ old.end) × (new.messages ≡ count_up old.messages 1)
 
--- the stream is refused, and all else stays as it was
-abbrev pub IsRefused : StreamState → StreamState → Type 0
-IsRefused old new = (new.phase ≡ phase.Refused) × (new.limits ≡ old.limits)
-    × (new.scope ≡ old.scope) × (new.messages ≡ old.messages)
+-- how a result changes the frames and the stream: after a refusal the frames take no more
+abbrev pub Moves : Framing → Framing → StreamState → StreamState → Result (Option Event) Fault
+    → Type 0
+Moves before after old new (Ok found) = (after ≡ before) × Moved old new found
+Moves before after old new (Err fault) = (after.progress ≡ frames.refused)
+    × (after.room ≡ no_capacity) × (new.end ≡ old.end) × (new.messages ≡ old.messages)
 
--- the stage of a stream, by the progress of its frames and the phase
-abbrev pub stage_of : Progress → StreamPhase → Stage
-stage_of (frames.taking z) phase.Reading = taking z
-stage_of other phase.Reading = refused
-stage_of progress (phase.Ended end) = over end
-stage_of progress phase.Refused = refused
+-- the stage of a stream, by the progress of its frames and how it ended
+abbrev pub stage_of : Progress → Option End → Stage
+stage_of (frames.taking z) end = taking z
+stage_of frames.ended (Some end) = over end
+stage_of frames.ended None = over Closed
+stage_of frames.refused end = refused
 
 -- the value of a decoder
 abbrev pub decoding_of : Framing → StreamState → Decoding
 decoding_of framing stream = record {
-  limits = stream.limits;
+  limits = framing.limits;
   state = state_of stream.scope;
-  stage = stage_of framing.progress stream.phase;
+  stage = stage_of framing.progress stream.end;
   messages = stream.messages;
   room = framing.room;
 }
 
--- the frames have the same limits. They take bytes while the stream is being read, and keep no
--- buffer afterwards
+-- what is in force has the limits of the frames; it is known how the stream ended exactly if it
+-- did; the frames keep no buffer after the end and after a refusal
 pub record IsSound (framing : Framing) (stream : StreamState) : Type 0 where
-  pub same_limits : framing.limits ≡ stream.limits
-  pub takes : stream.phase ≡ phase.Reading → (z : List ℕ) × (framing.progress ≡ frames.taking z)
-  pub let_go : stream.phase ≢ phase.Reading → framing.room ≡ no_capacity
+  pub under : IsUnder framing.limits stream.scope
+  pub ends : stream.end ≡ end_of (phase_of (stage_of framing.progress stream.end))
+  pub let_go : frames.DropsLists framing.progress framing.room

@@ -1,7 +1,7 @@
 -- The bytes that a reader takes from its source, and its results (Arrow Columnar Format, "IPC
 -- Streaming Format").
 use Rattle.std.specs.Prelude.{◌≡◌, ℕ, List, [], ◌∷◌, length, map, Option, Some, None}
-use Rattle.std.specs.Prelude.{Result, Ok, Err, ⊤}
+use Rattle.std.specs.Prelude.{Result, Ok, Err}
 use Rattle.std.specs.Io.KnownBytes.{Consumes}
 use Rattle.ipc_model.specs.declared.fault.Fault.{Fault}
 use Rattle.ipc_model.specs.declared.fault.Fault.TheVariants.{OutOfMemory}
@@ -12,14 +12,9 @@ use Rattle.ipc_model.specs.declared.table.Table.{Table}
 use Rattle.ipc_stream_read.specs.declared.end.End.{End}
 use Rattle.ipc_stream_read.specs.declared.end.End.TheVariants.{Closed}
 use Rattle.ipc_stream_read.specs.declared.event.Event.{Event as ReturnedEvent}
-use Rattle.ipc_stream_read.specs.declared.source_reading.NextItem.{NextItem}
-use Rattle.ipc_stream_read.specs.declared.source_reading.NextItem.TheVariants as next
 use Rattle.ipc_stream_read.specs.Counts.{count_up}
 use Rattle.ipc_stream_read.specs.Decoding.{Decoding, Stage, taking, over, refused, Reaches}
 use Rattle.ipc_stream_read.specs.Decoding.{ReportsEvent}
-use Rattle.ipc_stream_read.specs.Decoding.{ReportsOneEvent}
-use Rattle.ipc_stream_read.specs.Found.{batch_rows}
-use Rattle.ipc_stream_read.specs.ReadBatches.{IsReadFrom}
 use Rattle.ipc_stream_read.specs.Reasons.{Breaks, Ends, NeedsMemory, Reads}
 use Rattle.ipc_stream_read.specs.Stream.{State, Event, schema, batch, Run, initial_state, events_of}
 
@@ -72,33 +67,6 @@ pub record TakesSchema (old new : Option (List ℕ)) (count_old count_new : ℕ)
   pub x : List ℕ
   pub takes : Takes old new count_old count_new x
   pub gives : GivesSchema before after x new r
-
--- the next batch, the end of the stream, or a fault; dictionaries may be set before it
-abbrev pub ReadAnswer : Decoding → Decoding → List ℕ → Option (List ℕ) → Result NextItem Fault
-    → Type 0
-ReadAnswer old new x left (Ok (next.Batch found pairs)) =
-    ReportsOneEvent old new x (batch (batch_rows (found, pairs)))
-    × IsReadFrom old.limits old.state x found
-ReadAnswer old new x left (Ok (next.Ended end)) = StopsAt old new x left (over end) (Ok end)
-ReadAnswer old new x left (Err fault) = StopsAt old new x left refused (Err fault)
-
--- the bytes that were taken from the source for the next batch or the end, and the result
-pub record ReadsNext (old new : Option (List ℕ)) (count_old count_new : ℕ)
-    (before after : Decoding) (r : Result NextItem Fault) : Type 0 where
-  pub x : List ℕ
-  pub takes : Takes old new count_old count_new x
-  pub same_limits : after.limits ≡ before.limits
-  pub gives : ReadAnswer before after x new r
-
--- a batch has a column for each field of the schema
-abbrev pub HasAllColumns : State → NextItem → Type 0
-HasAllColumns (Some o) (next.Batch found pairs) = found.columns ≡ length o.schema.fields
-HasAllColumns state event = ⊤
-
--- the event is a batch
-abbrev pub IsBatch : NextItem → Type 0
-IsBatch (next.Batch found pairs) = ⊤
-IsBatch (next.Ended end) = ⊥
 
 -- the bytes are these batches and the end, or some messages, after which reading broke off
 abbrev pub GivesBatches : Limits → State → List ℕ → Option (List ℕ)

@@ -1,7 +1,7 @@
 use crate::end::End;
 use crate::event::Event;
-use crate::feed_progress::FeedProgress;
-use crate::stream_phase::StreamPhase;
+use crate::next_frame::{accept, feed_on};
+use crate::scope::Scope;
 use crate::stream_state::StreamState;
 use ipc_column::Batch;
 use ipc_device::Source;
@@ -55,8 +55,7 @@ impl Decoder {
     ghost use Rattle.ipc_stream_read.specs.Decoding.{ClosesAt, Draws, FailsWhile, Feeds};
     ghost use Rattle.ipc_stream_read.specs.Decoding.{HasColumns, DropsLists, Wants, held_of};
     ghost use Rattle.ipc_stream_read.specs.Decoding.{kept_bytes, schema_of, taking};
-    ghost use Rattle.ipc_stream_read.specs.MessageFeeds.{FeedsMessage, ForReported};
-    ghost use Rattle.ipc_stream_read.specs.Reader.{phase_of};
+    ghost use Rattle.ipc_stream_read.specs.Reader.{end_of, phase_of};
 
     /// Creates a decoder at the beginning of a stream. All that it accepts, in each call, is within
     /// `limits`. It takes no memory.
@@ -69,7 +68,11 @@ impl Decoder {
     {
         Decoder {
             frames: Frames::new(alloc, limits),
-            stream: StreamState::new(limits),
+            stream: StreamState {
+                scope: None,
+                end: None,
+                messages: 0,
+            },
             alloc,
         }
     }
@@ -108,40 +111,7 @@ impl Decoder {
         // Buffers grow as bytes come, whatever the message states.
         ensures grown { GrowsWithBytes self.old.room self.new.room (kept_bytes self.new.stage) }
     {
-        let mut taken = 0;
-        loop {
-            let (count, fed) = self.feed_message(&piece[taken..])?;
-            taken += count;
-            match fed {
-                FeedProgress::More => return Ok((taken, None)),
-                FeedProgress::WithEvent(event) => return Ok((taken, Some(event))),
-                FeedProgress::WithoutEvent => {}
-            }
-        }
-    }
-
-    // Takes a beginning of the piece, as `feed` does, but no byte after the current message.
-    fn feed_message(&mut self, piece: &[u8]) -> Result<(usize, FeedProgress), Fault>
-        ensures fed { FeedsMessage self.old piece.now self.new result }
-        ensures limits { self.new.limits ≡ self.old.limits }
-        ensures columns { IfOk result (λ fed. ForReported fed.1 (HasColumns self.new.state)) }
-        ensures moved { MatchResult result (λ fed. ForReported fed.1
-            (λ _. self.new.room ≡ no_capacity))
-            (λ _. self.new.room ≡ no_capacity) }
-        ensures grown { GrowsWithBytes self.old.room self.new.room (kept_bytes self.new.stage) }
-    {
-        match self.stream.phase {
-            StreamPhase::Refused => Err(Fault::Failed),
-            StreamPhase::Ended(_) => Ok((0, FeedProgress::More)),
-            StreamPhase::Reading => match self.frames.feed(piece) {
-                Err(fault) => Err(self.stream.refuse(fault)),
-                Ok((taken, None)) => Ok((taken, FeedProgress::More)),
-                Ok((taken, Some(frame))) => match self.stream.accept(self.alloc, frame)? {
-                    Some(event) => Ok((taken, FeedProgress::WithEvent(event))),
-                    None => Ok((taken, FeedProgress::WithoutEvent)),
-                },
-            },
-        }
+        feed_on(self.alloc, &mut self.frames, &mut self.stream, piece)
     }
 
     /// Calls the source once, for at most `wants` bytes, and stores what comes without a further
@@ -170,19 +140,13 @@ impl Decoder {
         // Buffers grow as bytes come, whatever the message states.
         ensures grown { GrowsWithBytes self.old.room self.new.room (kept_bytes self.new.stage) }
     {
-        match self.stream.phase {
-            StreamPhase::Refused => (0, Err(Fault::Failed)),
-            StreamPhase::Ended(_) => (0, Ok(None)),
-            StreamPhase::Reading => {
-                let (count, answer) = self.frames.feed_from(source);
-                match answer {
-                    Err(fault) => (count, Err(self.stream.refuse(fault))),
-                    Ok(None) => (count, Ok(None)),
-                    Ok(Some(frame)) => match self.stream.accept(self.alloc, frame) {
-                        Ok(found) => (count, Ok(found)),
-                        Err(fault) => (count, Err(fault)),
-                    },
-                }
+        let (count, result) = self.frames.feed_from(source);
+        match result {
+            Err(fault) => (count, Err(fault)),
+            Ok(None) => (count, Ok(None)),
+            Ok(Some(frame)) => {
+                let found = accept(self.alloc, &mut self.frames, &mut self.stream, frame);
+                (count, found)
             }
         }
     }
@@ -198,10 +162,8 @@ impl Decoder {
         ensures metadata { self.new.room.metadata ≡ self.old.room.metadata }
         ensures let_go { DropsLists self.new.stage self.new.room }
     {
-        if let StreamPhase::Reading = self.stream.phase {
-            if let Some(body) = batch.into_body() {
-                self.frames.reuse(body);
-            }
+        if let Some(body) = batch.into_body() {
+            self.frames.reuse(body);
         }
     }
 
@@ -222,10 +184,7 @@ impl Decoder {
     pub fn wants(&self) -> usize
         ensures { Wants self.now.limits self.now.stage result }
     {
-        match self.stream.phase {
-            StreamPhase::Reading => self.frames.wants(),
-            _ => 0,
-        }
+        self.frames.wants()
     }
 
     /// Returns the number of bytes that are kept: all that came of the current message, and the
@@ -236,31 +195,25 @@ impl Decoder {
     pub fn held(&self) -> usize
         ensures { result ≡ held_of self.now }
     {
-        self.stream.dictionary_bytes().saturating_add(self.kept())
-    }
-
-    // How many bytes are kept of the message at hand.
-    fn kept(&self) -> usize
-        ensures { result ≡ kept_bytes self.now.stage }
-    {
-        match self.stream.phase {
-            StreamPhase::Reading => self.frames.held(),
-            _ => 0,
-        }
+        let dictionaries = match &self.stream.scope {
+            Some(scope) => scope.held(),
+            None => 0,
+        };
+        dictionaries.saturating_add(self.frames.held())
     }
 
     /// Returns the limits that the decoder was created with.
     pub fn limits(&self) -> Limits
         ensures { result ≡ self.now.limits }
     {
-        self.stream.limits
+        self.frames.limits()
     }
 
-    // Whether messages still come.
-    pub(crate) fn phase(&self) -> StreamPhase
-        ensures { result ≡ phase_of self.now.stage }
+    // How the stream ended, if it did.
+    pub(crate) fn end(&self) -> Option<End>
+        ensures { result ≡ end_of (phase_of self.now.stage) }
     {
-        self.stream.phase
+        self.stream.end
     }
 
     // The schema that is in force, alone.
@@ -272,7 +225,7 @@ impl Decoder {
             stream,
             alloc: _,
         } = self;
-        stream.into_schema()
+        stream.scope.map(Scope::into_schema)
     }
 
     /// Returns the number of messages that came, including the schema's and those of dictionaries.
@@ -294,17 +247,14 @@ impl Decoder {
         // No buffer is kept, whatever the result.
         ensures let_go { self.new.room ≡ no_capacity }
     {
-        match self.stream.phase {
-            StreamPhase::Refused => Err(Fault::Failed),
-            StreamPhase::Ended(end) => Ok(end),
-            StreamPhase::Reading => {
-                let closed = self.frames.close();
-                if closed.is_ok() && self.stream.scope.is_some() {
-                    self.stream.phase = StreamPhase::Ended(End::Closed);
-                    return Ok(End::Closed);
-                }
-                Err(self.stream.refuse(Fault::Truncated))
-            }
+        if let Some(end) = self.stream.end {
+            return Ok(end);
         }
+        self.frames.close()?;
+        if self.stream.scope.is_none() {
+            return Err(self.frames.refuse(Fault::Truncated));
+        }
+        self.stream.end = Some(End::Closed);
+        Ok(End::Closed)
     }
 }

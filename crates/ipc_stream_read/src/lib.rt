@@ -5,14 +5,12 @@
 mod decoder;
 mod end;
 mod event;
-mod feed_progress;
 pub mod laws;
 mod next_frame;
 mod reader;
 mod scope;
 mod scope_messages;
 mod source_reading;
-mod stream_phase;
 mod stream_state;
 mod table;
 

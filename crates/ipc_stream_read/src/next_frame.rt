@@ -1,17 +1,19 @@
-//! The effect of the next frame of a stream on its state. `StreamState` has a file of its own, with
+//! The effect of the frames of a stream on its state. `StreamState` has a file of its own, with
 //! none of the definitions that are named here, because they name it.
-ghost use Rattle.std.specs.Prelude.{◌≡◌, IfErr, IfOk, IfSome, None, Some};
-ghost use Rattle.ipc_stream_read.specs.StreamStates.{Brings, BringsSchema, BringsScope, IsRefused};
+ghost use Rattle.std.specs.Prelude.{◌≡◌, IfErr, IfOk, IfSome, MatchResult, Some};
+ghost use Rattle.ipc_frame.specs.Parts.{GrowsWithBytes, no_capacity};
+ghost use Rattle.ipc_frame.specs.Pieces.{held_of};
+ghost use Rattle.ipc_stream_read.specs.StreamStates.{Brings, BringsSchema, BringsScope, IsSound};
 ghost use Rattle.ipc_stream_read.specs.StreamStates.{IsMessageFrame, IsWellFormedFrame, Moves};
-ghost use Rattle.ipc_stream_read.specs.Decoding.{HasColumns, dictionary_bytes, schema_of};
+ghost use Rattle.ipc_stream_read.specs.StreamStates.{decoding_of};
+ghost use Rattle.ipc_stream_read.specs.Decoding.{Feeds, HasColumns};
 ghost use Rattle.ipc_stream_read.specs.Scopes.{IsUnder, in_scope, state_of};
 
 use crate::end::End;
 use crate::event::Event;
 use crate::scope::Scope;
-use crate::stream_phase::StreamPhase;
 use crate::stream_state::StreamState;
-use ipc_frame::Frame;
+use ipc_frame::{Frame, Frames};
 use ipc_meta::Head;
 use ipc_model::{Fault, Limits, Schema};
 use std::alloc::Global;
@@ -87,80 +89,69 @@ fn apply_frame(
     }
 }
 
-impl StreamState {
-    // Of a stream of which nothing came.
-    pub fn new(limits: Limits) -> StreamState
-        ensures limits { result.limits ≡ limits }
-        ensures scope { result.scope ≡ None }
-        ensures phase { result.phase ≡ StreamPhase.Reading }
-        ensures messages { result.messages ≡ 0 }
-    {
-        StreamState {
-            limits,
-            scope: None,
-            phase: StreamPhase::Reading,
-            messages: 0,
+// Takes the next frame. Returns its event, or none if it sets a dictionary. After a refusal the
+// frames take no more. It takes the fields of `Decoder`, because an end mark breaks its invariant
+// until it is accepted or refused.
+pub fn accept(
+    alloc: Global,
+    frames: &mut Frames,
+    stream: &mut StreamState,
+    frame: Frame,
+) -> Result<Option<Event>, Fault>
+    requires well_formed { IsWellFormedFrame frames.old.limits frame }
+    requires under { IsUnder frames.old.limits stream.old.scope }
+    ensures under { IsUnder frames.new.limits stream.new.scope }
+    ensures limits { frames.new.limits ≡ frames.old.limits }
+    ensures brings { Brings frames.old.limits (state_of stream.old.scope) frame
+        (state_of stream.new.scope) result }
+    ensures moves { Moves frames.old frames.new stream.old stream.new result }
+    // The end mark takes no memory.
+    ensures memory { IfErr result (λ fault. fault ≡ Fault.OutOfMemory → IsMessageFrame frame) }
+    ensures columns { IfOk result
+        (λ found. IfSome found (HasColumns (state_of stream.new.scope))) }
+{
+    match apply_frame(alloc, &frames.limits(), &mut stream.scope, frame) {
+        Ok(Some(Event::End)) => {
+            stream.end = Some(End::Mark);
+            Ok(Some(Event::End))
         }
-    }
-
-    // Takes the next frame. Returns its event, or none if it sets a dictionary.
-    pub fn accept(&mut self, alloc: Global, frame: Frame) -> Result<Option<Event>, Fault>
-        requires { IsWellFormedFrame self.old.limits frame }
-        ensures limits { self.new.limits ≡ self.old.limits }
-        ensures brings { Brings self.old.limits (state_of self.old.scope) frame
-            (state_of self.new.scope) result }
-        ensures moves { Moves self.old self.new result }
-        // The end mark takes no memory.
-        ensures memory { IfErr result (λ fault. fault ≡ Fault.OutOfMemory
-            → IsMessageFrame frame) }
-        ensures columns { IfOk result
-            (λ found. IfSome found (HasColumns (state_of self.new.scope))) }
-    {
-        match apply_frame(alloc, &self.limits, &mut self.scope, frame) {
-            Ok(Some(Event::End)) => {
-                self.phase = StreamPhase::Ended(End::Mark);
-                Ok(Some(Event::End))
-            }
-            Ok(found) => {
-                self.messages = self.messages.saturating_add(1);
-                Ok(found)
-            }
-            Err(fault) => {
-                self.phase = StreamPhase::Refused;
-                Err(fault)
-            }
+        Ok(found) => {
+            stream.messages = stream.messages.saturating_add(1);
+            Ok(found)
         }
+        Err(fault) => Err(frames.refuse(fault)),
     }
+}
 
-    // How many bytes the bodies have together that set the dictionaries in force.
-    pub fn dictionary_bytes(&self) -> usize
-        ensures { result ≡ dictionary_bytes (state_of self.now.scope) }
-    {
-        match &self.scope {
-            Some(scope) => scope.held(),
-            None => 0,
+// Takes the piece message by message, up to the first event, as `Decoder::feed` does.
+pub fn feed_on(
+    alloc: Global,
+    frames: &mut Frames,
+    stream: &mut StreamState,
+    piece: &[u8],
+) -> Result<(usize, Option<Event>), Fault>
+    requires { IsSound frames.old stream.old }
+    ensures sound { IsSound frames.new stream.new }
+    ensures fed { Feeds (decoding_of frames.old stream.old) piece.now
+        (decoding_of frames.new stream.new) result }
+    ensures limits { frames.new.limits ≡ frames.old.limits }
+    ensures columns { IfOk result
+        (λ found. IfSome found.1 (HasColumns (state_of stream.new.scope))) }
+    ensures moved { MatchResult result (λ found. IfSome found.1
+        (λ _. frames.new.room ≡ no_capacity))
+        (λ _. frames.new.room ≡ no_capacity) }
+    ensures grown { GrowsWithBytes frames.old.room frames.new.room
+        (held_of frames.new.progress) }
+{
+    let mut taken = 0;
+    loop {
+        let (count, frame) = frames.feed(&piece[taken..])?;
+        taken += count;
+        let Some(frame) = frame else {
+            return Ok((taken, None));
+        };
+        if let Some(event) = accept(alloc, frames, stream, frame)? {
+            return Ok((taken, Some(event)));
         }
-    }
-
-    // The schema that is in force, alone.
-    pub fn into_schema(self) -> Option<Schema>
-        ensures { result ≡ schema_of (state_of self.scope) }
-    {
-        let StreamState {
-            limits: _,
-            scope,
-            phase: _,
-            messages: _,
-        } = self;
-        scope.map(Scope::into_schema)
-    }
-
-    // Takes no more, for this fault.
-    pub fn refuse(&mut self, fault: Fault) -> Fault
-        ensures fault { result ≡ fault }
-        ensures refused { IsRefused self.old self.new }
-    {
-        self.phase = StreamPhase::Refused;
-        fault
     }
 }

@@ -4,15 +4,16 @@ ghost use Rattle.ipc_model.specs.declared.schema.Schema.{Schema};
 ghost use Rattle.ipc_model.specs.declared.table.BatchRows.{BatchRows};
 ghost use Rattle.ipc_stream_read.specs.declared.end.End.{End};
 ghost use Rattle.ipc_stream_read.specs.Failures.{StaysOrFails, CountsFault};
-ghost use Rattle.ipc_stream_read.specs.Reader.{BeginsEnd, GivesBatch, NextCall, Opens, OpenFails};
-ghost use Rattle.ipc_stream_read.specs.Reader.{KeepsNone, WorksWhile, end_of, in_force_of};
+ghost use Rattle.ipc_stream_read.specs.Reader.{BeginsEnd, Ended, GivesBatch, KeepsNone, NextCall};
+ghost use Rattle.ipc_stream_read.specs.Reader.{OpenFails, Opens, Reading, WorksWhile, end_of};
+ghost use Rattle.ipc_stream_read.specs.Reader.{in_force_of};
 ghost use Rattle.ipc_stream_read.specs.Reasons.{IsOutside};
 ghost use Rattle.ipc_stream_read.specs.Stream.{InForce, OpensStream, SetsOnly, DenotesOneBatch};
 
 use crate::decoder::Decoder;
 use crate::end::End;
-use crate::source_reading::{NextItem, read_next, read_schema};
-use crate::stream_phase::StreamPhase;
+use crate::event::Event;
+use crate::source_reading::{pull, read_schema};
 use ipc_column::Batch;
 use ipc_device::Source;
 use ipc_model::{Fault, Field, Items, Limits, Schema, Text};
@@ -55,32 +56,6 @@ impl<R: Source> Model for StreamReader<R> {
     } };
 }
 
-// A reader that took a schema's message, or the source again with the fault.
-fn open_with<R: Source>(
-    alloc: Global,
-    limits: Limits,
-    source: R,
-) -> Result<StreamReader<R>, (Fault, R)>
-    ensures opened { IfOk result (λ s. Opens limits (R.remaining source) s) }
-    ensures refused { IfErr result (λ e. OpenFails limits (R.remaining source)
-        (R.remaining e.1) e.0) }
-    ensures failures { MatchResult result (λ s. (R.failures source ≡ 0) × (s.failures ≡ 0))
-        (λ e. CountsFault (R.failures source) (R.failures e.1) e.0) }
-    ensures fewer { IfOk result (λ s. s.bound < R.bound source) }
-{
-    let mut source = source;
-    let mut decoder = Decoder::new(alloc, limits);
-    let mut taken = 0;
-    match read_schema(&mut source, &mut decoder, &mut taken) {
-        Ok(()) => Ok(StreamReader {
-            source,
-            decoder,
-            taken,
-        }),
-        Err(fault) => Err((fault, source)),
-    }
-}
-
 impl<R: Source> StreamReader<R> {
     /// Reads the first message, which is the schema's, and no byte after it. All that is read, now
     /// and later, is within `limits`.
@@ -100,7 +75,17 @@ impl<R: Source> StreamReader<R> {
             → R.remaining source ≡ Some (x ++ rest) → OpensStream limits s x
             → MatchResult result (λ reader. reader.schema ≡ s) (λ e. IsOutside e.0) }
     {
-        open_with(alloc, limits, source)
+        let mut source = source;
+        let mut decoder = Decoder::new(alloc, limits);
+        let mut taken = 0;
+        match read_schema(&mut source, &mut decoder, &mut taken) {
+            Ok(()) => Ok(StreamReader {
+                source,
+                decoder,
+                taken,
+            }),
+            Err(fault) => Err((fault, source)),
+        }
     }
 
     /// Returns the limits that the reader was opened with.
@@ -126,27 +111,6 @@ impl<R: Source> StreamReader<R> {
         self.schema().fields.as_slice()
     }
 
-    // Reads the next batch, as `next` does.
-    fn advance(&mut self) -> Result<Option<(Batch, Items<(Text, Text)>)>, Fault>
-        ensures next { NextCall self.old self.new result }
-        ensures columns { IfOk result
-            (λ next. IfSome next (λ found. found.0.columns ≡ length self.old.schema.fields)) }
-        ensures fewer { IfOk result (λ next. IsSome next → self.new.bound < self.old.bound) }
-        ensures failures { StaysOrFails self.old.failures self.new.failures result }
-        ensures rose { IfErr result (λ fault. fault ≡ Fault.Read → self.old.failures ≡ 0) }
-    {
-        match self.decoder.phase() {
-            StreamPhase::Refused => Err(Fault::Failed),
-            StreamPhase::Ended(_) => Ok(None),
-            StreamPhase::Reading => {
-                match read_next(&mut self.source, &mut self.decoder, &mut self.taken)? {
-                    NextItem::Batch(batch, pairs) => Ok(Some((batch, pairs))),
-                    NextItem::Ended(_) => Ok(None),
-                }
-            }
-        }
-    }
-
     /// Returns the next batch with the pairs of key and value of its message, in order; keys may
     /// repeat (Message.fbs, table Message, `custom_metadata`). Returns `None` at the end of the
     /// stream and in each later call. Dictionaries that come before the batch are set, and remain
@@ -166,18 +130,29 @@ impl<R: Source> StreamReader<R> {
         // Messages that denote a batch, at the front of the source, are read, whatever dictionaries
         // they set and whatever follows them, unless memory runs out or the source fails.
         ensures batch { (x rest : List ℕ) (b : BatchRows)
-            → self.old.phase ≡ StreamPhase.Reading → self.old.remaining ≡ Some (x ++ rest)
+            → self.old.phase ≡ Reading → self.old.remaining ≡ Some (x ++ rest)
             → DenotesOneBatch self.old.limits (in_force_of self.old) b x
             → MatchResult result (λ next. GivesBatch next b) IsOutside }
         // An end of the stream is read too, after messages that only set dictionaries: the mark, or
         // the end of the source.
         ensures ended { (x z : List ℕ) (o : InForce) (end : End)
-            → self.old.phase ≡ StreamPhase.Reading → self.old.remaining ≡ Some (x ++ z)
+            → self.old.phase ≡ Reading → self.old.remaining ≡ Some (x ++ z)
             → SetsOnly self.old.limits (in_force_of self.old) x o → BeginsEnd end z
-            → MatchResult result (λ next. (next ≡ None) × (self.new.phase ≡ StreamPhase.Ended end))
+            → MatchResult result (λ next. (next ≡ None) × (self.new.phase ≡ Ended end))
             IsOutside }
     {
-        self.advance()
+        if self.decoder.wants() == 0 {
+            return match self.decoder.end() {
+                Some(_) => Ok(None),
+                None => Err(Fault::Failed),
+            };
+        }
+        match pull(&mut self.source, &mut self.decoder, &mut self.taken)? {
+            Some(Event::Schema) => Err(Fault::SecondSchema),
+            Some(Event::Batch(batch, pairs)) => Ok(Some((batch, pairs))),
+            Some(Event::End) => Ok(None),
+            None => Ok(None),
+        }
     }
 
     /// Takes a batch back that is no longer needed, so that the next body is read over its bytes,
@@ -192,10 +167,7 @@ impl<R: Source> StreamReader<R> {
     pub fn end(&self) -> Option<End>
         ensures { result ≡ end_of self.now.phase }
     {
-        match self.decoder.phase() {
-            StreamPhase::Ended(end) => Some(end),
-            _ => None,
-        }
+        self.decoder.end()
     }
 
     /// Returns the number of messages that were read, including the schema's and those of

@@ -1,28 +1,16 @@
-ghost use Rattle.std.specs.Prelude.{◌≡◌, ◌≢◌, ◌<◌, ◌≤◌, ◌-◌, ◌^◌, [], None, IfOk, IsSome, IfSome};
+ghost use Rattle.std.specs.Prelude.{◌≡◌, ◌<◌, ◌≤◌, ◌-◌, ◌^◌, [], None, IfOk, IsSome, IfSome};
 ghost use Rattle.ipc_stream_read.specs.Decoding.{HasColumns, taking};
 ghost use Rattle.ipc_stream_read.specs.Failures.{FailsAs};
-ghost use Rattle.ipc_stream_read.specs.Taken.{HasAllColumns, IsBatch, Pulls, ReadsNext};
-ghost use Rattle.ipc_stream_read.specs.Taken.{TakesSchema};
+ghost use Rattle.ipc_stream_read.specs.Taken.{Pulls, TakesSchema};
 
 use crate::decoder::Decoder;
-use crate::end::End;
 use crate::event::Event;
-use ipc_column::Batch;
 use ipc_device::Source;
-use ipc_model::{Fault, Items, Text};
-
-// What comes after the schema.
-#[derive(Drop)]
-pub enum NextItem {
-    // A batch, with the pairs of its message.
-    Batch(Batch, Items<(Text, Text)>),
-    // How the stream ends.
-    Ended(End),
-}
+use ipc_model::Fault;
 
 // Calls the source until there is an event, or none at the source's end, after which the decoder is
 // closed. The number of bytes that came is added to `taken`.
-fn pull<R: Source>(
+pub fn pull<R: Source>(
     source: &mut R,
     decoder: &mut Decoder,
     taken: &mut u64,
@@ -70,29 +58,5 @@ pub fn read_schema<R: Source>(
         Some(Event::Batch(_batch, _pairs)) => Err(Fault::MissingSchema),
         Some(Event::End) => Err(Fault::MissingSchema),
         None => Err(Fault::MissingSchema),
-    }
-}
-
-// The next batch after the schema, or how the stream ends.
-pub fn read_next<R: Source>(
-    source: &mut R,
-    decoder: &mut Decoder,
-    taken: &mut u64,
-) -> Result<NextItem, Fault>
-    requires between { decoder.old.stage ≡ taking [] }
-    requires open { decoder.old.state ≢ None }
-    requires counted { decoder.old.messages ≤ 2 ^ 64 - 1 }
-    requires within { taken.old ≤ 2 ^ 64 - 1 }
-    ensures next { ReadsNext (R.remaining source.old) (R.remaining source.new) taken.old taken.new
-        decoder.old decoder.new result }
-    ensures columns { IfOk result (HasAllColumns decoder.old.state) }
-    ensures fewer { IfOk result (λ next. IsBatch next → R.bound source.new < R.bound source.old) }
-    ensures failures { FailsAs (R.failures source.old) (R.failures source.new) result }
-{
-    match pull(source, decoder, taken)? {
-        Some(Event::Batch(batch, pairs)) => Ok(NextItem::Batch(batch, pairs)),
-        Some(Event::End) => Ok(NextItem::Ended(End::Mark)),
-        None => Ok(NextItem::Ended(End::Closed)),
-        Some(Event::Schema) => Err(Fault::SecondSchema),
     }
 }

@@ -1,17 +1,13 @@
 ghost use Rattle.std.specs.Prelude.{◌^◌, ◌-◌, ◌≤◌};
-ghost use Rattle.ipc_stream_read.specs.Scopes.{IsUnder};
 
+use crate::end::End;
 use crate::scope::Scope;
-use crate::stream_phase::StreamPhase;
-use ipc_model::Limits;
 
-// How far a stream is: what is in force, whether messages still come, and how many came.
+// How far a stream is: what is in force, how it ended, if it did, and how many messages came.
 #[derive(Drop)]
 pub struct StreamState {
-    pub limits: Limits,
     pub scope: Option<Scope>,
-    pub phase: StreamPhase,
+    pub end: Option<End>,
     pub messages: u64,
-    ghost under: { IsUnder limits scope },
     ghost counted: { messages ≤ 2 ^ 64 - 1 },
 }

@@ -11,7 +11,8 @@ ghost use Rattle.ipc_stream_read.specs.Taken.{RunsOut, TakesBatches, TakesTable}
 
 use crate::decoder::Decoder;
 use crate::end::End;
-use crate::source_reading::{NextItem, read_next, read_schema};
+use crate::event::Event;
+use crate::source_reading::{pull, read_schema};
 use ipc_column::Batch;
 use ipc_device::Source;
 use ipc_model::{BatchRows, Batches, Fault, Items, Limits, Table, Text};
@@ -52,9 +53,11 @@ fn read_batches<R: Source>(
 {
     let mut batches = Vec::new(alloc);
     loop {
-        match read_next(source, decoder, taken)? {
-            NextItem::Batch(batch, pairs) => keep_batch(alloc, &mut batches, &batch, pairs)?,
-            NextItem::Ended(end) => return Ok((Items::from_vec(batches), end)),
+        match pull(source, decoder, taken)? {
+            Some(Event::Schema) => return Err(Fault::SecondSchema),
+            Some(Event::Batch(batch, pairs)) => keep_batch(alloc, &mut batches, &batch, pairs)?,
+            Some(Event::End) => return Ok((Items::from_vec(batches), End::Mark)),
+            None => return Ok((Items::from_vec(batches), End::Closed)),
         }
     }
 }

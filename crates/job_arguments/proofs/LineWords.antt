@@ -77,7 +77,7 @@ wrong_more (usage.Wrong text) follows wrong = follows wrong
 wrong_more usage.OutOfMemory follows wrong = tt
 
 -- an error of one of the kinds gives the usage of words that are no job
-pub usage_told : (words : List Text) (fault : ErrorKind) (why : Usage) → IsUsageOf fault why
+pub usage_told : (words : List Text) (fault : ErrorKind) (why : Usage) → IsUsageOf words fault why
     → (fault ≡ kind.OutOfMemory) ⊎ IsAmong fault (fault_of arrowstream words) → AsksNoJob words why
 usage_told words fault (usage.Help text) is among = ⊎_elim
     (λ e. ⊎_elim (λ h. let bad : kind.OutOfMemory ≡ kind.DisplayHelp = sym e ∙ h in absurd cc)

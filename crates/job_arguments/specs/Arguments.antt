@@ -1,6 +1,7 @@
 -- What a command line asks for.
 use Rattle.std.specs.Prelude.{◌≡◌, ◌≢◌, ◌⊎◌, ◌↔◌, ◌≤◌, ℕ, ◌^◌, ◌-◌, Bool, IsTrue, List, [], ◌∷◌}
 use Rattle.std.specs.Prelude.{Option, None, Some, ⊤, codes, false, true, string_bytes, ◌++◌, ◌==◌}
+use Rattle.std.specs.Prelude.{slice_get}
 use Rattle.std.specs.List.{starts_with}
 use Rattle.std.specs.Str.Parse.{IsNumeral, digits_value, without_leading_plus}
 use Rattle.clap.specs.Words.{App, IsAmong, Row, Text, app_of, fault_of, first_of, one_of}
@@ -82,15 +83,21 @@ HasWrongOutput rows = LacksCount (codes "max-output-body") 0 max_body rows
     ⊎ (LacksCount (codes "max-batches") 0 (2 ^ 64 - 1) rows
     ⊎ LacksCount (codes "max-total-rows") 0 (2 ^ 64 - 1) rows)
 
--- the options ask for this dialect of CSV: the delimiter is one byte
+-- the text of a delimiter is this one byte, or a backslash and a `t` for a tab
+abbrev pub IsDelimiter : Text → ℕ → Type 0
+IsDelimiter text byte = (text ≡ byte ∷ []) ⊎ ((text ≡ codes "\\t") × (byte ≡ 9))
+
+-- the options ask for this dialect of CSV
 pub record AskForDialect (rows : List Row) (dialect : CsvDialect) : Type 0 where
-  pub delimiter : first_of (codes "delimiter") rows ≡ Some (dialect.delimiter ∷ [])
+  pub text : Text
+  pub given : first_of (codes "delimiter") rows ≡ Some text
+  pub delimiter : IsDelimiter text dialect.delimiter
   pub null : first_of (codes "null") rows ≡ Some (string_bytes dialect.null)
 
 -- the options ask for no dialect that is allowed
 abbrev pub HasWrongDialect : List Row → Type 0
-HasWrongDialect rows = (delimiter : ℕ) (null : Text)
-    → first_of (codes "delimiter") rows ≡ Some (delimiter ∷ [])
+HasWrongDialect rows = (text null : Text) (delimiter : ℕ)
+    → first_of (codes "delimiter") rows ≡ Some text → IsDelimiter text delimiter
     → first_of (codes "null") rows ≡ Some null → IsDialect delimiter null → ⊥
 
 -- a number of rows that a batch may be asked to have
@@ -187,12 +194,27 @@ pub record HaveWrongValue (words : List Text) : Type 0 where
   pub entered : subcommand_of arrowstream words ≡ Some (name, rows)
   pub wrong : HasWrongValue name rows
 
--- the message for a word that is no argument says that the word looks like an option, or ends with
--- how a file is read
-abbrev pub Hints : List ℕ → Type 0
-Hints text = IsTrue (starts_with ◌==◌ text (codes "error: unexpected argument '-"))
-    ⊎ ((front : List ℕ) × (text ≡ front
-    ++ codes "\nInput is read from standard input: arrowstream check < FILE\n"))
+-- the subcommand that the second word names, or `check` if it names none
+abbrev pub IsNamed : List Text → Text → Type 0
+IsNamed words name =
+    ((slice_get words 1 ≡ Some name) × (HasLimits name ⊎ (name ≡ codes "from-csv")))
+    ⊎ ((name ≡ codes "check")
+    × ((second : Text) → slice_get words 1 ≡ Some second → IsNoSubcommand second))
+
+-- how the subcommand of this name reads a file
+abbrev pub hint : Text → List ℕ
+hint name =
+    codes "\nInput is read from standard input: arrowstream " ++ name ++ codes " < FILE\n"
+
+-- the message for a word that is no argument or subcommand says that the word looks like an option,
+-- or ends with how a file is read
+abbrev pub Hints : List Text → List ℕ → Type 0
+Hints words text = IsTrue (starts_with ◌==◌ text (codes "error: unexpected argument '-"))
+    ⊎ ((front : List ℕ) × (name : Text) × (text ≡ front ++ hint name) × IsNamed words name)
+
+-- a word is no argument, or no subcommand
+abbrev pub IsUnexpectedWord : ErrorKind → Type 0
+IsUnexpectedWord fault = (fault ≡ kind.UnknownArgument) ⊎ (fault ≡ kind.InvalidSubcommand)
 
 -- why words are no job. They ask for help or the version; or they have another fault, or a value
 -- that is none of its option's; or memory ran out
@@ -202,7 +224,7 @@ AsksNoJob words (usage.Help text) = IsAmong kind.DisplayHelp (fault_of arrowstre
 AsksNoJob words (usage.Wrong text) =
     ((fault : ErrorKind) × IsAmong fault (fault_of arrowstream words)
     × (fault ≢ kind.DisplayHelp) × (fault ≢ kind.DisplayVersion)
-    × (fault ≡ kind.UnknownArgument → Hints (string_bytes text)))
+    × (IsUnexpectedWord fault → Hints words (string_bytes text)))
     ⊎ HaveWrongValue words
 AsksNoJob words usage.OutOfMemory = ⊤
 
@@ -212,18 +234,20 @@ AsksNoJob words usage.OutOfMemory = ⊤
 abbrev pub IsCommand : App → Command → Type 0
 IsCommand app c = (app_of c ≡ app) × ((out-Command c).has_globals ≡ false)
 
--- the usage that is answered to an error of this kind
-abbrev pub IsUsageOf : ErrorKind → Usage → Type 0
-IsUsageOf fault (usage.Help text) = (fault ≡ kind.DisplayHelp) ⊎ (fault ≡ kind.DisplayVersion)
-IsUsageOf fault (usage.Wrong text) = (fault ≢ kind.DisplayHelp) × (fault ≢ kind.DisplayVersion)
-    × (fault ≢ kind.OutOfMemory) × (fault ≡ kind.UnknownArgument → Hints (string_bytes text))
-IsUsageOf fault usage.OutOfMemory = ⊤
+-- the usage that is answered to an error of this kind in the words
+abbrev pub IsUsageOf : List Text → ErrorKind → Usage → Type 0
+IsUsageOf words fault (usage.Help text) =
+    (fault ≡ kind.DisplayHelp) ⊎ (fault ≡ kind.DisplayVersion)
+IsUsageOf words fault (usage.Wrong text) = (fault ≢ kind.DisplayHelp)
+    × (fault ≢ kind.DisplayVersion) × (fault ≢ kind.OutOfMemory)
+    × (IsUnexpectedWord fault → Hints words (string_bytes text))
+IsUsageOf words fault usage.OutOfMemory = ⊤
 
--- the usage for a word that is no argument
-abbrev pub IsHint : Usage → Type 0
-IsHint (usage.Help text) = ⊥
-IsHint (usage.Wrong text) = Hints (string_bytes text)
-IsHint usage.OutOfMemory = ⊤
+-- the usage for a word that is no argument or subcommand
+abbrev pub IsHint : List Text → Usage → Type 0
+IsHint words (usage.Help text) = ⊥
+IsHint words (usage.Wrong text) = Hints words (string_bytes text)
+IsHint words usage.OutOfMemory = ⊤
 
 -- the usage of words that are wrong, unless memory ran out
 abbrev pub IsWrong : Usage → Type 0

@@ -1,11 +1,13 @@
 //! Reads the arguments of a command line.
-ghost use Rattle.std.specs.Prelude.{◌≡◌, ◌≢◌, ◌^◌, ◌-◌, ◌∷◌, [], ℕ, IfErr, IfOk, IfSome, None};
+ghost use Rattle.std.specs.Prelude.{◌≡◌, ◌^◌, ◌-◌, ◌++◌, ℕ, IfErr, IfOk, IfSome, None};
 ghost use Rattle.std.specs.Prelude.{codes, map, string_bytes};
 ghost use Rattle.clap.specs.Words.{found_of, kind_of, rows_of, subcommand_rows_of};
 ghost use Rattle.job_arguments.specs.Arguments.{AskForDialect, AskForLimits, AskForOutput};
 ghost use Rattle.job_arguments.specs.Arguments.{Asks, AsksNoJob};
-ghost use Rattle.job_arguments.specs.Arguments.{IsFound, IsHint, IsInvocationOf, IsJobOf};
+ghost use Rattle.job_arguments.specs.Arguments.{IsFound, IsHint, IsInvocationOf, IsJobOf, IsNamed};
+ghost use Rattle.job_arguments.specs.Arguments.{hint};
 ghost use Rattle.job_arguments.specs.Arguments.{HasCount, HasFlag, HasGoodSize, HasNumber};
+ghost use Rattle.job_arguments.specs.Arguments.{IsDelimiter};
 ghost use Rattle.job_arguments.specs.Arguments.{HasWrongDialect, HasWrongLimit, HasWrongOutput};
 ghost use Rattle.job_arguments.specs.Arguments.{HasWrongValue};
 ghost use Rattle.job_arguments.specs.Arguments.{IsUsageOf, IsWrong, IsWrongFor, IsWrongFound};
@@ -123,13 +125,13 @@ impl From<AllocError> for Usage {
 // The beginning of the message for an unexpected option.
 const OPTION: &[u8] = b"error: unexpected argument '-";
 
-// The end of the message for any other unexpected word.
-const HINT: &str = "\nInput is read from standard input: arrowstream check < FILE\n";
+// The beginning of the end of the message for any other unexpected word.
+const HINT: &str = "\nInput is read from standard input: arrowstream ";
 
 // The message for a dialect of CSV in which a value could be taken for null, or a field from
 // two.
 const DELIMITER: &str = "\
-error: --delimiter takes one ASCII character; for a tab, write $'\\t'
+error: --delimiter takes one ASCII character, or \\t for a tab
 ";
 
 const DIALECT: &str = "\
@@ -139,23 +141,50 @@ delimiter, '\"' or end of a line in it. It does not begin with a digit, or with 
 is not true, false or pairs of hexadecimal digits.
 ";
 
+// The subcommand that the second word names, or `check` if it names none.
+fn subcommand_named(words: &[String]) -> &str
+    ensures { IsNamed (map string_bytes words.now) result.now }
+{
+    let Some(word) = words.get(1) else {
+        return "check";
+    };
+    match word.as_str() {
+        "check" => "check",
+        "show" => "show",
+        "to-csv" => "to-csv",
+        "from-csv" => "from-csv",
+        "rewrite" => "rewrite",
+        _ => "check",
+    }
+}
+
+// A message with how the subcommand of this name reads a file at its end.
+fn with_hint(text: String, name: &str) -> Result<String, AllocError>
+    ensures { IfOk result (λ whole. string_bytes whole ≡ string_bytes text ++ hint name.now) }
+{
+    let mut text = text;
+    text.push_str(HINT)?;
+    text.push_str(name)?;
+    text.push_str(" < FILE\n")?;
+    Ok(text)
+}
+
 // The message for an unexpected word. If the word is no option, it ends with how a file is read.
-fn unknown_argument(text: String) -> Usage
-    ensures { IsHint result }
+fn unexpected_word(words: &[String], text: String) -> Usage
+    ensures { IsHint (map string_bytes words.now) result }
 {
     if text.as_bytes().starts_with(OPTION) {
         return Usage::Wrong(text);
     }
-    let mut text = text;
-    match text.push_str(HINT) {
-        Ok(()) => Usage::Wrong(text),
+    match with_hint(text, subcommand_named(words)) {
+        Ok(text) => Usage::Wrong(text),
         Err(_) => Usage::OutOfMemory,
     }
 }
 
 // The message for a refused command line.
-fn usage_of(alloc: Global, error: &Error) -> Usage
-    ensures { IsUsageOf (kind_of error.now) result }
+fn usage_of(alloc: Global, words: &[String], error: &Error) -> Usage
+    ensures { IsUsageOf (map string_bytes words.now) (kind_of error.now) result }
 {
     let Ok(text) = format!(in alloc; "{error}") else {
         return Usage::OutOfMemory;
@@ -163,7 +192,7 @@ fn usage_of(alloc: Global, error: &Error) -> Usage
     match error.kind() {
         ErrorKind::DisplayHelp | ErrorKind::DisplayVersion => Usage::Help(text),
         ErrorKind::OutOfMemory => Usage::OutOfMemory,
-        ErrorKind::UnknownArgument => unknown_argument(text),
+        ErrorKind::UnknownArgument | ErrorKind::InvalidSubcommand => unexpected_word(words, text),
         _ => Usage::Wrong(text),
     }
 }
@@ -258,13 +287,14 @@ fn read_output(alloc: Global, options: &ArgMatches<'_>) -> Result<OutputLimits, 
     })
 }
 
-// The only byte of a text that has one.
-fn only_byte(text: &str) -> Option<u8>
-    ensures some { IfSome result (λ byte. text.now ≡ byte ∷ []) }
-    ensures none { result ≡ None → (byte : ℕ) → text.now ≢ byte ∷ [] }
+// The delimiter that a text names: its only byte, or a tab for a backslash and a `t`.
+fn delimiter_of(text: &str) -> Option<u8>
+    ensures some { IfSome result (IsDelimiter text.now) }
+    ensures none { result ≡ None → (byte : ℕ) → IsDelimiter text.now byte → ⊥ }
 {
     match text.as_bytes() {
         [byte] => Some(*byte),
+        [b'\\', b't'] => Some(b'\t'),
         _ => None,
     }
 }
@@ -281,7 +311,7 @@ fn read_dialect(alloc: Global, options: &ArgMatches<'_>) -> Result<CsvDialect, U
     let Some(null) = options.get_str("null") else {
         return Err(wrong(alloc, "error: --null has no value\n"));
     };
-    let Some(byte) = only_byte(delimiter) else {
+    let Some(byte) = delimiter_of(delimiter) else {
         return Err(wrong(alloc, DELIMITER));
     };
     let null = String::from_str(alloc, null)?;
@@ -426,7 +456,7 @@ fn read<'a>(alloc: Global, words: &'a [String]) -> Result<Invocation, Usage>
     let command: Command<'a> = command(alloc)?;
     match command.try_get_matches_from(words) {
         Ok(matches) => invocation_of(alloc, &matches),
-        Err(error) => Err(usage_of(alloc, &error)),
+        Err(error) => Err(usage_of(alloc, words, &error)),
     }
 }
 
@@ -440,7 +470,8 @@ pub fn read_words(alloc: Global, words: Vec<String>) -> Result<Invocation, Usage
     ensures asked { IfOk result (Asks (map string_bytes words.items)) }
     // Help is answered only if help or the version is asked for. `Wrong` is answered only if `clap`
     // refuses the words for another fault, or takes them and a value is none that its option takes.
-    // For a word that is no argument and no option, its text ends with how a file is read.
+    // For a word that is no argument, subcommand or option, its text ends with how the subcommand
+    // that the second word names, or else `check`, reads a file.
     ensures refused { IfErr result (AsksNoJob (map string_bytes words.items)) }
     // A batch has from 1 to 2^31 - 1 rows.
     ensures size { IfOk result (λ asked. HasGoodSize asked.job) }

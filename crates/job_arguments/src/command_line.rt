@@ -300,7 +300,7 @@ fn with_dialect<'a>(alloc: Global, command: Command<'a>) -> Result<Command<'a>, 
             "delimiter",
             "C",
             ",",
-            "Field separator: one ASCII character that occurs in no value",
+            "Field separator: one ASCII character that occurs in no value; \\t is a tab",
         ))?
         .arg(text(
             alloc,

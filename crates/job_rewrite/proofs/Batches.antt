@@ -12,8 +12,8 @@ use Rattle.ipc_model.specs.declared.limits.Limits.{Limits}
 use Rattle.ipc_model.specs.declared.table.BatchRows.{BatchRows}
 use Rattle.ipc_stream_read.specs.declared.end.End.{End}
 use Rattle.ipc_stream_read.specs.declared.end.End.TheVariants.{Closed, Mark}
-use Rattle.ipc_stream_read.specs.declared.stream_phase.StreamPhase.{StreamPhase}
-use Rattle.ipc_stream_read.specs.declared.stream_phase.StreamPhase.TheVariants.{Reading, Ended, Refused}
+use Rattle.ipc_stream_read.specs.Reader.{StreamPhase}
+use Rattle.ipc_stream_read.specs.Reader.{Reading, Ended, Refused}
 use Rattle.ipc_stream_read.specs.Found.{ReadRows, batch_rows}
 use Rattle.ipc_stream_read.specs.Decoding.{ReportsLastEvent}
 use Rattle.ipc_stream_read.specs.Reader.{EndsBehind, LeadsTo, Reader, end_of, in_force_of, NextAnswer, NextCall}

@@ -4,7 +4,7 @@ ghost use Rattle.std.specs.Prelude.{Some, false};
 ghost use Rattle.ipc_model.specs.declared.limits.Limits.{Limits};
 ghost use Rattle.ipc_model.specs.declared.table.Table.{Table};
 ghost use Rattle.ipc_stream_read.specs.declared.end.End.TheVariants.{Closed, Mark};
-ghost use Rattle.ipc_stream_read.specs.declared.stream_phase.StreamPhase.TheVariants.{Reading};
+ghost use Rattle.ipc_stream_read.specs.Reader.{Reading};
 ghost use Rattle.ipc_stream_read.specs.Found.{batch_rows};
 ghost use Rattle.ipc_stream_read.specs.Reader.{Opens};
 ghost use Rattle.ipc_stream_read.specs.Stream.{Denotes};

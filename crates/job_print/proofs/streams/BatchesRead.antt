@@ -9,8 +9,8 @@ use Rattle.ipc_model.specs.declared.fault.Fault.{Fault}
 use Rattle.ipc_model.specs.declared.value.Value.{Value}
 use Rattle.ipc_stream_read.specs.Found.{ReadRows, batch_rows}
 use Rattle.ipc_stream_read.specs.declared.end.End.{End}
-use Rattle.ipc_stream_read.specs.declared.stream_phase.StreamPhase.{StreamPhase}
-use Rattle.ipc_stream_read.specs.declared.stream_phase.StreamPhase.TheVariants.{Reading}
+use Rattle.ipc_stream_read.specs.Reader.{StreamPhase}
+use Rattle.ipc_stream_read.specs.Reader.{Reading}
 use Rattle.ipc_stream_read.specs.Failures.{CountsFault}
 use Rattle.ipc_stream_read.specs.Reader.{EndsBehind, Reader, in_force_of, NextCall, end_of}
 use Rattle.ipc_stream_read.specs.Stream.{batch, done}

@@ -5,8 +5,8 @@ use Rattle.ipc_model.specs.declared.fault.Fault.{Fault}
 use Rattle.ipc_model.specs.declared.limits.Limits.{Limits}
 use Rattle.ipc_model.specs.declared.table.BatchRows.{BatchRows}
 use Rattle.ipc_stream_read.specs.declared.end.End.{End}
-use Rattle.ipc_stream_read.specs.declared.stream_phase.StreamPhase.{StreamPhase}
-use Rattle.ipc_stream_read.specs.declared.stream_phase.StreamPhase.TheVariants.{Reading, Ended, Refused}
+use Rattle.ipc_stream_read.specs.Reader.{StreamPhase}
+use Rattle.ipc_stream_read.specs.Reader.{Reading, Ended, Refused}
 use Rattle.ipc_stream_read.specs.Counts.{count_up, messages_in}
 use Rattle.ipc_stream_read.specs.Decoding.{ReportsLastEvent}
 use Rattle.ipc_stream_read.specs.Found.{ReadRows, batch_rows}

@@ -11,11 +11,11 @@ pub returns-in_err-head : goal.returns-in_err-head
 returns-in_err-head c =
     let p = err_from_is_err_and c.from_residual.result c.from_residual.ensures.1 in
     rw (p.1, p.2) (λ ne. absurd (ne (c.in_err-head.ensures.only c.requires.head c.args.size
-    (rw c.deref.ensures.value c.requires.states))))
+    (rw c.as_slice.ensures c.requires.states))))
 
 pub returns : goal.returns
 returns c =
-    let states = subst (λ z. HeadOf c.args.limits.now z c.in_ok-head.head c.in_ok-head.field-0-1) c.deref.ensures.value
+    let states = subst (λ z. HeadOf c.args.limits.now z c.in_ok-head.head c.in_ok-head.field-0-1) c.as_slice.ensures
     c.in_ok-head.ensures.finds in
     whole_body c.args.limits.now c.args.parts.now c.args.size c.requires _ c.in_ok-head.head (omega arith) states
-    (c.in_ok-head.ensures.only c.requires.head c.args.size (rw c.deref.ensures.value c.requires.states)).1
+    (c.in_ok-head.ensures.only c.requires.head c.args.size (rw c.as_slice.ensures c.requires.states)).1

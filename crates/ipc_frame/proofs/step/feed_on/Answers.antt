@@ -1,65 +1,62 @@
-use Rattle.std.proofs.Common.{◌∙◌, sym, ◌+◌, ◌≤◌, length, arith, subst, Ok}
-use Rattle.ipc_frame.specs.Parts.{bytes_needed, received_bytes}
-use Rattle.ipc_frame.specs.Steps.{Concludes}
-use Rattle.ipc_frame.specs.declared.step.MessageStep.TheVariants.{More}
-use Rattle.ipc_frame.proofs.Grown.{grows_concluded, grows_none, grows_on, no_fewer}
-use Rattle.ipc_frame.proofs.Sized.{feeding_sized}
-use Rattle.ipc_frame.proofs.Stepped.{err_from, ok_from, feeds_more, feeds_whole, feeds_refused, feeds_all}
+use Rattle.std.proofs.Common.{◌∙◌, sym, ap, ◌+◌, ◌≤◌, length, arith, subst, Ok, None}
+use Rattle.std.proofs.lemmas.Result.{err_from_is_err_and}
+use Rattle.ipc_frame.specs.Parts.{bytes_needed, capacity_of, received_bytes}
+use Rattle.ipc_frame.specs.Pieces.{Concludes, held_of, progress_of}
+use Rattle.ipc_frame.proofs.Grown.{grows_concluded, grows_on, no_fewer}
+use Rattle.ipc_frame.proofs.Stepped.{err_from, ok_from, feeds_all, feeds_more, feeds_refused, feeds_sized, feeds_whole}
 use Rattle.ipc_frame.proofs.step.feed_on.Goals as goal
 
+pub returns-then-taken-piece-clause-feeds : goal.returns-then-taken-piece-clause-feeds
+returns-then-taken-piece-clause-feeds c = feeds_all _ _ _ _ _ _ c.loop-phase.invariant.0 _ c.in-Reading.is (omega arith)
+
 pub returns-then-is_err-clause-memory : goal.returns-then-is_err-clause-memory
-returns-then-is_err-clause-memory c =
-    λ is. feeding_sized _ _ _ _ _ _ c.loop-taken.invariant.0
+returns-then-is_err-clause-memory c = λ is. feeds_sized _ _ _ _ _ _ c.loop-phase.invariant.0 _ c.in-Reading.is
     (err_from c.extend.result (sym c.is_err.ensures.value ∙ c.if-is_err.true) c.extend.ensures.memory)
 
-pub loop-taken-preserved : goal.loop-taken-preserved
-loop-taken-preserved c =
-    let small : c.min-count.result ≤ bytes_needed c.loop-taken.parts c.loop-taken.expectation =
+pub returns-in_err-frame-clause-feeds : goal.returns-in_err-frame-clause-feeds
+returns-in_err-frame-clause-feeds c =
+    let p = err_from_is_err_and c.from_residual.result c.from_residual.ensures.1 in
+    let small : c.min-count.result ≤ bytes_needed c.loop-phase.parts c.in-Reading.expectation =
     omega (arith, c.min-count.ensures, c.bytes_needed.ensures) in
-    let fits : c.loop-taken.taken + c.min-count.result ≤ length c.args.piece.now =
-    omega (arith, c.min-count.ensures, c.loop-taken.invariant.0.within) in
+    let fits : c.loop-phase.taken + c.min-count.result ≤ length c.args.piece.now =
+    omega (arith, c.min-count.ensures, c.loop-phase.invariant.0.within) in
     let bytes = ok_from c.extend.result (sym c.is_err.ensures.value ∙ c.if-is_err.false) c.extend.ensures.bytes in
-    let concludes = subst (λ s. Concludes c.args.limits.now (received_bytes c.extend.new.parts) c.conclude.new.parts (Ok s))
-    c.in-Ok-More.field-0-is c.in-Ok-More.ensures.concludes in
-    let room = grows_on _ _ _ _ _ (no_fewer _ _ _ bytes) c.loop-taken.invariant.1
-    (ok_from c.extend.result (sym c.is_err.ensures.value ∙ c.if-is_err.false) c.extend.ensures.room) in (
-      feeds_more _ _ _ _ c.conclude.new.parts _ _ _ c.loop-taken.invariant.0 small fits _ bytes c.in-Ok-More.next concludes,
-      grows_concluded c.args.limits.now _ c.extend.new.parts c.conclude.new.parts (Ok (More c.in-Ok-More.next)) room concludes
-          c.in-Ok-More.ensures.room,
+    rw (p.1, p.2)
+    (feeds_refused _ _ _ _ _ _ c.loop-phase.invariant.0 _ c.in-Reading.is _ small fits _ bytes _ c.in_err-frame.field-0.0
+    c.in_err-frame.ensures.concludes)
+
+pub returns-in_err-frame-clause-memory : goal.returns-in_err-frame-clause-memory
+returns-in_err-frame-clause-memory c =
+    let p = err_from_is_err_and c.from_residual.result c.from_residual.ensures.1 in
+    rw (p.1, p.2) (λ is. feeds_sized _ _ _ _ _ _ c.loop-phase.invariant.0 _ c.in-Reading.is (c.in_err-frame.ensures.memory is))
+
+pub returns-in-Some-clause-feeds : goal.returns-in-Some-clause-feeds
+returns-in-Some-clause-feeds c =
+    let small : c.min-count.result ≤ bytes_needed c.loop-phase.parts c.in-Reading.expectation =
+    omega (arith, c.min-count.ensures, c.bytes_needed.ensures) in
+    let fits : c.loop-phase.taken + c.min-count.result ≤ length c.args.piece.now =
+    omega (arith, c.min-count.ensures, c.loop-phase.invariant.0.within) in
+    let bytes = ok_from c.extend.result (sym c.is_err.ensures.value ∙ c.if-is_err.false) c.extend.ensures.bytes in
+    feeds_whole _ _ _ _ _ _ c.loop-phase.invariant.0 _ c.in-Reading.is _ small fits _ bytes _ c.in-Some.frame
+    (subst (λ f. Concludes c.args.limits.now (received_bytes c.extend.new.parts)
+    (progress_of c.conclude.new.parts c.conclude.new.phase) (Ok f)) c.in-Some.is c.in_ok-frame.ensures.concludes)
+
+pub loop-phase-preserved : goal.loop-phase-preserved
+loop-phase-preserved c =
+    let small : c.min-count.result ≤ bytes_needed c.loop-phase.parts c.in-Reading.expectation =
+    omega (arith, c.min-count.ensures, c.bytes_needed.ensures) in
+    let fits : c.loop-phase.taken + c.min-count.result ≤ length c.args.piece.now =
+    omega (arith, c.min-count.ensures, c.loop-phase.invariant.0.within) in
+    let no_error = sym c.is_err.ensures.value ∙ c.if-is_err.false in
+    let bytes = ok_from c.extend.result no_error c.extend.ensures.bytes in
+    let longer : length (received_bytes c.loop-phase.parts) ≤ length (received_bytes c.extend.new.parts) = no_fewer _ _ _ bytes in
+    let more : held_of (progress_of c.loop-phase.parts c.loop-phase.phase) ≤ length (received_bytes c.extend.new.parts) =
+    omega (arith, longer, ap (λ s. held_of (progress_of c.loop-phase.parts s)) c.in-Reading.is) in
+    let concludes = subst (λ f. Concludes c.args.limits.now (received_bytes c.extend.new.parts)
+    (progress_of c.conclude.new.parts c.conclude.new.phase) (Ok f)) c.in_default.is c.in_ok-frame.ensures.concludes in (
+      feeds_more _ _ _ _ _ _ c.loop-phase.invariant.0 _ c.in-Reading.is _ small fits _ bytes _ _ c.conclude.ensures.sound concludes,
+      grows_concluded c.args.limits.now (capacity_of c.args.parts.now) (capacity_of c.extend.new.parts)
+          (capacity_of c.conclude.new.parts) _ (progress_of c.conclude.new.parts c.conclude.new.phase) (Ok None)
+          (grows_on _ _ _ _ _ more c.loop-phase.invariant.1 (ok_from c.extend.result no_error c.extend.ensures.room))
+          c.conclude.ensures.room concludes tt,
     )
-
-pub returns-in-Ok-Whole-clause-feeds : goal.returns-in-Ok-Whole-clause-feeds
-returns-in-Ok-Whole-clause-feeds c =
-    let small : c.min-count.result ≤ bytes_needed c.loop-taken.parts c.loop-taken.expectation =
-    omega (arith, c.min-count.ensures, c.bytes_needed.ensures) in
-    let fits : c.loop-taken.taken + c.min-count.result ≤ length c.args.piece.now =
-    omega (arith, c.min-count.ensures, c.loop-taken.invariant.0.within) in
-    let bytes = ok_from c.extend.result (sym c.is_err.ensures.value ∙ c.if-is_err.false) c.extend.ensures.bytes in
-    feeds_whole _ _ _ _ c.conclude.new.parts _ _ _ c.loop-taken.invariant.0 small fits _ bytes c.in-Ok-Whole.frame
-    (subst (λ s. Concludes c.args.limits.now (received_bytes c.extend.new.parts) c.conclude.new.parts (Ok s)) c.in-Ok-Whole.field-0-is
-    c.in-Ok-Whole.ensures.concludes)
-
-pub returns-in-Ok-Whole-clause-room : goal.returns-in-Ok-Whole-clause-room
-returns-in-Ok-Whole-clause-room c =
-    let concludes = subst (λ s. Concludes c.args.limits.now (received_bytes c.extend.new.parts) c.conclude.new.parts (Ok s))
-    c.in-Ok-Whole.field-0-is c.in-Ok-Whole.ensures.concludes in
-    grows_none _ _ _ concludes.room
-
-pub returns-in-Err-clause-feeds : goal.returns-in-Err-clause-feeds
-returns-in-Err-clause-feeds c =
-    let small : c.min-count.result ≤ bytes_needed c.loop-taken.parts c.loop-taken.expectation =
-    omega (arith, c.min-count.ensures, c.bytes_needed.ensures) in
-    let fits : c.loop-taken.taken + c.min-count.result ≤ length c.args.piece.now =
-    omega (arith, c.min-count.ensures, c.loop-taken.invariant.0.within) in
-    let bytes = ok_from c.extend.result (sym c.is_err.ensures.value ∙ c.if-is_err.false) c.extend.ensures.bytes in
-    feeds_refused _ _ _ _ c.conclude.new.parts _ _ _ c.loop-taken.invariant.0 small fits _ bytes c.in-Err.fault c.in-Err.ensures.concludes
-
-pub returns-in-Err-clause-memory : goal.returns-in-Err-clause-memory
-returns-in-Err-clause-memory c =
-    λ is. feeding_sized _ _ _ _ _ _ c.loop-taken.invariant.0 (c.in-Err.ensures.memory is)
-
-pub returns-clause-feeds : goal.returns-clause-feeds
-returns-clause-feeds c = feeds_all _ _ _ _ _ _ c.loop-taken.invariant.0 (omega arith)
-
-pub returns-clause-room : goal.returns-clause-room
-returns-clause-room c = c.loop-taken.invariant.1

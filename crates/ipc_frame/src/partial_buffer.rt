@@ -6,29 +6,29 @@ use ipc_device::Source;
 use ipc_model::Fault;
 use std::alloc::{AllocError, Global};
 
-// The bytes of a body that came, at the front of a buffer. The bytes after them, old or cleared,
-// are overwritten by the next reads.
+// The bytes of a message's metadata or body that came, at the front of a buffer. The bytes after
+// them, old or cleared, are overwritten by the next reads.
 #[derive(Drop)]
-pub struct Body {
+pub struct PartialBuffer {
     list: Vec<u8>,
     len: usize,
     ghost within: { len ≤ vec_len list },
 }
 
-impl Body {
+impl PartialBuffer {
     ghost use Rattle.std.specs.Prelude.{◌≡◌, ◌<◌, ◌≤◌, ◌+◌, ◌*◌, ◌^◌, ◌++◌, [], length, max, IfErr};
     ghost use Rattle.std.specs.Prelude.{IfOk, OnErr, OnOk, vec_capacity};
     ghost use Rattle.std.specs.Io.KnownBytes.{Keeps};
-    ghost use Rattle.ipc_frame.specs.Bodies.{KeepsOne, body_bytes};
+    ghost use Rattle.ipc_frame.specs.Buffers.{KeepsOne, filled_bytes};
     ghost use Rattle.ipc_frame.specs.Failures.{FailsAs, IsOutside};
     ghost use Rattle.ipc_frame.specs.Pulled.{Comes};
 
     // With no byte.
-    pub fn new(alloc: Global) -> Body
-        ensures came { body_bytes result ≡ [] }
+    pub fn new(alloc: Global) -> PartialBuffer
+        ensures came { filled_bytes result ≡ [] }
         ensures room { vec_capacity result.list ≡ 0 }
     {
-        Body {
+        PartialBuffer {
             list: Vec::new(alloc),
             len: 0,
         }
@@ -36,17 +36,24 @@ impl Body {
 
     // How many bytes came.
     pub fn len(&self) -> usize
-        ensures len { result ≡ length (body_bytes self.now) }
+        ensures len { result ≡ length (filled_bytes self.now) }
         ensures small { result < 2 ^ 63 }
     {
         self.len
     }
 
+    // The bytes that came.
+    pub fn as_slice(&self) -> &[u8]
+        ensures { result.now ≡ filled_bytes self.now }
+    {
+        &self.list[..self.len]
+    }
+
     // Appends bytes to those that came.
     pub fn extend(&mut self, bytes: &[u8]) -> Result<(), AllocError>
-        ensures came { OnOk result (body_bytes self.new ≡ body_bytes self.old ++ bytes.now) }
+        ensures came { OnOk result (filled_bytes self.new ≡ filled_bytes self.old ++ bytes.now) }
         ensures few { OnOk result (vec_capacity self.new.list
-            ≤ max (vec_capacity self.old.list) (2 * length (body_bytes self.new) + MAX_CLEARED)) }
+            ≤ max (vec_capacity self.old.list) (2 * length (filled_bytes self.new) + MAX_CLEARED)) }
     {
         self.list.truncate(self.len);
         append(&mut self.list, bytes)?;
@@ -59,7 +66,7 @@ impl Body {
     fn make_place(&mut self, wanted: usize) -> Result<(), AllocError>
         requires { 0 < wanted }
         ensures place { OnOk result (self.new.len < vec_len self.new.list) }
-        ensures came { body_bytes self.new ≡ body_bytes self.old }
+        ensures came { filled_bytes self.new ≡ filled_bytes self.old }
         ensures few { OnOk result (vec_capacity self.new.list
             ≤ max (vec_capacity self.old.list) (2 * self.old.len + MAX_CLEARED)) }
     {
@@ -77,13 +84,13 @@ impl Body {
     pub fn read<R: Source>(&mut self, source: &mut R, wanted: usize) -> Result<usize, Fault>
         requires { 0 < wanted }
         ensures comes { IfOk result (λ k. Comes (R.remaining source.old)
-            (R.remaining source.new) (body_bytes self.old) (body_bytes self.new) wanted k) }
+            (R.remaining source.new) (filled_bytes self.old) (filled_bytes self.new) wanted k) }
         ensures fewer { IfOk result (λ k. (R.bound source.new + k) ≤ R.bound source.old) }
         ensures lost { OnErr result (Keeps (R.remaining source.old) (R.remaining source.new)) }
         ensures only { IfErr result IsOutside }
         ensures failures { FailsAs (R.failures source.old) (R.failures source.new) result }
         ensures few { OnOk result (vec_capacity self.new.list
-            ≤ max (vec_capacity self.old.list) (2 * length (body_bytes self.new) + MAX_CLEARED)) }
+            ≤ max (vec_capacity self.old.list) (2 * length (filled_bytes self.new) + MAX_CLEARED)) }
     {
         self.make_place(wanted)?;
         let room = (self.list.len() - self.len).min(wanted);
@@ -94,9 +101,9 @@ impl Body {
 
     // Takes a buffer to read over, if no byte came and it has more room than the one that is there.
     pub fn reuse(&mut self, list: Vec<u8>)
-        ensures came { body_bytes self.new ≡ body_bytes self.old }
+        ensures came { filled_bytes self.new ≡ filled_bytes self.old }
         ensures kept { KeepsOne
-            ((body_bytes self.old ≡ []) × (vec_capacity self.old.list < vec_capacity list))
+            ((filled_bytes self.old ≡ []) × (vec_capacity self.old.list < vec_capacity list))
             (vec_capacity self.old.list) (vec_capacity self.new.list) (vec_capacity list) }
     {
         if self.len == 0 && self.list.capacity() < list.capacity() {
@@ -106,9 +113,9 @@ impl Body {
 
     // The bytes that came.
     pub fn into_list(self) -> Vec<u8>
-        ensures { result.items ≡ body_bytes self }
+        ensures { result.items ≡ filled_bytes self }
     {
-        let Body { list, len } = self;
+        let PartialBuffer { list, len } = self;
         let mut list = list;
         list.truncate(len);
         list

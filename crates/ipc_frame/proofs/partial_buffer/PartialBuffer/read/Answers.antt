@@ -1,6 +1,6 @@
 use Rattle.std.proofs.Common.{ap, arith, length, ◌∙◌}
 use Rattle.ipc_frame.proofs.Held.{behind_whole, comes_in}
-use Rattle.ipc_frame.proofs.body.Body.read.Goals as goal
+use Rattle.ipc_frame.proofs.partial_buffer.PartialBuffer.read.Goals as goal
 
 pub returns-clause-comes : goal.returns-clause-comes
 returns-clause-comes g c =

@@ -1,5 +1,5 @@
 use Rattle.std.proofs.Common.{arith, length-take}
-use Rattle.ipc_frame.proofs.body.Body.len.Goals as goal
+use Rattle.ipc_frame.proofs.partial_buffer.PartialBuffer.len.Goals as goal
 
 pub returns-clause-len : goal.returns-clause-len
 returns-clause-len c =
