@@ -1,5 +1,5 @@
 -- Columns whose buffers were found.
-use Rattle.std.proofs.Common.{◌≡◌, ◌∙◌, sym, ap, subst, ℕ, ◌+◌, ◌<◌, List, length, get_or, arith, Some, refl, []}
+use Rattle.std.proofs.Common.{◌≡◌, ◌∙◌, sym, ap, subst, ℕ, ◌+◌, ◌<◌, List, length, get_or, arith, Some, []}
 use Rattle.std.specs.Prelude.{slice_get}
 use Rattle.std.proofs.lemmas.Bool.{and_parts, eqb-true}
 use Rattle.ipc_model.specs.declared.value.Value.{Value}
@@ -75,28 +75,3 @@ found_is body p v o w d ev eo ew ed P h =
     rw (ev, eo, ew, ed)
     (subst (λ (cs : Columns). P (without_null_count (own_column body p)) cs) (children_out body p)
     (subst (λ (c : Column). P (without_null_count c) (children_of body p)) (column_is body p) h))
-
-pub found_holds : (body : List ℕ) (p : ColumnRanges) (v o w : List ℕ) (d : List Value) → v ≡ span_bytes body (out-ColumnRanges p).validity
-    → o ≡ span_bytes body (out-ColumnRanges p).offsets → w ≡ span_bytes body (out-ColumnRanges p).values
-    → d ≡ (out-ColumnRanges p).dictionary
-    → HoldSlots (column_of body p) (children_of body p)
-    → HoldSlots (column_of_buffers (out-ColumnRanges p).layout (out-ColumnRanges p).slots v o w d)
-    (part_columns body (out-ColumnRanges p).children.items)
-found_holds body p v o w d ev eo ew ed h = found_is body p v o w d ev eo ew ed HoldSlots (record {
-  bitmap = h.bitmap;
-  values = h.values;
-  offsets = h.offsets;
-  order = h.order;
-  long = h.long;
-  sound = h.sound;
-  good = h.good;
-})
-
-pub found_values : (body : List ℕ) (p : ColumnRanges) (v o w : List ℕ) (d : List Value) → v ≡ span_bytes body (out-ColumnRanges p).validity
-    → o ≡ span_bytes body (out-ColumnRanges p).offsets → w ≡ span_bytes body (out-ColumnRanges p).values
-    → d ≡ (out-ColumnRanges p).dictionary
-    → values_in (column_of_buffers (out-ColumnRanges p).layout (out-ColumnRanges p).slots v o w d)
-    (part_columns body (out-ColumnRanges p).children.items)
-    ≡ values_in (column_of body p) (children_of body p)
-found_values body p v o w d ev eo ew ed =
-    found_is body p v o w d ev eo ew ed (λ c cs. values_in c cs ≡ values_in (column_of body p) (children_of body p)) refl

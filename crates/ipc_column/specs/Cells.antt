@@ -1,15 +1,8 @@
 -- The values of cells (Arrow Columnar Format, "Physical Memory Layout").
-use Rattle.std.specs.Prelude.{Bool, true, false}
 use Rattle.ipc_model.specs.declared.value.Value.{Value}
 use Rattle.ipc_model.specs.declared.value.Value.TheVariants as v
 use Rattle.ipc_column.specs.declared.cell.Cell.{Cell}
 use Rattle.ipc_column.specs.declared.cell.Cell.TheVariants as cell
-
--- the cell is neither a list nor a struct
-abbrev pub is_leaf : Cell → Bool
-is_leaf (cell.List values) = false
-is_leaf (cell.Struct values) = false
-is_leaf _ = true
 
 -- the value of a cell
 abbrev pub cell_value : Cell → Value

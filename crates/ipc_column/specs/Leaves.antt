@@ -1,5 +1,6 @@
 -- Single columns without children, over a body that batches share (Arrow Columnar Format,
 -- "Dictionary Messages").
+use Rattle.std.specs.Borrow.{Bor}
 use Rattle.std.specs.Prelude.{◌≡◌, true, Option, Some, None, [], ⊤}
 use Rattle.ipc_column.specs.declared.dictionary.Leaf.{Leaf}
 use Rattle.ipc_column.specs.Columns.{Column, none}
@@ -17,6 +18,11 @@ leaf_column f = column_of_buffers f.layout f.slots (span_bytes f.body.value.item
 abbrev pub leaf_values : Option Leaf → Cells
 leaf_values None = []
 leaf_values (Some f) = values_in (leaf_column f) none
+
+-- the values of a dictionary, or none if there is no dictionary
+abbrev pub values_or_none : Option (Bor Cells) → Cells
+values_or_none None = []
+values_or_none (Some values) = values.now
 
 -- a leaf's buffers have the bytes that its slots need, and its column stores its values itself
 pub record IsLeafColumn (f : Leaf) : Type 0 where

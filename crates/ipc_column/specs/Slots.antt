@@ -1,7 +1,8 @@
 -- The content of slots by themselves (Arrow Columnar Format, "Physical Memory Layout").
 use Rattle.std.specs.Borrow.{Bor}
-use Rattle.std.specs.Prelude.{ℕ, ◌-◌, ◌<◌, ◌≤◌, Bool, true, false, List, map, take, ⊤}
+use Rattle.std.specs.Prelude.{◌≡◌, ℕ, ◌+◌, ◌-◌, ◌<◌, ◌≤◌, Bool, true, false, List, map, take, ⊤}
 use Rattle.std.specs.Prelude.{Option, Some, None}
+use Rattle.std.specs.Str.{is_utf8}
 use Rattle.ipc_model.specs.declared.value.Value.{Value}
 use Rattle.ipc_model.specs.declared.value.Value.TheVariants as v
 use Rattle.ipc_column.specs.declared.ranges.ColumnRanges.{ColumnRanges}
@@ -9,7 +10,7 @@ use Rattle.ipc_column.specs.declared.ranges.ColumnRanges.TheViews.{out-ColumnRan
 use Rattle.ipc_column.specs.declared.slot_view.Slot.{Slot}
 use Rattle.ipc_column.specs.declared.slot_view.Slot.TheVariants as slot
 use Rattle.ipc_column.specs.Columns.{Columns, EachTop}
-use Rattle.ipc_column.specs.Lent.{without_null_count}
+use Rattle.ipc_column.specs.Lent.{HaveValues, without_null_count}
 use Rattle.ipc_column.specs.Nested.{Nested}
 use Rattle.ipc_column.specs.Values.{items, first_of}
 use Rattle.ipc_column.specs.Views.{column_of}
@@ -47,6 +48,29 @@ HasChildSlots children i (slot.Int number) = ⊤
 HasChildSlots children i (slot.UInt number) = ⊤
 HasChildSlots children i (slot.Bytes bytes) = ⊤
 HasChildSlots children i (slot.Text bytes) = ⊤
+
+-- what slot i refers to has values: its text is UTF-8, and the children's slots have values
+-- (`HaveValues`)
+abbrev pub RefersToValues : Columns → ℕ → Slot → Type 0
+RefersToValues children i (slot.List from to) = HaveValues children from to
+RefersToValues children i slot.Struct = HaveValues children i (i + 1)
+RefersToValues children i slot.Null = ⊤
+RefersToValues children i (slot.Bool truth) = ⊤
+RefersToValues children i (slot.Int number) = ⊤
+RefersToValues children i (slot.UInt number) = ⊤
+RefersToValues children i (slot.Bytes bytes) = ⊤
+RefersToValues children i (slot.Text bytes) = is_utf8 bytes.now ≡ true
+
+-- the slot refers to no slot of a child, and its text is UTF-8
+abbrev pub IsLeaf : Slot → Type 0
+IsLeaf (slot.List from to) = ⊥
+IsLeaf slot.Struct = ⊥
+IsLeaf slot.Null = ⊤
+IsLeaf (slot.Bool truth) = ⊤
+IsLeaf (slot.Int number) = ⊤
+IsLeaf (slot.UInt number) = ⊤
+IsLeaf (slot.Bytes bytes) = ⊤
+IsLeaf (slot.Text bytes) = is_utf8 bytes.now ≡ true
 
 -- the column of a part, over the body, with its children
 abbrev pub nested : List ℕ → ColumnRanges → Nested

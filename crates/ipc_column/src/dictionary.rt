@@ -2,21 +2,22 @@
 ghost use Rattle.std.specs.Prelude.{◌≡◌, ◌<◌, ◌≤◌, ◌+◌, ◌*◌, ℕ, List, length, map, true, [], IfOk};
 ghost use Rattle.std.specs.Prelude.{IsTrue, Some, slice_get, IfSome, IfNone};
 ghost use Rattle.ipc_model.specs.Layouts.{number_bytes};
-ghost use Rattle.ipc_column.specs.Cells.{cell_value, is_leaf};
+ghost use Rattle.ipc_model.specs.declared.value.Value.{Value};
+ghost use Rattle.ipc_column.specs.Slots.{IsLeaf, value_in_slot};
 ghost use Rattle.ipc_column.specs.checks.Checks.{PassTests};
 ghost use Rattle.ipc_column.specs.Columns.{none};
 ghost use Rattle.ipc_column.specs.Dictionaries.{has_no_children};
-ghost use Rattle.ipc_column.specs.Leaves.{IsLeafColumn, leaf_column};
+ghost use Rattle.ipc_column.specs.Leaves.{IsLeafColumn, leaf_column, values_or_none};
 ghost use Rattle.ipc_column.specs.Lending.{AreAlone};
 ghost use Rattle.ipc_column.specs.Lent.{values_in};
 ghost use Rattle.ipc_column.specs.Nested.{slot_values};
 ghost use Rattle.ipc_column.specs.Values.{first_of, number_in, row, rows_of, value_at, value_of};
 ghost use Rattle.ipc_column.specs.Views.{part_columns};
 
-use crate::cell::{Cell, is_valid_in, leaf_cell};
+use crate::bitmaps::is_valid;
 use crate::fixed::index_in;
 use crate::ranges::{BufferRange, ColumnRanges, bytes_at};
-use crate::slot_view::{SlotView, slots_of_buffers};
+use crate::slot_view::{Slot, SlotView, leaf_slot, leaf_slots};
 use ipc_model::{IntBits, Layout};
 use std::alloc::AllocError;
 use std::marker::Model;
@@ -80,54 +81,53 @@ impl DictionaryValues {
         ensures none { IfNone result (self.now ≡ []) }
     {
         match &self.leaf {
-            Some(leaf) => Some(leaf_slots(leaf, self)),
+            Some(leaf) => Some(slots_of(leaf)),
             None => None,
         }
     }
 
-    /// Lends value `i`.
-    pub(crate) fn at(&self, i: usize) -> Cell<'_>
+    /// Returns what the slot of value `i` holds.
+    pub(crate) fn at(&self, i: usize) -> Slot<'_>
         requires { i < length self.now }
-        ensures value { slice_get self.now i ≡ Some (cell_value result) }
-        ensures leaf { is_leaf result ≡ true }
+        ensures value { (below : ℕ → List Value) (k : ℕ)
+            → slice_get self.now i ≡ Some (value_in_slot below k result) }
+        ensures leaf { IsLeaf result }
     {
         match &self.leaf {
-            Some(leaf) => value_in(leaf, i),
-            None => Cell::Null,
+            Some(leaf) => slot_in(leaf, i),
+            None => Slot::Null,
         }
     }
 }
 
-// The slots of a column without children or dictionary. The `dictionary` is not read.
-fn leaf_slots<'a>(leaf: &'a Leaf, dictionary: &'a DictionaryValues) -> SlotView<'a>
+// The slots of a column without children or dictionary.
+fn slots_of(leaf: &Leaf) -> SlotView<'_>
     requires { IsLeafColumn leaf.now }
     ensures { slot_values result ≡ values_in (leaf_column leaf.now) none }
 {
     let body = leaf.body.as_slice();
-    slots_of_buffers(
+    leaf_slots(
         leaf.layout,
         leaf.slots,
         bytes_at(body, leaf.validity),
         bytes_at(body, leaf.offsets),
         bytes_at(body, leaf.values),
-        dictionary,
-        body,
-        &[],
     )
 }
 
 // What a slot of a column holds.
-fn value_in(leaf: &Leaf, slot: usize) -> Cell<'_>
+fn slot_in(leaf: &Leaf, slot: usize) -> Slot<'_>
     requires holds { IsLeafColumn leaf.now }
     requires slot { slot < leaf.now.slots }
-    ensures value { cell_value result ≡ value_of (row none) (leaf_column leaf.now) slot }
-    ensures leaf { is_leaf result ≡ true }
+    ensures value { (below : ℕ → List Value) (k : ℕ)
+        → value_in_slot below k result ≡ value_of (row none) (leaf_column leaf.now) slot }
+    ensures leaf { IsLeaf result }
 {
     let body = leaf.body.as_slice();
-    if !is_valid_in(body, leaf.validity, slot) {
-        return Cell::Null;
+    if !is_valid(bytes_at(body, leaf.validity), slot) {
+        return Slot::Null;
     }
-    leaf_cell(
+    leaf_slot(
         leaf.layout,
         bytes_at(body, leaf.offsets),
         bytes_at(body, leaf.values),
@@ -136,23 +136,37 @@ fn value_in(leaf: &Leaf, slot: usize) -> Cell<'_>
     )
 }
 
-/// Returns the value with the index in a slot, or null if there is none.
+/// Returns how many values a dictionary has, or 0 if there is none.
 #[inline(always)]
-pub(crate) fn indexed_cell<'a>(
+pub(crate) fn value_count(dictionary: Option<&DictionaryValues>) -> usize
+    ensures { result ≡ length (values_or_none dictionary.entry) }
+{
+    match dictionary {
+        Some(values) => values.len(),
+        None => 0,
+    }
+}
+
+/// Returns what the value with the index in a slot holds, or null if there is none.
+#[inline(always)]
+pub(crate) fn indexed_slot<'a>(
     bits: IntBits,
     signed: bool,
     indices: &[u8],
     slot: usize,
-    dictionary: &'a DictionaryValues,
-) -> Cell<'a>
+    dictionary: Option<&'a DictionaryValues>,
+) -> Slot<'a>
     requires { number_bytes bits * (slot + 1) ≤ length indices.now }
-    ensures value { cell_value result
-        ≡ value_at dictionary.now (number_in bits signed indices.now slot) }
-    ensures leaf { is_leaf result ≡ true }
+    ensures value { (below : ℕ → List Value) (k : ℕ) → value_in_slot below k result
+        ≡ value_at (values_or_none dictionary.entry) (number_in bits signed indices.now slot) }
+    ensures leaf { IsLeaf result }
 {
+    let Some(dictionary) = dictionary else {
+        return Slot::Null;
+    };
     match index_in(bits, signed, indices, slot, dictionary.len()) {
         Some(index) => dictionary.at(index),
-        None => Cell::Null,
+        None => Slot::Null,
     }
 }
 

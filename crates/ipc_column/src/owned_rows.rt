@@ -1,39 +1,15 @@
-ghost use Rattle.std.specs.Prelude.{◌≡◌, ◌<◌, ◌+◌, ◌-◌, true, length, IfOk, OnOk, Some, slice_get};
-ghost use Rattle.ipc_column.specs.Cells.{cell_value, is_leaf};
+ghost use Rattle.std.specs.Prelude.{◌≡◌, ◌<◌, ◌+◌, ◌-◌, length, IfOk, OnOk, Some, slice_get};
 ghost use Rattle.ipc_column.specs.checks.Checks.{PassTests};
 ghost use Rattle.ipc_column.specs.Lent.{HaveValues, HasValue};
-ghost use Rattle.ipc_column.specs.Values.{row, rows_of, value_of, items, first_at, is_nested};
+ghost use Rattle.ipc_column.specs.Values.{row, rows_of, value_of, items, first_at};
 ghost use Rattle.ipc_column.specs.Views.{part_columns, column_of, children_of};
 
-use crate::cell::{Cell, cell_at, is_valid_in};
-use crate::offsets::{fixed_place, place_at};
-use crate::ranges::{ColumnRanges, bytes_at};
-use ipc_model::{Items, Layout, Row, Text, Value};
+use crate::cell::held_at;
+use crate::ranges::ColumnRanges;
+use crate::slot_view::Slot;
+use crate::texts::text_of;
+use ipc_model::{Items, Row, Text, Value};
 use std::alloc::{AllocError, Global};
-
-fn is_nested(layout: Layout) -> bool
-    ensures { result ≡ is_nested layout }
-{
-    match layout {
-        Layout::Lists | Layout::FixedLists(_) | Layout::Structs => true,
-        _ => false,
-    }
-}
-
-// The value that a cell shows, which is neither a list nor a struct.
-fn leaf_value(alloc: Global, cell: Cell<'_>) -> Result<Value, AllocError>
-    requires { is_leaf cell ≡ true }
-    ensures { IfOk result (λ value. value ≡ cell_value cell.entry) }
-{
-    match cell {
-        Cell::Null | Cell::List(_) | Cell::Struct(_) => Ok(Value::Null),
-        Cell::Bool(truth) => Ok(Value::Bool(truth)),
-        Cell::Int(number) => Ok(Value::Int(number)),
-        Cell::UInt(number) => Ok(Value::UInt(number)),
-        Cell::Bytes(bytes) => Ok(Value::Bytes(Items::copied(alloc, bytes)?)),
-        Cell::Text(text) => Ok(Value::Text(Text::copied(alloc, text)?)),
-    }
-}
 
 // The value of a slot of a part.
 #[cycle(read)]
@@ -47,27 +23,18 @@ fn read_slot(
     ensures { IfOk result (λ value. value
         ≡ value_of (row (children_of body.now part.now)) (column_of body.now part.now) slot) }
 {
-    if !is_nested(part.layout) {
-        return leaf_value(alloc, cell_at(body, part, slot));
-    }
-    if !is_valid_in(body, part.validity, slot) {
-        return Ok(Value::Null);
-    }
-    match part.layout {
-        Layout::Lists => {
-            let offsets = bytes_at(body, part.offsets);
-            let first = place_at(offsets, slot);
-            let end = place_at(offsets, slot + 1);
-            let values = read_items(alloc, body, &part.children, first, end)?;
+    match held_at(body, part, slot) {
+        Slot::Null => Ok(Value::Null),
+        Slot::Bool(truth) => Ok(Value::Bool(truth)),
+        Slot::Int(number) => Ok(Value::Int(number)),
+        Slot::UInt(number) => Ok(Value::UInt(number)),
+        Slot::Bytes(bytes) => Ok(Value::Bytes(Items::copied(alloc, bytes)?)),
+        Slot::Text(bytes) => Ok(Value::Text(Text::copied(alloc, text_of(bytes))?)),
+        Slot::List { from, to } => {
+            let values = read_items(alloc, body, &part.children, from, to)?;
             Ok(Value::List(values))
         }
-        Layout::FixedLists(size) => {
-            let first = fixed_place(size, &part.children, slot);
-            let end = first + size as usize;
-            let list = read_items(alloc, body, &part.children, first, end)?;
-            Ok(Value::List(list))
-        }
-        _ => Ok(Value::Struct(read_values(alloc, body, &part.children, slot)?)),
+        Slot::Struct => Ok(Value::Struct(read_values(alloc, body, &part.children, slot)?)),
     }
 }
 

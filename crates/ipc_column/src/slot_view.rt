@@ -8,16 +8,19 @@ ghost use Rattle.ipc_model.specs.declared.schema.IntBits.{IntBits};
 ghost use Rattle.ipc_model.specs.declared.layout.Layout.TheVariants.{Indices};
 ghost use Rattle.ipc_model.specs.declared.value.Value.{Value};
 ghost use Rattle.ipc_model.specs.declared.value.Value.TheVariants.{Null};
-ghost use Rattle.ipc_column.specs.Cells.{cell_value, is_leaf};
-ghost use Rattle.ipc_column.specs.Columns.{Columns};
+ghost use Rattle.ipc_column.specs.declared.cause.Cause.{Cause};
+ghost use Rattle.ipc_column.specs.Cells.{cell_value};
+ghost use Rattle.ipc_column.specs.Columns.{Columns, every, none};
+ghost use Rattle.ipc_column.specs.Dictionaries.{has_no_children};
 ghost use Rattle.ipc_column.specs.checks.Checks.{PassTests, children_have_slots, has_bitmap};
 ghost use Rattle.ipc_column.specs.checks.Checks.{holds_offsets, holds_values, in_order};
-ghost use Rattle.ipc_column.specs.checks.Checks.{are_ascending};
+ghost use Rattle.ipc_column.specs.checks.Checks.{are_ascending, good, good_below, passes};
 ghost use Rattle.ipc_column.specs.Lending.{AreBuffers, AreNumbers, HoldsEntry, MarksNulls};
 ghost use Rattle.ipc_column.specs.Lending.{are_numbers};
-ghost use Rattle.ipc_column.specs.Lent.{AreFound, AreOfColumn, column_of_buffers};
+ghost use Rattle.ipc_column.specs.Leaves.{values_or_none};
+ghost use Rattle.ipc_column.specs.Lent.{AreFound, AreOfColumn, column_of_buffers, values_in};
 ghost use Rattle.ipc_column.specs.Slots.{HasChildSlots, is_null, nested, nested_in, value_in_slot};
-ghost use Rattle.ipc_column.specs.Slots.{text_prefix};
+ghost use Rattle.ipc_column.specs.Slots.{IsLeaf, RefersToValues, text_prefix};
 ghost use Rattle.ipc_column.specs.Nested.{Nested, only_column, child_columns, slot_values};
 ghost use Rattle.ipc_column.specs.checks.Plain.{IsShownBy};
 ghost use Rattle.ipc_column.specs.checks.Rules.{HasUtf8Texts};
@@ -26,8 +29,8 @@ ghost use Rattle.ipc_column.specs.Views.{part_columns, column_of, children_of};
 
 use crate::bitmaps::is_valid;
 use crate::buffers::{Buffers, Numbers};
-use crate::cell::Cell;
-use crate::dictionary::{DictionaryValues, indexed_cell};
+use crate::cell::{Cell, cell_of};
+use crate::dictionary::{DictionaryValues, indexed_slot, value_count};
 use crate::fixed::{bytes_of, index_in, signed_at, unsigned_at};
 use crate::offsets::{bytes_between, fixed_place, place_at};
 use crate::ranges::{ColumnRanges, bytes_at};
@@ -72,7 +75,7 @@ pub struct SlotView<'a> {
     validity: &'a [u8],
     offsets: &'a [u8],
     values: &'a [u8],
-    dictionary: &'a DictionaryValues,
+    dictionary: Option<&'a DictionaryValues>,
     body: &'a [u8],
     children: &'a [ColumnRanges],
 }
@@ -81,6 +84,7 @@ impl<'a> Model for SlotView<'a> {
     ghost use Rattle.std.specs.Coded.{codes};
     ghost use Rattle.ipc_column.specs.contracts.ranges.ColumnRanges as ranges;
     ghost use Rattle.ipc_model.specs.contracts.value.Value as value;
+    ghost use Rattle.ipc_column.specs.Leaves.{values_or_none};
     ghost use Rattle.ipc_column.specs.Lent.{AreFound, column_of_buffers};
     ghost use Rattle.ipc_column.specs.Nested.{Nested};
     ghost use Rattle.ipc_column.specs.Views.{part_columns};
@@ -91,14 +95,14 @@ impl<'a> Model for SlotView<'a> {
 
     ghost view = { λ s. record {
       column = column_of_buffers s.layout s.slots s.validity.now s.offsets.now s.values.now
-          s.dictionary.now;
+          (values_or_none s.dictionary);
       body = s.body.now;
       children = s.children.now;
     } };
 
     ghost invariant = { λ s. AreFound
         (column_of_buffers s.layout s.slots s.validity.now s.offsets.now s.values.now
-        s.dictionary.now)
+        (values_or_none s.dictionary))
         (part_columns s.body.now s.children.now) };
 }
 
@@ -122,8 +126,21 @@ impl<'a> SlotView<'a> {
             ≡ Some (value_in_slot (row (child_columns self.now)) slot result) }
         // The children have the slots that the result states.
         ensures inside { HasChildSlots (child_columns self.now) slot result }
+        // Where the texts of the slot are UTF-8, as where a row shows it, the result has values.
+        ensures shown { HasUtf8Texts (only_column self.now) slot
+            → RefersToValues (child_columns self.now) slot result }
     {
         self.at_layout(self.layout, slot)
+    }
+
+    /// Lends the value in a slot, whose texts are UTF-8.
+    #[inline(always)]
+    pub(crate) fn cell(&self, slot: usize) -> Cell<'a>
+        requires slot { slot < length (slot_values self.now) }
+        requires texts { HasUtf8Texts (only_column self.now) slot }
+        ensures { slice_get (slot_values self.now) slot ≡ Some (cell_value result) }
+    {
+        cell_of(self.at(slot), self.body, self.children, slot)
     }
 
     /// Returns the content of a slot, as `at` does, for a known layout. If the call names a
@@ -137,6 +154,9 @@ impl<'a> SlotView<'a> {
             ≡ Some (value_in_slot (row (child_columns self.now)) slot result) }
         // The children have the slots that the result states.
         ensures inside { HasChildSlots (child_columns self.now) slot result }
+        // Where the texts of the slot are UTF-8, as where a row shows it, the result has values.
+        ensures shown { HasUtf8Texts (only_column self.now) slot
+            → RefersToValues (child_columns self.now) slot result }
     {
         if !is_valid(self.validity, slot) {
             return Slot::Null;
@@ -272,9 +292,10 @@ impl<'a> SlotView<'a> {
         if !valid {
             return None;
         }
+        let count = value_count(self.dictionary);
         match self.layout {
             Layout::Indices { bits, signed, .. } => {
-                index_in(bits, signed, self.values, slot, self.dictionary.len())
+                index_in(bits, signed, self.values, slot, count)
             }
             _ => None,
         }
@@ -287,7 +308,7 @@ impl<'a> SlotView<'a> {
             (λ entries. slot_values entries ≡ self.now.column.dictionary) }
         ensures none { IfNone result (self.now.column.dictionary ≡ []) }
     {
-        self.dictionary.slots()
+        self.dictionary?.slots()
     }
 
     /// Returns the number of children: one for a list or a fixed-size list, one for each member of
@@ -332,12 +353,56 @@ fn text_in<'a>(offsets: &[u8], values: &'a [u8], slots: usize, slot: usize) -> (
     (&values[start..], end - start)
 }
 
+/// Returns what a valid slot of a column without children or dictionary holds, one of its first
+/// `slots`.
+#[tactic(auto, using(crate::proofs::lending::Widths::slot_inside))]
+#[inline(always)]
+pub(crate) fn leaf_slot<'a>(
+    layout: Layout,
+    offsets: &[u8],
+    values: &'a [u8],
+    slots: usize,
+    slot: usize,
+) -> Slot<'a>
+    requires slot { slot < slots }
+    requires values { holds_values layout slots (length values.now) ≡ true }
+    requires offsets { holds_offsets layout slots (length offsets.now) ≡ true }
+    requires rise { in_order layout slots offsets.now (length values.now) none ≡ true }
+    ensures value { has_no_children layout ≡ true → (below : ℕ → List Value) (i : ℕ)
+        → value_in_slot below i result
+        ≡ own_value layout [] (row none) offsets.now values.now slot }
+    ensures leaf { good_below Cause.ValueNotUtf8 layout [] (good Cause.ValueNotUtf8 none)
+        offsets.now values.now slot ≡ true → IsLeaf result }
+    ensures inside { (children : Columns) (i : ℕ) → HasChildSlots children i result }
+{
+    match layout {
+        Layout::Bits => Slot::Bool(bit(values, slot)),
+        Layout::Numbers { bits, signed: true } => Slot::Int(signed_at(bits, values, slot)),
+        Layout::Numbers {
+            bits,
+            signed: false,
+        } => Slot::UInt(unsigned_at(bits, values, slot)),
+        Layout::FixedBytes(width) => Slot::Bytes(bytes_of(width, values, slot)),
+        Layout::VariableBytes { utf8: true } => {
+            Slot::Text(bytes_between(offsets, values, slots, slot))
+        }
+        Layout::VariableBytes { utf8: false } => {
+            Slot::Bytes(bytes_between(offsets, values, slots, slot))
+        }
+        Layout::Null
+        | Layout::Lists
+        | Layout::FixedLists(_)
+        | Layout::Structs
+        | Layout::Indices { .. } => Slot::Null,
+    }
+}
+
 // What a valid slot holds, one of the first `slots`.
 #[tactic(auto, using(crate::proofs::lending::Widths::slot_inside))]
 #[inline(always)]
 fn own_slot<'a>(
     layout: Layout,
-    dictionary: &'a DictionaryValues,
+    dictionary: Option<&'a DictionaryValues>,
     offsets: &[u8],
     values: &'a [u8],
     slots: usize,
@@ -353,26 +418,16 @@ fn own_slot<'a>(
         (part_columns body children.now) ≡ true }
     ensures value { (body : List ℕ) → value_in_slot (row (part_columns body children.now)) slot
         result
-        ≡ own_value layout dictionary.now (row (part_columns body children.now)) offsets.now
-        values.now
-        slot }
+        ≡ own_value layout (values_or_none dictionary.entry) (row (part_columns body children.now))
+        offsets.now values.now slot }
     ensures inside { (body : List ℕ) → HasChildSlots (part_columns body children.now) slot result }
+    ensures shown { (body : List ℕ)
+        → ((why : Cause) → every (passes why) (part_columns body children.now) ≡ true)
+        → good_below Cause.ValueNotUtf8 layout (values_or_none dictionary.entry)
+        (good Cause.ValueNotUtf8 (part_columns body children.now)) offsets.now values.now slot
+        ≡ true → RefersToValues (part_columns body children.now) slot result }
 {
     match layout {
-        Layout::Null => Slot::Null,
-        Layout::Bits => Slot::Bool(bit(values, slot)),
-        Layout::Numbers { bits, signed: true } => Slot::Int(signed_at(bits, values, slot)),
-        Layout::Numbers {
-            bits,
-            signed: false,
-        } => Slot::UInt(unsigned_at(bits, values, slot)),
-        Layout::FixedBytes(width) => Slot::Bytes(bytes_of(width, values, slot)),
-        Layout::VariableBytes { utf8: true } => {
-            Slot::Text(bytes_between(offsets, values, slots, slot))
-        }
-        Layout::VariableBytes { utf8: false } => {
-            Slot::Bytes(bytes_between(offsets, values, slots, slot))
-        }
         Layout::Lists => Slot::List {
             from: place_at(offsets, slot),
             to: place_at(offsets, slot + 1),
@@ -384,46 +439,24 @@ fn own_slot<'a>(
         }
         Layout::Structs => Slot::Struct,
         Layout::Indices { bits, signed, .. } => {
-            leaf_slot(indexed_cell(bits, signed, values, slot, dictionary))
+            indexed_slot(bits, signed, values, slot, dictionary)
         }
+        _ => leaf_slot(layout, offsets, values, slots, slot),
     }
 }
 
-// What a cell that is neither a list nor a struct shows, as a slot.
-fn leaf_slot(cell: Cell<'_>) -> Slot<'_>
-    requires { is_leaf cell ≡ true }
-    ensures value { (below : ℕ → List Value) (i : ℕ)
-        → value_in_slot below i result ≡ cell_value cell.entry }
-    ensures inside { (children : Columns) (i : ℕ) → HasChildSlots children i result }
-{
-    match cell {
-        Cell::Null | Cell::List(_) | Cell::Struct(_) => Slot::Null,
-        Cell::Bool(truth) => Slot::Bool(truth),
-        Cell::Int(number) => Slot::Int(number),
-        Cell::UInt(number) => Slot::UInt(number),
-        Cell::Bytes(bytes) => Slot::Bytes(bytes),
-        Cell::Text(text) => Slot::Text(text.as_bytes()),
-    }
-}
-
-/// Returns the slots of a column with these buffers.
-pub(crate) fn slots_of_buffers<'a>(
+/// Returns the slots of a column with these buffers, without children or dictionary.
+pub(crate) fn leaf_slots<'a>(
     layout: Layout,
     slots: usize,
     validity: &'a [u8],
     offsets: &'a [u8],
     values: &'a [u8],
-    dictionary: &'a DictionaryValues,
-    body: &'a [u8],
-    children: &'a [ColumnRanges],
 ) -> SlotView<'a>
-    requires { AreFound (column_of_buffers layout slots validity.now offsets.now values.now
-        dictionary.now)
-        (part_columns body.now children.now) }
-    ensures column { result.column
-        ≡ column_of_buffers layout slots validity.now offsets.now values.now dictionary.now }
-    ensures body { result.body ≡ body.now }
-    ensures children { result.children ≡ children.now }
+    requires { AreFound (column_of_buffers layout slots validity.now offsets.now values.now [])
+        none }
+    ensures { slot_values result ≡ values_in
+        (column_of_buffers layout slots validity.now offsets.now values.now []) none }
 {
     SlotView {
         layout,
@@ -431,14 +464,14 @@ pub(crate) fn slots_of_buffers<'a>(
         validity,
         offsets,
         values,
-        dictionary,
-        body,
-        children,
+        dictionary: None,
+        body: &[],
+        children: &[],
     }
 }
 
-// The slots of a part's column.
-fn slots_of<'a>(body: &'a [u8], part: &'a ColumnRanges) -> SlotView<'a>
+/// Returns the slots of a part's column.
+pub(crate) fn slots_of<'a>(body: &'a [u8], part: &'a ColumnRanges) -> SlotView<'a>
     requires { AreFound (column_of body.now part.now) (children_of body.now part.now) }
     ensures { result ≡ nested body.now part.now }
 {
@@ -448,7 +481,7 @@ fn slots_of<'a>(body: &'a [u8], part: &'a ColumnRanges) -> SlotView<'a>
         validity: bytes_at(body, part.validity),
         offsets: bytes_at(body, part.offsets),
         values: bytes_at(body, part.values),
-        dictionary: &part.dictionary,
+        dictionary: Some(&part.dictionary),
         body,
         children: &part.children,
     }

@@ -1,23 +1,21 @@
 -- Lists of a fixed size: the slots of the child that they hold, as the code finds them.
-use Rattle.std.proofs.Common.{◌≡◌, ◌∙◌, refl, sym, ap, subst, ℕ, zero, suc, ◌+◌, ◌-◌, ◌*◌, ◌<◌, ◌≤◌, Bool, true, List, [], ◌∷◌}
-use Rattle.std.proofs.Common.{length, get_or, arith, nat_le, cond}
+use Rattle.std.proofs.Common.{◌≡◌, ◌∙◌, refl, sym, ap, subst, ℕ, zero, suc, ◌+◌, ◌-◌, ◌*◌, ◌<◌, ◌≤◌, true, List, [], ◌∷◌}
+use Rattle.std.proofs.Common.{length, get_or, arith, nat_le}
 use Rattle.std.proofs.Math.Nat.{mul-le-mul_left}
 use Rattle.std.proofs.lemmas.Bool.{leb-true}
 use Rattle.ipc_model.specs.declared.value.Value.{Value}
 use Rattle.ipc_model.specs.declared.value.Value.TheVariants as v
-use Rattle.ipc_model.specs.declared.layout.Layout.{Layout}
 use Rattle.ipc_model.specs.declared.layout.Layout.TheVariants as l
 use Rattle.ipc_column.specs.declared.ranges.ColumnRanges.{ColumnRanges}
 use Rattle.ipc_column.specs.declared.ranges.ColumnRanges.TheViews.{out-ColumnRanges}
 use Rattle.ipc_column.specs.Columns.{Column, none}
-use Rattle.ipc_column.specs.Values.{own_value, row, items, first_at, value_of, is_valid}
+use Rattle.ipc_column.specs.Values.{items, first_at}
 use Rattle.ipc_column.specs.checks.Checks.{children_have_slots}
 use Rattle.ipc_column.specs.checks.Checks.{have_slots}
 use Rattle.ipc_column.specs.Lent.{AreSlots, HaveValues}
-use Rattle.ipc_column.specs.Views.{part_columns, column_of, children_of}
-use Rattle.ipc_column.proofs.Parts.{own_column, column_is, every_top_at}
+use Rattle.ipc_column.specs.Views.{part_columns, column_of}
+use Rattle.ipc_column.proofs.Parts.{column_is, every_top_at}
 use Rattle.ipc_column.proofs.visited.Goods.{fewer_slots}
-use Rattle.ipc_column.proofs.lending.Slots.{part_value}
 
 -- slots that parts have don't depend on the body
 pub slots_any : (n : ℕ) (body other : List ℕ) (ps : List ColumnRanges) → have_slots n (part_columns body ps)
@@ -79,18 +77,6 @@ fixed_items body [] size i first e = let n : first + size - first ≡ size = ome
 fixed_items body (p ∷ ps) size i first e =
     let n : first + size - first ≡ size = omega arith in
     rw n (ap (λ (k : ℕ). items (first_at (part_columns body (p ∷ ps))) k size) (e (omega arith)))
-
--- the value of a list of a fixed size that is valid
-pub fixed_value : (body : List ℕ) (p : ColumnRanges) (size i : ℕ) (vs : List Value) → (out-ColumnRanges p).layout ≡ l.FixedLists size
-    → is_valid (own_column body p).validity i ≡ true
-    → vs ≡ items (first_at (part_columns body (out-ColumnRanges p).children.items)) (size * i) size
-    → v.List vs ≡ value_of (row (children_of body p)) (column_of body p) i
-fixed_value body p size i vs e w s =
-    let below = row (part_columns body (out-ColumnRanges p).children.items) in
-    let c = own_column body p in
-    sym (part_value body p i
-    ∙ (ap (λ (b : Bool). cond b (own_value c.layout c.dictionary below c.offsets c.values i) v.Null) w
-    ∙ (ap (λ (x : Layout). own_value x c.dictionary below c.offsets c.values i) e ∙ ap (λ (xs : List Value). v.List xs) (sym s))))
 
 -- the slots of the child that lists of a fixed size lead to
 pub fixed_child : (body : List ℕ) (ps : List ColumnRanges) (size i j first last : ℕ) → (0 < length ps → first ≡ size * i)

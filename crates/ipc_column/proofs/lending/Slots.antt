@@ -14,7 +14,7 @@ use Rattle.ipc_column.specs.declared.ranges.ColumnRanges.TheViews.{out-ColumnRan
 use Rattle.ipc_column.specs.declared.cause.Cause.{Cause}
 use Rattle.ipc_column.specs.declared.cause.Cause.TheVariants as cause
 use Rattle.ipc_column.specs.Columns.{Column, Columns, none, column, every, every_top}
-use Rattle.ipc_column.specs.Values.{row, items, first_at, value_of, offset_position, is_valid, child_slot, is_nested}
+use Rattle.ipc_column.specs.Values.{row, items, first_at, value_of, offset_position, child_slot, is_nested}
 use Rattle.ipc_column.specs.checks.Checks.{passes, top_passes, has_bitmap, holds_values, holds_offsets, in_order, children_have_slots}
 use Rattle.ipc_column.specs.checks.Checks.{are_ascending}
 use Rattle.ipc_column.specs.checks.Checks.{have_slots, good, good_slot, good_below, all_pass, is_shown, PassTests}
@@ -44,13 +44,6 @@ long c children h =
     (holds_values c.layout c.slots (length c.values) && holds_offsets c.layout c.slots (length c.offsets)) (h cause.BufferTooShort) in
     let q = and_parts (holds_values c.layout c.slots (length c.values)) (holds_offsets c.layout c.slots (length c.offsets)) p.1 in
     record { bitmap = p.0; values = q.0; offsets = q.1; order = h cause.BadOffsets; long = h cause.BadNode }
-
--- a part's column and children, by its fields
-pub part_by : (P : Column → Columns → Type 0) (body : List ℕ) (p : ColumnRanges) → P (column_of body p) (children_of body p)
-    → P (own_column body p) (part_columns body (out-ColumnRanges p).children.items)
-part_by P body p h =
-    subst (λ (c : Column). P c (part_columns body (out-ColumnRanges p).children.items)) (column_is body p)
-    (subst (λ (cs : Columns). P (column_of body p) cs) (children_out body p) h)
 
 -- offsets of 32 bits, of so many slots
 pub bytes_from : (n bytes : ℕ) → (n == 0 || nat_le (4 * (n + 1)) bytes) ≡ true → 0 < n → 4 * (n + 1) ≤ bytes
@@ -209,53 +202,11 @@ pub first_is : (body : List ℕ) (ps : List ColumnRanges) (p : ColumnRanges) (i 
 first_is body [] p i l e = absurd (omega arith)
 first_is body (q ∷ ps) p i l e = rw e refl
 
-visible : (v g : Bool) → (not v || g) ≡ true → v ≡ true → g ≡ true
-visible true g h e = h
-visible false g h e = absurd (false≢true e)
-
--- what a slot's value stands on
-pub record Stands (c : Column) (children : Columns) (i : ℕ) : Type 0 where
-  pub slot : i < c.slots
-  pub bitmap : has_bitmap (i + 1) (length c.validity) ≡ true
-  pub long : Long c children
-  pub sound : (why : Cause) → every (passes why) children ≡ true
-  pub good : is_valid c.validity i ≡ true → good_below cause.ValueNotUtf8 c.layout c.dictionary
-      (good cause.ValueNotUtf8 children) c.offsets c.values i ≡ true
-
-pub stands : (c : Column) (children : Columns) (i : ℕ) → HasValue c children i → Stands c children i
-stands c children i h =
-    let k = long c children h.slot.own in
-    record {
-      slot = h.slot.within;
-      bitmap = bitmap_front c.slots i (length c.validity) k.bitmap h.slot.within;
-      long = k;
-      sound = h.slot.sound;
-      good = visible (is_valid c.validity i) (good_below cause.ValueNotUtf8 c.layout c.dictionary
-          (good cause.ValueNotUtf8 children) c.offsets c.values i) h.good;
-    }
-
--- the same of a part, by its fields
-pub part_stands : (body : List ℕ) (p : ColumnRanges) (i : ℕ) → HasValue (column_of body p) (children_of body p) i
-    → Stands (own_column body p) (part_columns body (out-ColumnRanges p).children.items) i
-part_stands body p i h = stands (own_column body p) (part_columns body (out-ColumnRanges p).children.items) i
-    (part_by (λ c cs. HasValue c cs i) body p h)
-
 pub part_value : (body : List ℕ) (p : ColumnRanges) (i : ℕ) → value_of (row (children_of body p)) (column_of body p) i
     ≡ value_of (row (part_columns body (out-ColumnRanges p).children.items)) (own_column body p) i
 part_value body p i =
     ap (λ (c : Column). value_of (row (children_of body p)) c i) (column_is body p)
     ∙ ap (λ (cs : Columns). value_of (row cs) (own_column body p) i) (children_out body p)
-
--- the slots that a list holds have values
-pub list_values : (c : Column) (children : Columns) (i : ℕ) → Stands c children i → c.layout ≡ l.Lists → is_valid c.validity i ≡ true
-    → HaveValues children (offset_position c.offsets i) (offset_position c.offsets (i + 1))
-list_values c children i h e v =
-    let slot = h.slot in
-    let r = list_range c children (list_parts c children h.long e (omega arith)) i (i + 1) (omega arith) (omega arith) in
-    record {
-      slots = record { order = r.order; within = r.within; sound = h.sound };
-      good = rw e at (h.good v);
-    }
 
 -- the slots that a list of a fixed size holds have values
 pub fixed_values : (children : Columns) (size n i : ℕ) → i < n → children_have_slots (l.FixedLists size) n children ≡ true
@@ -345,24 +296,6 @@ part_long body p i j h =
 pub part_most : (body : List ℕ) (p : ColumnRanges) (i j : ℕ) → AreSlots (one body p) i j → j ≤ (out-ColumnRanges p).slots
 part_most body p i j h = slots_in_one (own_column body p) (part_columns body (out-ColumnRanges p).children.items) i j
     (part_slots body p i j h)
-
--- the offsets of a list that has a value are there
-pub stands_bytes : (body : List ℕ) (p : ColumnRanges) (i k : ℕ) → HasValue (column_of body p) (children_of body p) i → k ≤ i + 1
-    → (out-ColumnRanges p).layout ≡ l.Lists → 4 * (k + 1) ≤ length (own_column body p).offsets
-stands_bytes body p i k h m e =
-    let s = part_stands body p i h in
-    let inside = s.slot in
-    let parts = list_parts (own_column body p) (part_columns body (out-ColumnRanges p).children.items) s.long e (omega (arith, inside)) in
-    let bytes = parts.bytes in
-    omega (arith, inside, bytes)
-
--- what is nested and no list is a struct
-pub nested_struct : (layout : Layout) → is_nested layout ≡ true → ¬ (layout ≡ l.Lists)
-    → ((size : ℕ) → ¬ (layout ≡ l.FixedLists size)) → layout ≡ l.Structs
-nested_struct l.Structs n h k = refl
-nested_struct l.Lists n h k = absurd (h refl)
-nested_struct (l.FixedLists size) n h k = absurd (k size refl)
-nested_struct _ n h k = absurd (false≢true n)
 
 -- a test of no top column but those of another length
 pub tops_judged : (cs : Columns) (n : ℕ) → every_top (top_passes cause.BadNode n) cs ≡ true → (why : Cause)

@@ -4,6 +4,7 @@ use Rattle.std.proofs.Common.{List, [], ◌∷◌, length, arith, subst, cond}
 use Rattle.std.specs.Prelude.{slice_get, map, not, ℤ}
 use Rattle.std.proofs.Math.Nat.{mul-le-mul_left}
 use Rattle.std.proofs.lemmas.Bool.{and_parts}
+use Rattle.std.proofs.lemmas.Option.{same_Some}
 use Rattle.ipc_model.specs.declared.value.Value.{Value}
 use Rattle.ipc_model.specs.declared.value.Value.TheVariants as v
 use Rattle.ipc_model.specs.declared.layout.Layout.{Layout}
@@ -16,19 +17,21 @@ use Rattle.ipc_model.specs.declared.schema.IntBits.{IntBits}
 use Rattle.ipc_column.specs.Columns.{Column, Columns, none, column, EachTop, every}
 use Rattle.ipc_column.specs.Values.{is_valid, own_value, offset_position, row, value_of}
 use Rattle.ipc_column.specs.checks.Checks.{are_ascending, children_have_slots, have_slots, holds_offsets, in_order, passes}
-use Rattle.ipc_column.specs.checks.Checks.{good, good_slot}
+use Rattle.ipc_column.specs.checks.Checks.{good, good_below, good_slot}
 use Rattle.ipc_column.specs.checks.Rules.{HasUtf8Texts}
-use Rattle.ipc_column.specs.Lent.{HoldSlots, AreFound, column_of_buffers, values_in}
-use Rattle.ipc_column.specs.Nested.{Nested, only_column, slot_values}
-use Rattle.ipc_column.specs.Slots.{is_null, nested}
+use Rattle.ipc_column.specs.Lent.{HasValue, HoldSlots, AreFound, column_of_buffers, values_in, without_null_count}
+use Rattle.ipc_column.specs.Nested.{Nested, child_columns, only_column, slot_values}
+use Rattle.ipc_column.specs.Slots.{HasChildSlots, IsLeaf, RefersToValues, is_null, nested, value_in_slot}
+use Rattle.ipc_column.specs.declared.slot_view.Slot.{Slot}
+use Rattle.ipc_column.specs.declared.slot_view.Slot.TheVariants as slot
 use Rattle.ipc_column.specs.Views.{part_columns, column_of, children_of}
 use Rattle.ipc_column.specs.Spans.{span_bytes}
 use Rattle.ipc_column.proofs.Found.{found_is, items_first}
-use Rattle.ipc_column.proofs.Parts.{every_at}
+use Rattle.ipc_column.proofs.Parts.{children_out, every_at}
 use Rattle.ipc_column.proofs.lending.FixedLists.{slots_any}
 use Rattle.ipc_column.proofs.visited.Goods.{fewer_slots, good_one, slots_from}
 use Rattle.ipc_column.proofs.Rules.{of_have_slots}
-use Rattle.ipc_column.proofs.visited.Shown.{of_good}
+use Rattle.ipc_column.proofs.visited.Shown.{of_good, slot_texts}
 use Rattle.ipc_column.proofs.lending.Slices.{places}
 use Rattle.ipc_column.proofs.lending.Slots.{bytes_from, items_length, order_from, long}
 
@@ -219,3 +222,94 @@ slots_spell c body ps n vs ec eb ep h e i m =
     (subst (λ (b : List ℕ). HasUtf8Texts (column c (part_columns b n.children) none) i) (sym eb)
     (subst (λ (q : List ColumnRanges). HasUtf8Texts (column c (part_columns body q) none) i) (sym ep)
     (texts_of c (part_columns body ps) h i inside)))
+
+-- a part's buffers have what its slots need where one of these has a value
+pub value_found : (c : Column) (cs : Columns) (i : ℕ) → HasValue c cs i → AreFound c cs
+value_found c cs i h =
+    let own = long c cs h.slot.own in
+    record {
+      bitmap = own.bitmap;
+      values = own.values;
+      offsets = own.offsets;
+      order = own.order;
+      long = own.long;
+      sound = h.slot.sound;
+    }
+
+module _ (body : List ℕ) (p : ColumnRanges) (n : Nested) (i : ℕ) (is : n ≡ nested body p)
+    (has : HasValue (column_of body p) (children_of body p) i) where
+  pub held_inside : i < length (slot_values n)
+  held_inside =
+      let size : length (slot_values (nested body p)) ≡ (column_of body p).slots =
+      items_length (value_of (row (part_columns body (out-ColumnRanges p).children.items)) (column_of body p)) 0 (column_of body p).slots in
+      subst (λ (n : Nested). i < length (slot_values n)) (sym is) (subst (λ (k : ℕ). i < k) (sym size) has.slot.within)
+
+  -- what the slot holds has its value
+  pub held_value : (s : Slot) → slice_get (slot_values n) i ≡ Some (value_in_slot (row (child_columns n)) i s)
+      → value_in_slot (row (children_of body p)) i s ≡ value_of (row (children_of body p)) (column_of body p) i
+  held_value s h =
+      subst (λ (cs : Columns). value_in_slot (row cs) i s ≡ value_of (row cs) (column_of body p) i) (sym (children_out body p))
+      (same_Some _ _
+      (sym (subst (λ (n : Nested). slice_get (slot_values n) i ≡ Some (value_in_slot (row (child_columns n)) i s)) is h)
+      ∙ items_first (value_of (row (part_columns body (out-ColumnRanges p).children.items)) (column_of body p))
+      (column_of body p).slots i has.slot.within))
+
+  pub held_texts : HasUtf8Texts (only_column n) i
+  held_texts =
+      subst (λ (n : Nested). HasUtf8Texts (only_column n) i) (sym is)
+      (subst (λ (cs : Columns). HasUtf8Texts (column (without_null_count (column_of body p)) cs none) i) (children_out body p)
+      (slot_texts (without_null_count (column_of body p)) (children_of body p) i has.good))
+
+  pub held_shown : (s : Slot) → RefersToValues (child_columns n) i s → RefersToValues (children_of body p) i s
+  held_shown s h =
+      subst (λ (cs : Columns). RefersToValues cs i s) (sym (children_out body p))
+      (subst (λ (n : Nested). RefersToValues (child_columns n) i s) is h)
+
+-- a slot that refers to none of the children is like one of any column
+pub leaf_inside : (cs : Columns) (i : ℕ) (s : Slot) → IsLeaf s → HasChildSlots cs i s
+leaf_inside cs i slot.Null h = tt
+leaf_inside cs i (slot.Bool truth) h = tt
+leaf_inside cs i (slot.Int number) h = tt
+leaf_inside cs i (slot.UInt number) h = tt
+leaf_inside cs i (slot.Bytes bytes) h = tt
+leaf_inside cs i (slot.Text bytes) h = tt
+leaf_inside cs i (slot.List from to) h = absurd h
+leaf_inside cs i slot.Struct h = absurd h
+
+pub leaf_shown : (cs : Columns) (i : ℕ) (s : Slot) → IsLeaf s → RefersToValues cs i s
+leaf_shown cs i slot.Null h = tt
+leaf_shown cs i (slot.Bool truth) h = tt
+leaf_shown cs i (slot.Int number) h = tt
+leaf_shown cs i (slot.UInt number) h = tt
+leaf_shown cs i (slot.Bytes bytes) h = tt
+leaf_shown cs i (slot.Text bytes) h = h
+leaf_shown cs i (slot.List from to) h = absurd h
+leaf_shown cs i slot.Struct h = absurd h
+
+-- offsets that are in order beside some children are so without them, unless they are those of lists
+pub leaf_order : (layout : Layout) (n : ℕ) (o : List ℕ) (size : ℕ) (cs : Columns) → ¬ (layout ≡ l.Lists)
+    → in_order layout n o size cs ≡ true → in_order layout n o size none ≡ true
+leaf_order l.Lists n o size cs not h = absurd (not refl)
+leaf_order (l.VariableBytes utf8) n o size cs not h = h
+leaf_order l.Null n o size cs not h = refl
+leaf_order l.Bits n o size cs not h = refl
+leaf_order (l.Numbers bits signed) n o size cs not h = refl
+leaf_order (l.FixedBytes width) n o size cs not h = refl
+leaf_order (l.FixedLists width) n o size cs not h = refl
+leaf_order l.Structs n o size cs not h = refl
+leaf_order (l.Indices bits signed id) n o size cs not h = refl
+
+-- what is tested of a slot without children or dictionary
+pub leaf_good : (layout : Layout) (d : List Value) (below : ℕ → ℕ → Bool) (o w : List ℕ) (i : ℕ)
+    → good_below cause.ValueNotUtf8 layout d below o w i ≡ true
+    → good_below cause.ValueNotUtf8 layout [] (good cause.ValueNotUtf8 none) o w i ≡ true
+leaf_good (l.VariableBytes true) d below o w i h = h
+leaf_good (l.VariableBytes false) d below o w i h = refl
+leaf_good l.Lists d below o w i h = refl
+leaf_good (l.FixedLists size) d below o w i h = refl
+leaf_good l.Structs d below o w i h = refl
+leaf_good (l.Indices bits signed id) d below o w i h = refl
+leaf_good l.Null d below o w i h = refl
+leaf_good l.Bits d below o w i h = refl
+leaf_good (l.Numbers bits signed) d below o w i h = refl
+leaf_good (l.FixedBytes width) d below o w i h = refl

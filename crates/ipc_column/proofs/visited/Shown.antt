@@ -12,7 +12,7 @@ use Rattle.ipc_model.specs.declared.layout.Layout.TheVariants as l
 use Rattle.ipc_model.specs.declared.value.Value.{Value}
 use Rattle.ipc_column.specs.declared.cause.Cause.TheVariants as cause
 use Rattle.ipc_column.specs.checks.Checks.{all_slots, good, good_below, good_slot}
-use Rattle.ipc_column.specs.Columns.{Columns, none, column}
+use Rattle.ipc_column.specs.Columns.{Column, Columns, none, column}
 use Rattle.ipc_column.specs.checks.Rules.{HasIndex, HoldsIndices, IsText, HasUtf8Texts}
 use Rattle.ipc_column.specs.Values.{is_valid, number_in, offset_position, place_below}
 use Rattle.ipc_column.proofs.visited.Goods.{slots_at, slots_from}
@@ -56,6 +56,21 @@ of_good (column c children rest) a b =
     (λ i. of_when (is_valid c.validity i) _ (λ e. e, λ e. e)
     (of_text c.layout c.dictionary (good cause.ValueNotUtf8 children) (HasUtf8Texts children) (of_good children) c.offsets c.values i)) a b)
     (of_good rest a b))
+
+-- what a valid slot holds passes the test where its texts are UTF-8
+pub own_good : (c : Column) (cs : Columns) (i : ℕ) → HasUtf8Texts (column c cs none) i → is_valid c.validity i ≡ true
+    → good_below cause.ValueNotUtf8 c.layout c.dictionary (good cause.ValueNotUtf8 cs) c.offsets c.values i ≡ true
+own_good c cs i h v =
+    (of_text c.layout c.dictionary (good cause.ValueNotUtf8 cs) (HasUtf8Texts cs) (of_good cs) c.offsets c.values i).1 (h.0 v)
+
+-- the texts of a slot that passes the test are UTF-8
+pub slot_texts : (c : Column) (cs : Columns) (i : ℕ) → good_slot cause.ValueNotUtf8 (good cause.ValueNotUtf8 cs) c i ≡ true
+    → HasUtf8Texts (column c cs none) i
+slot_texts c cs i h = (
+  (of_when (is_valid c.validity i) _ (λ e. e, λ e. e)
+      (of_text c.layout c.dictionary (good cause.ValueNotUtf8 cs) (HasUtf8Texts cs) (of_good cs) c.offsets c.values i)).0 h,
+  tt,
+)
 
 -- ---- indices
 

@@ -1,19 +1,19 @@
-use Rattle.ipc_column.proofs.lending.Slots.{part_stands}
+use Rattle.std.proofs.Common.{◌∙◌, sym, subst, ap}
+use Rattle.ipc_column.specs.Columns.{Columns}
+use Rattle.ipc_column.specs.Slots.{RefersToValues, value_in_slot}
+use Rattle.ipc_column.specs.Values.{row}
+use Rattle.ipc_column.proofs.Parts.{children_out}
 use Rattle.ipc_column.proofs.cell.cell_at.Goals as goal
 
-pub is_valid_in-requires : goal.is_valid_in-requires
-is_valid_in-requires c = (part_stands c.args.body.now c.args.part.now c.args.slot c.requires).bitmap
+pub cell_of-requires : goal.cell_of-requires
+cell_of-requires c =
+    rw c.deref.ensures.value
+    (subst (λ (cs : Columns). RefersToValues cs c.args.slot c.held_at.result) (children_out c.args.body.now c.args.part.now)
+    c.held_at.ensures.shown)
 
-pub own_cell-requires-clause-values : goal.own_cell-requires-clause-values
-own_cell-requires-clause-values c = rw c.bytes_at-2.ensures (part_stands c.args.body.now c.args.part.now c.args.slot c.requires).long.values
-
-pub own_cell-requires-clause-offsets : goal.own_cell-requires-clause-offsets
-own_cell-requires-clause-offsets c = rw c.bytes_at.ensures (part_stands c.args.body.now c.args.part.now c.args.slot c.requires).long.offsets
-
-pub own_cell-requires-clause-rise : goal.own_cell-requires-clause-rise
-own_cell-requires-clause-rise c =
-    rw (c.bytes_at.ensures, c.bytes_at-2.ensures, c.deref.ensures.value)
-    (part_stands c.args.body.now c.args.part.now c.args.slot c.requires).long.order
-
-pub own_cell-requires-clause-long : goal.own_cell-requires-clause-long
-own_cell-requires-clause-long c = rw c.deref.ensures.value (part_stands c.args.body.now c.args.part.now c.args.slot c.requires).long.long
+pub returns : goal.returns
+returns c = record {
+  value = (rw c.deref.ensures.value at c.cell_of.ensures)
+      ∙ (ap (λ (cs : Columns). value_in_slot (row cs) c.args.slot c.held_at.result) (sym (children_out c.args.body.now c.args.part.now))
+      ∙ c.held_at.ensures.value);
+}

@@ -4,15 +4,15 @@ use Rattle.ipc_model.specs.declared.value.Value.{Value}
 use Rattle.ipc_column.proofs.Alone.{leaf_at, leaf_length}
 use Rattle.ipc_column.proofs.dictionary.DictionaryValues.at.Goals as goal
 
-pub value_in-requires-clause-slot : goal.value_in-requires-clause-slot
-value_in-requires-clause-slot c =
+pub slot_in-requires-clause-slot : goal.slot_in-requires-clause-slot
+slot_in-requires-clause-slot c =
     subst (λ (n : ℕ). c.args.i < n) (ap (λ (vs : List Value). length vs) (sym c.self.view_is)
     ∙ leaf_length c.self.inside.leaf c.in-Some.leaf c.in-Some.is) c.requires
 
 pub returns-in-Some-clause-value : goal.returns-in-Some-clause-value
-returns-in-Some-clause-value c =
+returns-in-Some-clause-value c = λ below k.
     let inside = subst (λ (n : ℕ). c.args.i < n) (ap (λ (vs : List Value). length vs) (sym c.self.view_is)
     ∙ leaf_length c.self.inside.leaf c.in-Some.leaf c.in-Some.is) c.requires in
     ap (λ (vs : List Value). slice_get vs c.args.i) (sym c.self.view_is)
     ∙ (leaf_at c.self.inside.leaf c.in-Some.leaf c.args.i c.in-Some.is inside
-    ∙ ap (λ (x : Value). Some x) (sym c.value_in.ensures.value))
+    ∙ ap (λ (x : Value). Some x) (sym (c.slot_in.ensures.value below k)))

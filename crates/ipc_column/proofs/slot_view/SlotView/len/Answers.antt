@@ -1,4 +1,5 @@
 use Rattle.std.proofs.Common.{◌∙◌, sym, ap, length}
+use Rattle.ipc_column.specs.Leaves.{values_or_none}
 use Rattle.ipc_column.specs.Lent.{column_of_buffers}
 use Rattle.ipc_column.specs.Nested.{Nested, slot_values}
 use Rattle.ipc_column.specs.Values.{row, value_of}
@@ -10,5 +11,5 @@ pub returns : goal.returns
 returns c =
     let s = c.self.inside in
     sym (items_length (value_of (row (part_columns s.body.now s.children.now))
-    (column_of_buffers s.layout s.slots s.validity.now s.offsets.now s.values.now s.dictionary.now)) 0 s.slots)
+    (column_of_buffers s.layout s.slots s.validity.now s.offsets.now s.values.now (values_or_none s.dictionary))) 0 s.slots)
     ∙ ap (λ (n : Nested). length (slot_values n)) c.self.view_is

@@ -1,4 +1,5 @@
 use Rattle.std.proofs.Common.{◌∙◌, sym, ap, refl}
+use Rattle.ipc_column.specs.Leaves.{values_or_none}
 use Rattle.ipc_column.specs.Lending.{are_numbers}
 use Rattle.ipc_column.specs.Lent.{column_of_buffers}
 use Rattle.ipc_column.specs.Nested.{Nested}
@@ -12,6 +13,7 @@ returns-in-Numbers-clause-lent c =
 pub returns-in-Numbers-clause-numbers : goal.returns-in-Numbers-clause-numbers
 returns-in-Numbers-clause-numbers c =
     let s = c.self.inside in
-    lent_numbers (column_of_buffers s.layout s.slots s.validity.now s.offsets.now s.values.now s.dictionary.now) s.body.now s.children.now
+    lent_numbers (column_of_buffers s.layout s.slots s.validity.now s.offsets.now s.values.now
+    (values_or_none s.dictionary)) s.body.now s.children.now
     c.args.self.now _
     c.self.view_is c.in-Numbers.is refl refl c.self.invariant.values
