@@ -29,6 +29,36 @@ fn push_excerpt(alloc: Global, out: &mut Vec<u8>, field: &[u8]) -> Result<(), Al
     }
 }
 
+// Appends an ellipsis if more bytes of a field remain than are shown.
+fn push_ellipsis(out: &mut Vec<u8>, field: &[u8]) -> Result<(), AllocError>
+    ensures ok { OnOk result (out.new.items ≡ out.old.items ++ spec.ellipsis field.now) }
+{
+    if field.len() > MAX_EXCERPT {
+        out.extend_from_slice(b"\xe2\x80\xa6")?;
+    }
+    Ok(())
+}
+
+// Appends the place of a byte that is not UTF-8.
+fn push_place(out: &mut Vec<u8>, place: usize) -> Result<(), AllocError>
+    ensures ok { OnOk result (out.new.items ≡ out.old.items ++ spec.place_words place) }
+{
+    out.extend_from_slice(b" (not UTF-8 at byte ")?;
+    push_number(out, place as u64)?;
+    out.extend_from_slice(b")")?;
+    Ok(())
+}
+
+// Appends the place of the first byte that is not UTF-8, if there is one.
+fn push_bad_byte(out: &mut Vec<u8>, field: &[u8]) -> Result<(), AllocError>
+    ensures ok { OnOk result (out.new.items ≡ out.old.items ++ spec.bad_byte_words field.now) }
+{
+    match str::from_utf8(field) {
+        Ok(_) => Ok(()),
+        Err(error) => push_place(out, error.valid_up_to()),
+    }
+}
+
 // Appends the words for a column.
 fn push_column(alloc: Global, out: &mut Vec<u8>, column: &Field) -> Result<(), AllocError>
     ensures { OnOk result (out.new.items ≡ out.old.items ++ column_words column.now) }
@@ -84,11 +114,13 @@ fn explain_field(
     column: &Field,
 ) -> Result<Vec<u8>, AllocError>
     ensures { IfOk result (λ out. (shown : List ℕ) × IsExcerpt field.now shown
-        × (out.items ≡ bad_field line shown words.now column.now)) }
+        × (out.items ≡ bad_field line shown field.now words.now column.now)) }
 {
     let mut out = Vec::new(alloc);
     push_line(&mut out, line)?;
     push_excerpt(alloc, &mut out, field)?;
+    push_ellipsis(&mut out, field)?;
+    push_bad_byte(&mut out, field)?;
     out.extend_from_slice(words)?;
     push_column(alloc, &mut out, column)?;
     out.extend_from_slice(b"\n")?;
@@ -96,8 +128,9 @@ fn explain_field(
 }
 
 /// Explains why a record is refused as X4 or X5, in a line with its line feed. The line has the
-/// number of the input's line. At X4 it has the beginning of the field, and the column's name and
-/// type; at X5 the numbers of fields and columns. For another fault the result is empty.
+/// number of the input's line. At X4 it has the beginning of the field, the place of its first byte
+/// that is not UTF-8, and the column's name and type; at X5 the numbers of fields and columns. For
+/// another fault the result is empty.
 ///
 /// `fields` is the record, as `job_from_csv::FromCsvStop::Record` returns it. The line's number is
 /// that of its position, which no contract states.
