@@ -19,8 +19,8 @@ use Rattle.ipc_model.specs.declared.value.Value.{Value}
 use Rattle.ipc_model.specs.declared.value.Value.TheVariants as v
 use Rattle.ipc_model.specs.declared.layout.Layout.{Layout}
 use Rattle.ipc_model.specs.declared.layout.Layout.TheVariants as l
-use Rattle.ipc_column.specs.declared.cause.Cause.{Cause}
-use Rattle.ipc_column.specs.declared.cause.Cause.TheVariants as cause
+use Rattle.ipc_model.specs.declared.fault.Fault.{Fault}
+use Rattle.ipc_model.specs.declared.fault.Fault.TheVariants as fault
 use Rattle.ipc_column.specs.declared.batch.Shared.{Shared}
 use Rattle.ipc_column.specs.declared.dictionary.Leaf.{Leaf}
 use Rattle.ipc_column.specs.declared.ranges.ColumnRanges.{ColumnRanges}
@@ -55,7 +55,7 @@ long_alone l.Structs n a = absurd (false≢true a)
 long_alone (l.FixedLists size) n a = absurd (false≢true a)
 long_alone _ n a = refl
 
-good_alone : (why : Cause) (layout : Layout) (d e : List Value) (f g : ℕ → ℕ → Bool) (o w : List ℕ) (i : ℕ) → has_no_children layout ≡ true
+good_alone : (why : Fault) (layout : Layout) (d e : List Value) (f g : ℕ → ℕ → Bool) (o w : List ℕ) (i : ℕ) → has_no_children layout ≡ true
     → good_below why layout d f o w i ≡ good_below why layout e g o w i
 good_alone why l.Lists d e f g o w i a = absurd (false≢true a)
 good_alone why (l.FixedLists size) d e f g o w i a = absurd (false≢true a)
@@ -95,8 +95,8 @@ hold_alone c cs a h = record {
   long = long_alone c.layout c.slots a;
   sound = λ why. refl;
   good = λ i m.
-      ap (λ (b : Bool). not (is_valid c.validity i) || b) (good_alone cause.ValueNotUtf8 c.layout [] c.dictionary
-      (good cause.ValueNotUtf8 none) (good cause.ValueNotUtf8 cs) c.offsets c.values i a) ∙ h.good i m;
+      ap (λ (b : Bool). not (is_valid c.validity i) || b) (good_alone fault.ValueNotUtf8 c.layout [] c.dictionary
+      (good fault.ValueNotUtf8 none) (good fault.ValueNotUtf8 cs) c.offsets c.values i a) ∙ h.good i m;
 }
 
 values_alone : (c : Column) (cs : Columns) (i : ℕ) → has_no_children c.layout ≡ true

@@ -3,7 +3,7 @@ use Rattle.std.proofs.Common.{◌≡◌, ◌∙◌, sym, ap, subst, ℕ, ◌+◌
 use Rattle.std.specs.Prelude.{slice_get}
 use Rattle.std.proofs.lemmas.Bool.{and_parts, eqb-true}
 use Rattle.ipc_model.specs.declared.value.Value.{Value}
-use Rattle.ipc_column.specs.declared.cause.Cause.TheVariants as cause
+use Rattle.ipc_model.specs.declared.fault.Fault.TheVariants as fault
 use Rattle.ipc_column.specs.declared.ranges.ColumnRanges.{ColumnRanges}
 use Rattle.ipc_column.specs.declared.ranges.ColumnRanges.TheViews.{out-ColumnRanges}
 use Rattle.ipc_column.specs.Columns.{Column, Columns}
@@ -27,7 +27,7 @@ items_first f n k l = items_at f 0 n k l ∙ ap (λ (j : ℕ). Some (f j)) (from
 pub column_slots : (body : List ℕ) (ps : List ColumnRanges) (n j : ℕ) (p : ColumnRanges) → j < length ps → p ≡ get_or ps j p
     → PassTests n (part_columns body ps) → (column_of body p).slots ≡ n
 column_slots body ps n j p l e h =
-    eqb-true _ _ (every_top_at (top_passes cause.BadNode n) body ps j p l e (and_parts _ _ (and_parts _ _ (h cause.BadNode)).1).0)
+    eqb-true _ _ (every_top_at (top_passes fault.BadNode n) body ps j p l e (and_parts _ _ (and_parts _ _ (h fault.BadNode)).1).0)
 
 -- its buffers have what its slots need
 pub column_holds : (body : List ℕ) (ps : List ColumnRanges) (n j : ℕ) (p : ColumnRanges) → j < length ps → p ≡ get_or ps j p

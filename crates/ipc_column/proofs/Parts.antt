@@ -7,7 +7,7 @@ use Rattle.std.proofs.lemmas.Bool.{and_parts, and_from, and_right}
 use Rattle.ipc_column.specs.declared.ranges.ColumnRanges.{ColumnRanges}
 use Rattle.ipc_column.specs.declared.ranges.ColumnRanges.TheViews.{out-ColumnRanges}
 use Rattle.ipc_column.specs.declared.ranges.ColumnRanges.TheFolds.{fold_out-ColumnRanges}
-use Rattle.ipc_column.specs.declared.cause.Cause.{Cause}
+use Rattle.ipc_model.specs.declared.fault.Fault.{Fault}
 use Rattle.ipc_column.specs.Columns.{Column, Columns, column, every, every_top}
 use Rattle.ipc_column.specs.checks.Checks.{Judges}
 use Rattle.ipc_column.specs.Views.{part_columns, part_step, column_of, children_of}
@@ -71,7 +71,7 @@ every_top_at test body (q ∷ ps) zero p l e h = rw e (and_parts _ _ h).0
 every_top_at test body (q ∷ ps) (suc j) p l e h = every_top_at test body ps j p (omega arith) e (and_parts _ _ h).1
 
 -- a family whose first part holds is judged by its second
-pub then_judges : {X : Type 0} (s t : Cause → Bool) (r : Result X Cause) → ((c : Cause) → s c ≡ true) → Judges r t
+pub then_judges : {X : Type 0} (s t : Fault → Bool) (r : Result X Fault) → ((c : Fault) → s c ≡ true) → Judges r t
     → Judges r (λ c. s c && t c)
 then_judges s t (Ok x) h j = λ c. and_from (s c) (t c) (h c) (j c)
 then_judges s t (Err d) h j = and_right (s d) (t d) j

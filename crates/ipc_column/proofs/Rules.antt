@@ -12,8 +12,8 @@ use Rattle.ipc_meta.specs.declared.head.BatchHead.{BatchHead}
 use Rattle.ipc_model.specs.declared.layout.Layout.{Layout}
 use Rattle.ipc_model.specs.declared.layout.Layout.TheVariants as l
 use Rattle.ipc_model.specs.Layouts.{number_bytes, has_validity}
-use Rattle.ipc_column.specs.declared.cause.Cause.{Cause}
-use Rattle.ipc_column.specs.declared.cause.Cause.TheVariants as cause
+use Rattle.ipc_model.specs.declared.fault.Fault.{Fault}
+use Rattle.ipc_model.specs.declared.fault.Fault.TheVariants as fault
 use Rattle.ipc_column.specs.Columns.{Column, Columns, none, column, Each, EachTop, every, every_top}
 use Rattle.ipc_column.specs.Shapes.{shape_of, field_columns}
 use Rattle.ipc_column.specs.checks.Rules.{HasNodes, HasBuffers, HasLengths, HasRanges, HasBytes, HasNullCounts, HasOrder, HasTexts}
@@ -108,9 +108,9 @@ of_offsets_bytes (l.VariableBytes utf8) n bytes = of_some n _ (of_bound (4 * (n 
 of_offsets_bytes l.Lists n bytes = of_some n _ (of_bound (4 * (n + 1)) bytes)
 of_offsets_bytes _ n bytes = (λ e. tt, λ h. refl)
 
-pub of_bytes : (c : Column) (children : Columns) → Decides (passes cause.BufferTooShort c children) (IsLongEnough c)
+pub of_bytes : (c : Column) (children : Columns) → Decides (passes fault.BufferTooShort c children) (IsLongEnough c)
 of_bytes c children =
-    Decides-like (passes cause.BufferTooShort c children) (λ p. record { bitmap = p.0; values = p.1.0; offsets = p.1.1 })
+    Decides-like (passes fault.BufferTooShort c children) (λ p. record { bitmap = p.0; values = p.1.0; offsets = p.1.1 })
     (λ h. (h.bitmap, (h.values, h.offsets)))
     (Decides-and _ _ (of_least (length c.validity) _ (length c.validity))
     (Decides-and _ _ (of_values c.layout c.slots (length c.values)) (of_offsets_bytes c.layout c.slots (length c.offsets))))
@@ -126,9 +126,9 @@ of_nulls nulls (suc bytes) least clear =
     (Decides-like _ (λ f. (λ l m. f m, λ z. absurd (omega arith))) (λ h. h.0 (omega arith))
     (of_when _ _ (of_bound least (suc bytes)) (Decides-eqb nulls clear)))
 
-of_null_count : (c : Column) (children : Columns) → Decides (passes cause.BadNullCount c children) (CountsNulls c)
+of_null_count : (c : Column) (children : Columns) → Decides (passes fault.BadNullCount c children) (CountsNulls c)
 of_null_count c children =
-    Decides-like (passes cause.BadNullCount c children) (λ f. record { with_bitmap = λ v. (f v).0; without_bitmap = λ v. (f v).1 })
+    Decides-like (passes fault.BadNullCount c children) (λ f. record { with_bitmap = λ v. (f v).0; without_bitmap = λ v. (f v).1 })
     (λ h v. (h.with_bitmap v, h.without_bitmap v))
     (of_when (has_validity c.layout) _ (λ e. e, λ e. e) (of_nulls c.nulls (length c.validity) _ _))
 
@@ -234,19 +234,24 @@ of_slots (pos m) h n = Decides-like (n == m) (λ e. ap pos e) (λ e. ap unsigned
 of_slots (negsuc m) h n = absurd (omega (arith, ints, h))
 
 -- what is asked, by the cause that is answered where it doesn't hold
-abbrev pub Asked : Limits → Cause → Dictionaries → List Field → BatchHead → List ℕ → Type 0
-Asked limits cause.WrongNodeCount m fields head body = HasNodes fields head
-Asked limits cause.WrongBufferCount m fields head body = HasBuffers fields head
-Asked limits cause.BadNode m fields head body = HasLengths limits m fields head body
-Asked limits cause.BufferOutOfBody m fields head body = HasRanges head body
-Asked limits cause.BufferTooShort m fields head body = HasBytes m fields head body
-Asked limits cause.BadNullCount m fields head body = HasNullCounts m fields head body
-Asked limits cause.BadOffsets m fields head body = HasOrder m fields head body
-Asked limits cause.ValueNotUtf8 m fields head body = HasTexts m fields head body
-Asked limits cause.BadIndex m fields head body = HasIndices m fields head body
+abbrev pub Asked : Limits → Fault → Dictionaries → List Field → BatchHead → List ℕ → Type 0
+Asked limits fault.WrongNodeCount m fields head body = HasNodes fields head
+Asked limits fault.WrongBufferCount m fields head body = HasBuffers fields head
+Asked limits fault.BadNode m fields head body = HasLengths limits m fields head body
+Asked limits fault.BufferOutOfBody m fields head body = HasRanges head body
+Asked limits fault.BufferTooShort m fields head body = HasBytes m fields head body
+Asked limits fault.BadNullCount m fields head body = HasNullCounts m fields head body
+Asked limits fault.BadOffsets m fields head body = HasOrder m fields head body
+Asked limits fault.ValueNotUtf8 m fields head body = HasTexts m fields head body
+Asked limits fault.BadIndex m fields head body = HasIndices m fields head body
+Asked limits _ m fields head body = ⊤
 
 of_nothing : (cs : Columns) → Decides (every_top (λ c. true) cs && true) ⊤
 of_nothing cs = (λ e. tt, λ h. and_from _ _ (every_top_true cs) refl)
+
+-- columns of which nothing is asked pass
+pub nothing_asked : (cs : Columns) → (true && (every (λ c children. true) cs && (every_top (λ c. true) cs && true))) ≡ true
+nothing_asked cs = and_from _ _ refl (and_from _ _ (every_true cs) (and_from _ _ (every_top_true cs) refl))
 
 of_head : (test : Bool) (P : Type 0) (cs : Columns) → Decides test P
     → Decides (test && (every (λ c children. true) cs && (every_top (λ c. true) cs && true))) P
@@ -264,19 +269,19 @@ of_visible test P cs d = Decides-like _ (λ p. p.1.1) (λ h. (every_true cs, (ev
     (Decides-and _ _ (λ e. e, λ e. e) (Decides-and _ _ (λ e. e, λ e. e) d))
 
 of_lengths : {limits : Limits} → (m : Dictionaries) (fields : List Field) (head : BatchHead) (body : List ℕ)
-    → Decides (fits limits m (shape_of fields) head body cause.BadNode) (HasLengths limits m fields head body)
+    → Decides (fits limits m (shape_of fields) head body fault.BadNode) (HasLengths limits m fields head body)
 of_lengths {limits} m fields head body =
     let cs = field_columns m fields head body in
     let n = unsigned_abs head.length in
-    let top : Column → Bool = top_passes cause.BadNode n in
-    let below = of_each (passes cause.BadNode) (λ c children. HasLongChildren c.layout c.slots children)
+    let top : Column → Bool = top_passes fault.BadNode n in
+    let below = of_each (passes fault.BadNode) (λ c children. HasLongChildren c.layout c.slots children)
     (λ c children. of_long c.layout c.slots children) cs in
     let nodes = of_nodes head.nodes in (
       λ e.
-          let p = and_parts (is_slot_count limits head.length && all (is_node limits) head.nodes) (every (passes cause.BadNode) cs
+          let p = and_parts (is_slot_count limits head.length && all (is_node limits) head.nodes) (every (passes fault.BadNode) cs
           && (every_top top cs && true)) e in
           let q = and_parts (is_slot_count limits head.length) (all (is_node limits) head.nodes) p.0 in
-          let r = and_parts (every (passes cause.BadNode) cs) (every_top top cs && true) p.1 in
+          let r = and_parts (every (passes fault.BadNode) cs) (every_top top cs && true) p.1 in
           let t = and_parts (every_top top cs) true r.1 in
           let batch = (of_slot_count head.length).0 q.0 in
           record {
@@ -286,7 +291,7 @@ of_lengths {limits} m fields head body =
             children = below.0 r.0;
           },
       λ h.
-          and_from (is_slot_count limits head.length && all (is_node limits) head.nodes) (every (passes cause.BadNode) cs
+          and_from (is_slot_count limits head.length && all (is_node limits) head.nodes) (every (passes fault.BadNode) cs
           && (every_top top cs && true))
           (and_from _ _ ((of_slot_count head.length).1 h.batch) (nodes.1 h.nodes))
           (and_from _ _ (below.1 h.children) (and_from _ _ ((of_each_top top (λ c. pos c.slots ≡ head.length)
@@ -302,22 +307,23 @@ of_ranges head body = Decides-by_and (is_within_body (length body)) (IsWithinBod
     (of_range (length body)) refl (λ _ _. refl) head.buffers
 
 -- the test of each cause decides whether what the standard asks there holds
-pub decides : (limits : Limits) (why : Cause) (m : Dictionaries) (fields : List Field) (head : BatchHead) (body : List ℕ)
+pub decides : (limits : Limits) (why : Fault) (m : Dictionaries) (fields : List Field) (head : BatchHead) (body : List ℕ)
     → Decides (fits limits m (shape_of fields) head body why) (Asked limits why m fields head body)
-decides limits cause.WrongNodeCount m fields head body = of_head _ _ (field_columns m fields head body) (Decides-eqb _ _)
-decides limits cause.WrongBufferCount m fields head body = of_head _ _ (field_columns m fields head body) (Decides-eqb _ _)
-decides limits cause.BadNode m fields head body = of_lengths m fields head body
-decides limits cause.BufferOutOfBody m fields head body = of_head _ _ (field_columns m fields head body) (of_ranges head body)
-decides limits cause.BufferTooShort m fields head body = of_columns _ _ (field_columns m fields head body) of_bytes
-decides limits cause.BadNullCount m fields head body = of_columns _ _ (field_columns m fields head body) of_null_count
-decides limits cause.BadOffsets m fields head body =
+decides limits fault.WrongNodeCount m fields head body = of_head _ _ (field_columns m fields head body) (Decides-eqb _ _)
+decides limits fault.WrongBufferCount m fields head body = of_head _ _ (field_columns m fields head body) (Decides-eqb _ _)
+decides limits fault.BadNode m fields head body = of_lengths m fields head body
+decides limits fault.BufferOutOfBody m fields head body = of_head _ _ (field_columns m fields head body) (of_ranges head body)
+decides limits fault.BufferTooShort m fields head body = of_columns _ _ (field_columns m fields head body) of_bytes
+decides limits fault.BadNullCount m fields head body = of_columns _ _ (field_columns m fields head body) of_null_count
+decides limits fault.BadOffsets m fields head body =
     of_columns _ _ (field_columns m fields head body) (λ c children. of_order c.layout c.slots c.offsets (length c.values) children)
-decides limits cause.ValueNotUtf8 m fields head body = of_visible _ _ (field_columns m fields head body)
+decides limits fault.ValueNotUtf8 m fields head body = of_visible _ _ (field_columns m fields head body)
     (of_rows _ (HasUtf8Texts (field_columns m fields head body)) (unsigned_abs head.length)
     (of_good (field_columns m fields head body) 0 (unsigned_abs head.length)))
-decides limits cause.BadIndex m fields head body = of_visible _ _ (field_columns m fields head body)
+decides limits fault.BadIndex m fields head body = of_visible _ _ (field_columns m fields head body)
     (of_rows _ (HoldsIndices (field_columns m fields head body)) (unsigned_abs head.length)
     (of_indexed (field_columns m fields head body) 0 (unsigned_abs head.length)))
+decides limits _ m fields head body = of_head true ⊤ (field_columns m fields head body) (λ e. tt, λ h. refl)
 
 -- a length that isn't negative is its absolute value
 pub length_is : {limits : Limits} → (z : ℤ) → IsSlotCount limits z → z ≡ pos (unsigned_abs z)

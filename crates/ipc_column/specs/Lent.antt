@@ -1,8 +1,8 @@
 -- What validation established about slots.
 use Rattle.std.specs.Prelude.{◌≡◌, ℕ, ◌≤◌, ◌<◌, true, List, [], length, slice_get}
 use Rattle.std.specs.Prelude.{slice_index_or}
-use Rattle.ipc_column.specs.declared.cause.Cause.{Cause}
-use Rattle.ipc_column.specs.declared.cause.Cause.TheVariants as cause
+use Rattle.ipc_model.specs.declared.fault.Fault.{Fault}
+use Rattle.ipc_model.specs.declared.fault.Fault.TheVariants as fault
 use Rattle.ipc_model.specs.declared.layout.Layout.{Layout}
 use Rattle.ipc_model.specs.declared.value.Value.{Value}
 use Rattle.ipc_column.specs.Columns.{Column, Columns, every}
@@ -15,23 +15,23 @@ use Rattle.ipc_column.specs.Values.{Cells, items, value_of, row}
 pub record AreSlots (cs : Columns) (from to : ℕ) : Type 0 where
   pub order : from ≤ to
   pub within : have_slots to cs ≡ true
-  pub sound : (why : Cause) → every (passes why) cs ≡ true
+  pub sound : (why : Fault) → every (passes why) cs ≡ true
 
 -- the columns have these slots (`AreSlots`), and the texts in them are UTF-8
 pub record HaveValues (cs : Columns) (from to : ℕ) : Type 0 where
   pub slots : AreSlots cs from to
-  pub good : good cause.ValueNotUtf8 cs from to ≡ true
+  pub good : good fault.ValueNotUtf8 cs from to ≡ true
 
 -- a column with these children has slot i, and their buffers have what their slots need
 pub record IsSlot (c : Column) (children : Columns) (i : ℕ) : Type 0 where
   pub within : i < c.slots
-  pub own : (why : Cause) → passes why c children ≡ true
-  pub sound : (why : Cause) → every (passes why) children ≡ true
+  pub own : (why : Fault) → passes why c children ≡ true
+  pub sound : (why : Fault) → every (passes why) children ≡ true
 
 -- a column has slot i (`IsSlot`), and the texts in it and below it are UTF-8
 pub record HasValue (c : Column) (children : Columns) (i : ℕ) : Type 0 where
   pub slot : IsSlot c children i
-  pub good : good_slot cause.ValueNotUtf8 (good cause.ValueNotUtf8 children) c i ≡ true
+  pub good : good_slot fault.ValueNotUtf8 (good fault.ValueNotUtf8 children) c i ≡ true
 
 -- the buffers of a column and of its children have what their slots need, and the texts of the
 -- column are UTF-8
@@ -41,9 +41,9 @@ pub record HoldSlots (c : Column) (children : Columns) : Type 0 where
   pub offsets : holds_offsets c.layout c.slots (length c.offsets) ≡ true
   pub order : in_order c.layout c.slots c.offsets (length c.values) children ≡ true
   pub long : children_have_slots c.layout c.slots children ≡ true
-  pub sound : (why : Cause) → every (passes why) children ≡ true
+  pub sound : (why : Fault) → every (passes why) children ≡ true
   pub good : (i : ℕ) → i < c.slots
-      → good_slot cause.ValueNotUtf8 (good cause.ValueNotUtf8 children) c i ≡ true
+      → good_slot fault.ValueNotUtf8 (good fault.ValueNotUtf8 children) c i ≡ true
 
 -- the buffers of a column and of its children have what their slots need; texts may be other than
 -- UTF-8
@@ -53,7 +53,7 @@ pub record AreFound (c : Column) (children : Columns) : Type 0 where
   pub offsets : holds_offsets c.layout c.slots (length c.offsets) ≡ true
   pub order : in_order c.layout c.slots c.offsets (length c.values) children ≡ true
   pub long : children_have_slots c.layout c.slots children ≡ true
-  pub sound : (why : Cause) → every (passes why) children ≡ true
+  pub sound : (why : Fault) → every (passes why) children ≡ true
 
 -- a column of these buffers with this dictionary; its null count is set to 0, as it is not read
 abbrev pub column_of_buffers : Layout → ℕ → List ℕ → List ℕ → List ℕ → List Value → Column

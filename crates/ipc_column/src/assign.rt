@@ -73,44 +73,40 @@ fn buffer_range(head: &BatchHead, buffer: usize) -> BufferRange
     }
 }
 
-// The validity bitmap of a field with this first buffer.
+// The ranges of a field's own buffers, which begin with this one: its validity bitmap, its offsets
+// and its values. A buffer that its layout does not have has no bytes.
 #[tactic(auto, using(crate::proofs::Fields::empty_bytes))]
-fn validity_range(layout: Layout, head: &BatchHead, first: usize) -> BufferRange
-    requires { first + own_buffers layout ≤ length head.now.buffers }
-    ensures { (body : List ℕ) → span_bytes body result ≡ validity_at layout head.now body first }
-{
-    match layout {
-        Layout::Null => BufferRange { start: 0, len: 0 },
-        _ => buffer_range(head, first),
-    }
-}
-
-// The offsets of a field with this first buffer.
-#[tactic(auto, using(crate::proofs::Fields::empty_bytes))]
-fn offsets_range(layout: Layout, head: &BatchHead, first: usize) -> BufferRange
+fn own_ranges(
+    layout: Layout,
+    head: &BatchHead,
+    first: usize,
+) -> (BufferRange, BufferRange, BufferRange)
     requires buffers { first + own_buffers layout ≤ length head.now.buffers }
     requires few { length head.now.buffers < 2 ^ 60 }
-    ensures { (body : List ℕ) → span_bytes body result ≡ offsets_at layout head.now body first }
+    ensures validity { (body : List ℕ) → span_bytes body result.0
+        ≡ validity_at layout head.now body first }
+    ensures offsets { (body : List ℕ) → span_bytes body result.1
+        ≡ offsets_at layout head.now body first }
+    ensures values { (body : List ℕ) → span_bytes body result.2
+        ≡ values_at layout head.now body first }
 {
-    match layout {
-        Layout::VariableBytes { .. } | Layout::Lists => buffer_range(head, first + 1),
-        _ => BufferRange { start: 0, len: 0 },
+    let none = BufferRange { start: 0, len: 0 };
+    if let Layout::Null = layout {
+        return (none, none, none);
     }
-}
-
-// The values of a field with this first buffer.
-#[tactic(auto, using(crate::proofs::Fields::empty_bytes))]
-fn values_range(layout: Layout, head: &BatchHead, first: usize) -> BufferRange
-    requires buffers { first + own_buffers layout ≤ length head.now.buffers }
-    requires few { length head.now.buffers < 2 ^ 60 }
-    ensures { (body : List ℕ) → span_bytes body result ≡ values_at layout head.now body first }
-{
+    let validity = buffer_range(head, first);
     match layout {
-        Layout::Null | Layout::Lists | Layout::FixedLists(_) | Layout::Structs => {
-            BufferRange { start: 0, len: 0 }
+        Layout::VariableBytes { .. } => {
+            let offsets = buffer_range(head, first + 1);
+            (validity, offsets, buffer_range(head, first + 2))
         }
-        Layout::VariableBytes { .. } => buffer_range(head, first + 2),
-        _ => buffer_range(head, first + 1),
+        Layout::Lists => (validity, buffer_range(head, first + 1), none),
+        Layout::Null | Layout::FixedLists(_) | Layout::Structs => (validity, none, none),
+        Layout::Bits | Layout::Numbers { .. } | Layout::FixedBytes(_) | Layout::Indices { .. } => (
+            validity,
+            none,
+            buffer_range(head, first + 1),
+        ),
     }
 }
 
@@ -180,13 +176,14 @@ fn assign_field(
     };
     let fields = field.children.as_slice();
     let (children, next) = assign_buffers(alloc, fields, head, dictionaries, below)?;
+    let (validity, offsets, values) = own_ranges(layout, head, at.buffer);
     let part = ColumnRanges {
         layout,
         slots: slots.unsigned_abs() as usize,
         nulls: nulls.unsigned_abs() as usize,
-        validity: validity_range(layout, head, at.buffer),
-        offsets: offsets_range(layout, head, at.buffer),
-        values: values_range(layout, head, at.buffer),
+        validity,
+        offsets,
+        values,
         children,
         dictionary: dictionary_of(layout, dictionaries)?,
         known_valid: false,

@@ -77,50 +77,6 @@ fn share(alloc: Global, shared: Shared) -> Result<Batch, AllocError>
     })
 }
 
-// The rows of fields, as far as the head and the body give them.
-fn read(
-    alloc: Global,
-    limits: &Limits,
-    fields: &[Field],
-    head: &BatchHead,
-    body: Vec<u8>,
-    dictionaries: &BTreeMap<i64, Arc<Batch>>,
-) -> Result<Batch, Fault>
-    requires few { node_count (shape_of fields.now) ≤ limits.now.fields }
-    requires dictionaries { AreDictionaries dictionaries.now }
-    ensures passing { IfOk result (λ batch. Passing limits.now (dictionaries_in dictionaries.now)
-        (shape_of fields.now) head.now body.items batch.rows) }
-    ensures columns { IfOk result (λ batch. batch.columns ≡ length fields.now) }
-    ensures layouts { IfOk result (λ batch. layouts batch ≡ map field_layout fields.now) }
-    ensures buffers { IfOk result (λ batch. map with_children batch.slots
-        ≡ found_columns (assigned_columns (dictionaries_in dictionaries.now) (shape_of fields.now)
-        head.now
-        body.items 0 0)) }
-    ensures body { IfOk result (λ batch. batch.body_len ≡ length body.items) }
-    ensures bytes { IfOk result (λ batch. batch.body ≡ body.items) }
-    ensures visits { IfOk result (λ batch. batch.tests
-        ≤ visits_in (assigned_columns (dictionaries_in dictionaries.now) (shape_of fields.now)
-        head.now
-        body.items 0 0)) }
-    ensures slots { IfOk result (λ batch. batch.tests ≤ slots_in head.now.nodes) }
-    ensures failing { IfErr result
-        (λ fault. Failing limits.now fault (dictionaries_in dictionaries.now) (shape_of fields.now)
-        head.now body.items) }
-{
-    check_head(limits, fields, head, body.len())?;
-    let start = Cursor { node: 0, buffer: 0 };
-    let (mut parts, _) = assign_buffers(alloc, fields, head, dictionaries, start)?;
-    let count = head.length.unsigned_abs() as usize;
-    let slot_tests = check_columns(&body, &mut parts, count)?;
-    let shared = Shared {
-        count,
-        parts,
-        body: Arc::new(alloc, body)?,
-        slot_tests,
-    };
-    Ok(share(alloc, shared)?)
-}
-
 impl Clone for Batch {
     ghost use Rattle.std.specs.Prelude.{◌≡◌};
 
@@ -194,7 +150,18 @@ impl Batch {
             fields.now head body.items)) }
         ensures tests { IfOk result (λ batch. batch.tests ≤ slots_in head.nodes) }
     {
-        read(alloc, limits, fields, &head, body, dictionaries)
+        check_head(limits, fields, &head, body.len())?;
+        let start = Cursor { node: 0, buffer: 0 };
+        let (mut parts, _) = assign_buffers(alloc, fields, &head, dictionaries, start)?;
+        let count = head.length.unsigned_abs() as usize;
+        let slot_tests = check_columns(&body, &mut parts, count)?;
+        let shared = Shared {
+            count,
+            parts,
+            body: Arc::new(alloc, body)?,
+            slot_tests,
+        };
+        Ok(share(alloc, shared)?)
     }
 
     /// Returns the number of rows.

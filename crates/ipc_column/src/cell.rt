@@ -1,4 +1,5 @@
 ghost use Rattle.std.specs.Prelude.{◌≡◌, ◌<◌, ◌+◌, ◌-◌, length, Some, slice_get};
+ghost use Rattle.std.specs.Iterator.{YieldsFirstBy};
 ghost use Rattle.ipc_column.specs.Cells.{cell_value};
 ghost use Rattle.ipc_column.specs.checks.Checks.{PassTests};
 ghost use Rattle.ipc_column.specs.Lent.{HaveValues, HasValue};
@@ -6,7 +7,7 @@ ghost use Rattle.ipc_column.specs.Slots.{RefersToValues, value_in_slot};
 ghost use Rattle.ipc_column.specs.Values.{value_of, row, items, first_at};
 ghost use Rattle.ipc_column.specs.Views.{part_columns, column_of, children_of};
 
-use crate::cell_iter::{ListIter, StructIter, list_values, struct_values};
+use crate::cell_iter::{ListIter, StructIter, list_iter, struct_iter};
 use crate::ranges::ColumnRanges;
 use crate::slot_view::{Slot, slots_of};
 use crate::texts::text_of;
@@ -82,7 +83,19 @@ impl<'a> ListCell<'a> {
     pub fn iter(&self) -> ListIter<'a>
         ensures { result ≡ self.now }
     {
-        list_values(self.body, self.parts, self.from, self.to)
+        list_iter(list_of(self.body, self.parts, self.from, self.to))
+    }
+
+    /// Takes off the first value, and lends it. Returns `None` if there is none.
+    pub(crate) fn pop_first(&mut self) -> Option<Cell<'a>>
+        ensures { YieldsFirstBy cell_value (λ s. s) self.old result self.new }
+    {
+        if self.from == self.to {
+            return None;
+        }
+        let cell = item_at(self.body, self.parts, self.from, self.to, 0);
+        self.from += 1;
+        Some(cell)
     }
 }
 
@@ -134,7 +147,17 @@ impl<'a> StructCell<'a> {
     pub fn iter(&self) -> StructIter<'a>
         ensures { result ≡ self.now }
     {
-        struct_values(self.body, self.parts, self.slot)
+        struct_iter(struct_of(self.body, self.parts, self.slot))
+    }
+
+    /// Takes off the first value, and lends it. Returns `None` if there is none.
+    pub(crate) fn pop_first(&mut self) -> Option<Cell<'a>>
+        ensures { YieldsFirstBy cell_value (λ s. s) self.old result self.new }
+    {
+        let (part, others) = self.parts.split_first()?;
+        let cell = cell_at(self.body, part, self.slot);
+        self.parts = others;
+        Some(cell)
     }
 }
 

@@ -78,6 +78,7 @@ impl DictionaryValues {
     /// Returns the slots of the values, if there is a column of them.
     pub(crate) fn slots(&self) -> Option<SlotView<'_>>
         ensures values { IfSome result (λ slots. slot_values slots ≡ self.now) }
+        ensures alone { IfSome result (λ slots. slots.column.dictionary ≡ []) }
         ensures none { IfNone result (self.now ≡ []) }
     {
         match &self.leaf {
@@ -103,7 +104,8 @@ impl DictionaryValues {
 // The slots of a column without children or dictionary.
 fn slots_of(leaf: &Leaf) -> SlotView<'_>
     requires { IsLeafColumn leaf.now }
-    ensures { slot_values result ≡ values_in (leaf_column leaf.now) none }
+    ensures values { slot_values result ≡ values_in (leaf_column leaf.now) none }
+    ensures alone { result.column.dictionary ≡ [] }
 {
     let body = leaf.body.as_slice();
     leaf_slots(

@@ -4,9 +4,8 @@ ghost use Rattle.ipc_column.specs.checks.Checks.{is_node, is_within_body, head_p
 ghost use Rattle.ipc_column.specs.Shapes.{shape_of, node_count};
 
 use crate::assign::{Cursor, count};
-use crate::cause::Cause;
 use ipc_meta::BatchHead;
-use ipc_model::{Field, Limits};
+use ipc_model::{Fault, Field, Limits};
 
 fn is_slot_count(limits: &Limits, count: i64) -> bool
     ensures { result ≡ is_slot_count limits.now count }
@@ -57,7 +56,7 @@ pub(crate) fn check_head(
     fields: &[Field],
     head: &BatchHead,
     size: usize,
-) -> Result<(), Cause>
+) -> Result<(), Fault>
     requires { node_count (shape_of fields.now) ≤ limits.now.fields }
     ensures judged { Judges result (λ why. head_passes limits.now why (shape_of fields.now)
         head.now size) }
@@ -67,16 +66,16 @@ pub(crate) fn check_head(
 {
     let wanted = count(fields, Cursor { node: 0, buffer: 0 });
     if head.nodes.len() != wanted.node {
-        return Err(Cause::WrongNodeCount);
+        return Err(Fault::WrongNodeCount);
     }
     if head.buffers.len() != wanted.buffer {
-        return Err(Cause::WrongBufferCount);
+        return Err(Fault::WrongBufferCount);
     }
     if !is_slot_count(limits, head.length) || !are_nodes(limits, head.nodes.as_slice()) {
-        return Err(Cause::BadNode);
+        return Err(Fault::BadNode);
     }
     if !are_within_body(size, head.buffers.as_slice()) {
-        return Err(Cause::BufferOutOfBody);
+        return Err(Fault::BufferOutOfBody);
     }
     Ok(())
 }

@@ -36,7 +36,7 @@ pub(crate) fn are_indices(
 }
 
 // Whether a slot is null or holds an index of one of `count` values. The slot is visited.
-fn visit_index(
+fn is_null_or_index(
     bits: IntBits,
     signed: bool,
     validity: &[u8],
@@ -56,7 +56,7 @@ fn visit_index(
 
 /// Returns whether each slot from `from` up to `to` is null or holds an index of one of `count`
 /// values.
-pub(crate) fn visit_indices(
+pub(crate) fn are_null_or_indices(
     bits: IntBits,
     signed: bool,
     validity: &[u8],
@@ -75,7 +75,7 @@ pub(crate) fn visit_indices(
     ensures counted { tests.new ≤ tests.old + (to - from) }
 {
     for slot in from..to {
-        if !visit_index(bits, signed, validity, indices, count, slot, tests) {
+        if !is_null_or_index(bits, signed, validity, indices, count, slot, tests) {
             return false;
         }
     }

@@ -7,7 +7,6 @@ mod assign;
 mod batch;
 mod bitmaps;
 mod buffers;
-mod cause;
 mod cell;
 mod cell_iter;
 mod dictionary;

@@ -2,7 +2,7 @@
 //! visited.
 ghost use Rattle.std.specs.Prelude.{◌≡◌, ℕ, List, map, true, false, IsTrue};
 ghost use Rattle.ipc_model.specs.Layouts.{needs_slot_checks};
-ghost use Rattle.ipc_column.specs.declared.cause.Cause.{Cause};
+ghost use Rattle.ipc_model.specs.declared.fault.Fault.{Fault};
 ghost use Rattle.ipc_column.specs.declared.ranges.ColumnRanges.TheViews.{out-ColumnRanges};
 ghost use Rattle.ipc_column.specs.checks.Checks.{passes};
 ghost use Rattle.ipc_column.specs.Columns.{every};
@@ -17,7 +17,7 @@ use ipc_model::Layout;
 // Whether all slots of a part, null slots included, hold valid texts or indices. The texts or
 // indices are scanned once, whatever the slots above them show.
 fn are_slots_valid(body: &[u8], part: &ColumnRanges) -> bool
-    requires { (why : Cause) → every (passes why) (one body.now part.now) ≡ true }
+    requires { (why : Fault) → every (passes why) (one body.now part.now) ≡ true }
     ensures { IsTrue result
         → all_valid (column_of body.now part.now).layout (column_of body.now part.now) ≡ true }
 {
@@ -47,7 +47,7 @@ fn are_valid_throughout(parts: &[ColumnRanges]) -> bool
 
 // Whether what is in a part and below it is known to be valid, once the parts below it store this.
 fn is_valid_throughout(body: &[u8], part: &ColumnRanges) -> bool
-    requires { (why : Cause) → every (passes why) (one body.now part.now) ≡ true }
+    requires { (why : Fault) → every (passes why) (one body.now part.now) ≡ true }
     ensures own { IsTrue result → needs_slot_checks (column_of body.now part.now).layout ≡ true
         → all_valid (column_of body.now part.now).layout (column_of body.now part.now) ≡ true }
     ensures below { needs_slot_checks (column_of body.now part.now).layout ≡ false
@@ -63,7 +63,7 @@ fn is_valid_throughout(body: &[u8], part: &ColumnRanges) -> bool
 // Stores in a part, and in each part below it, whether what is there is known to be valid.
 #[cycle(mark)]
 fn store_facts(body: &[u8], part: &mut ColumnRanges)
-    requires { (why : Cause) → every (passes why) (one body.now part.old) ≡ true }
+    requires { (why : Fault) → every (passes why) (one body.now part.old) ≡ true }
     ensures column { column_of body.now part.new ≡ column_of body.now part.old }
     ensures children { children_of body.now part.new ≡ children_of body.now part.old }
     ensures marked { IsMarked body.now part.new }
@@ -76,7 +76,7 @@ fn store_facts(body: &[u8], part: &mut ColumnRanges)
 /// Each node is scanned once. Nothing else of the parts changes.
 #[cycle(mark)]
 pub(crate) fn store_all_facts(body: &[u8], parts: &mut [ColumnRanges])
-    requires { (why : Cause) → every (passes why) (part_columns body.now parts.old) ≡ true }
+    requires { (why : Fault) → every (passes why) (part_columns body.now parts.old) ≡ true }
     ensures columns { part_columns body.now parts.new ≡ part_columns body.now parts.old }
     ensures marked { AreMarked body.now parts.new }
 {

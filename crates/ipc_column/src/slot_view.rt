@@ -8,7 +8,7 @@ ghost use Rattle.ipc_model.specs.declared.schema.IntBits.{IntBits};
 ghost use Rattle.ipc_model.specs.declared.layout.Layout.TheVariants.{Indices};
 ghost use Rattle.ipc_model.specs.declared.value.Value.{Value};
 ghost use Rattle.ipc_model.specs.declared.value.Value.TheVariants.{Null};
-ghost use Rattle.ipc_column.specs.declared.cause.Cause.{Cause};
+ghost use Rattle.ipc_model.specs.declared.fault.Fault.{Fault};
 ghost use Rattle.ipc_column.specs.Cells.{cell_value};
 ghost use Rattle.ipc_column.specs.Columns.{Columns, every, none};
 ghost use Rattle.ipc_column.specs.Dictionaries.{has_no_children};
@@ -301,11 +301,12 @@ impl<'a> SlotView<'a> {
         }
     }
 
-    /// Returns the slots of the values of the column's dictionary. `None` comes only if the column
-    /// has no values of a dictionary.
+    /// Returns the slots of the values of the column's dictionary. They have no dictionary of their
+    /// own. `None` comes only if the column has no values of a dictionary.
     pub fn entries(&self) -> Option<SlotView<'a>>
         ensures values { IfSome result
             (λ entries. slot_values entries ≡ self.now.column.dictionary) }
+        ensures alone { IfSome result (λ entries. entries.column.dictionary ≡ []) }
         ensures none { IfNone result (self.now.column.dictionary ≡ []) }
     {
         self.dictionary?.slots()
@@ -371,7 +372,7 @@ pub(crate) fn leaf_slot<'a>(
     ensures value { has_no_children layout ≡ true → (below : ℕ → List Value) (i : ℕ)
         → value_in_slot below i result
         ≡ own_value layout [] (row none) offsets.now values.now slot }
-    ensures leaf { good_below Cause.ValueNotUtf8 layout [] (good Cause.ValueNotUtf8 none)
+    ensures leaf { good_below Fault.ValueNotUtf8 layout [] (good Fault.ValueNotUtf8 none)
         offsets.now values.now slot ≡ true → IsLeaf result }
     ensures inside { (children : Columns) (i : ℕ) → HasChildSlots children i result }
 {
@@ -422,9 +423,9 @@ fn own_slot<'a>(
         offsets.now values.now slot }
     ensures inside { (body : List ℕ) → HasChildSlots (part_columns body children.now) slot result }
     ensures shown { (body : List ℕ)
-        → ((why : Cause) → every (passes why) (part_columns body children.now) ≡ true)
-        → good_below Cause.ValueNotUtf8 layout (values_or_none dictionary.entry)
-        (good Cause.ValueNotUtf8 (part_columns body children.now)) offsets.now values.now slot
+        → ((why : Fault) → every (passes why) (part_columns body children.now) ≡ true)
+        → good_below Fault.ValueNotUtf8 layout (values_or_none dictionary.entry)
+        (good Fault.ValueNotUtf8 (part_columns body children.now)) offsets.now values.now slot
         ≡ true → RefersToValues (part_columns body children.now) slot result }
 {
     match layout {
@@ -455,8 +456,9 @@ pub(crate) fn leaf_slots<'a>(
 ) -> SlotView<'a>
     requires { AreFound (column_of_buffers layout slots validity.now offsets.now values.now [])
         none }
-    ensures { slot_values result ≡ values_in
+    ensures values { slot_values result ≡ values_in
         (column_of_buffers layout slots validity.now offsets.now values.now []) none }
+    ensures alone { result.column.dictionary ≡ [] }
 {
     SlotView {
         layout,

@@ -53,7 +53,7 @@ pub(crate) fn are_texts(offsets: &[u8], values: &[u8], slots: usize) -> bool
 }
 
 // Whether a slot, one of `slots`, is null or holds UTF-8. The slot is visited.
-fn visit_text(
+fn is_null_or_text(
     validity: &[u8],
     offsets: &[u8],
     values: &[u8],
@@ -73,7 +73,7 @@ fn visit_text(
 }
 
 /// Returns whether each slot from `from` up to `to`, of `slots` slots, is null or holds UTF-8.
-pub(crate) fn visit_texts(
+pub(crate) fn are_null_or_texts(
     validity: &[u8],
     offsets: &[u8],
     values: &[u8],
@@ -93,7 +93,7 @@ pub(crate) fn visit_texts(
     ensures counted { tests.new ≤ tests.old + (to - from) }
 {
     for slot in from..to {
-        if !visit_text(validity, offsets, values, slots, slot, tests) {
+        if !is_null_or_text(validity, offsets, values, slots, slot, tests) {
             return false;
         }
     }

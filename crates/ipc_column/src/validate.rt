@@ -9,12 +9,11 @@ ghost use Rattle.ipc_column.specs.checks.Rules.{visits_in};
 ghost use Rattle.ipc_column.specs.Values.{offset_position};
 ghost use Rattle.ipc_column.specs.Views.{part_columns, column_of, children_of};
 
-use crate::cause::Cause;
 use crate::offsets::{are_in_order, place_at};
 use crate::ranges::{ColumnRanges, bytes_at};
 use crate::slot_facts::store_all_facts;
-use crate::visit::visit_all;
-use ipc_model::Layout;
+use crate::visit::check_all_values;
+use ipc_model::{Fault, Layout};
 use ipc_scalar::count_clear;
 
 fn has_bitmap(slots: usize, bytes: usize) -> bool
@@ -138,7 +137,7 @@ fn nulls_in(validity: &[u8], slots: usize) -> usize
 
 // Whether a part's buffers have the bytes that its slots need, its null count is right, its offsets
 // are in order and its children are long enough.
-fn check_part(body: &[u8], part: &ColumnRanges) -> Result<(), Cause>
+fn check_buffers(body: &[u8], part: &ColumnRanges) -> Result<(), Fault>
     ensures { Judges result
         (λ why. passes why (column_of body.now part.now) (children_of body.now part.now)) }
 {
@@ -149,10 +148,10 @@ fn check_part(body: &[u8], part: &ColumnRanges) -> Result<(), Cause>
         || !holds_values(part.layout, part.slots, values.len())
         || !holds_offsets(part.layout, part.slots, offsets.len())
     {
-        return Err(Cause::BufferTooShort);
+        return Err(Fault::BufferTooShort);
     }
     if part.layout.has_validity() && part.nulls != nulls_in(validity, part.slots) {
-        return Err(Cause::BadNullCount);
+        return Err(Fault::BadNullCount);
     }
     if !in_order(
         part.layout,
@@ -161,37 +160,37 @@ fn check_part(body: &[u8], part: &ColumnRanges) -> Result<(), Cause>
         values.len(),
         &part.children,
     ) {
-        return Err(Cause::BadOffsets);
+        return Err(Fault::BadOffsets);
     }
     if !children_have_slots(part.layout, part.slots, &part.children) {
-        return Err(Cause::BadNode);
+        return Err(Fault::BadNode);
     }
     Ok(())
 }
 
 // Checks each part with its children.
-#[cycle(check_all)]
-fn check_all(body: &[u8], parts: &[ColumnRanges]) -> Result<(), Cause>
+#[cycle(check_each_column)]
+fn check_each_column(body: &[u8], parts: &[ColumnRanges]) -> Result<(), Fault>
     ensures { Judges result (λ why. every (passes why) (part_columns body.now parts.now)) }
 {
     for part in parts {
-        check_tree(body, part)?;
+        check_column(body, part)?;
     }
     Ok(())
 }
 
-#[cycle(check_all)]
-fn check_tree(body: &[u8], part: &ColumnRanges) -> Result<(), Cause>
+#[cycle(check_each_column)]
+fn check_column(body: &[u8], part: &ColumnRanges) -> Result<(), Fault>
     ensures { Judges result
         (λ why. passes why (column_of body.now part.now) (children_of body.now part.now)
         && every (passes why) (children_of body.now part.now)) }
 {
-    check_part(body, part)?;
-    check_all(body, &part.children)
+    check_buffers(body, part)?;
+    check_each_column(body, &part.children)
 }
 
 // Whether each part has a slot for each row.
-fn check_top_nodes(body: &[u8], parts: &[ColumnRanges], rows: usize) -> Result<(), Cause>
+fn check_lengths(body: &[u8], parts: &[ColumnRanges], rows: usize) -> Result<(), Fault>
     ensures { Judges result (λ why. every_top (top_passes why rows)
         (part_columns body.now parts.now)) }
 {
@@ -199,7 +198,7 @@ fn check_top_nodes(body: &[u8], parts: &[ColumnRanges], rows: usize) -> Result<(
     for part in parts {
         same = same && part.slots == rows;
     }
-    if same { Ok(()) } else { Err(Cause::BadNode) }
+    if same { Ok(()) } else { Err(Fault::BadNode) }
 }
 
 /// Checks that the parts, which are the columns of a batch, have `rows` rows. Returns the number of
@@ -208,19 +207,19 @@ pub(crate) fn check_columns(
     body: &[u8],
     parts: &mut [ColumnRanges],
     rows: usize,
-) -> Result<u64, Cause>
+) -> Result<u64, Fault>
     requires few { visits_in (part_columns body.now parts.old) < 2 ^ 64 }
     ensures judged { Judges result (λ why. all_pass why rows (part_columns body.now parts.old)) }
     // What rows show comes last.
-    ensures shown_last { IfErr result (λ why. is_shown why ≡ true → (other : Cause)
+    ensures shown_last { IfErr result (λ why. is_shown why ≡ true → (other : Fault)
         → every (passes other) (part_columns body.now parts.old) ≡ true) }
     ensures visited { IfOk result (λ tests. tests ≤ visits_in (part_columns body.now parts.old)) }
     ensures columns { part_columns body.now parts.new ≡ part_columns body.now parts.old }
 {
-    check_all(body, parts)?;
-    check_top_nodes(body, parts, rows)?;
+    check_each_column(body, parts)?;
+    check_lengths(body, parts, rows)?;
     store_all_facts(body, parts);
     let mut tests = 0;
-    visit_all(body, parts, 0, rows, &mut tests)?;
+    check_all_values(body, parts, 0, rows, &mut tests)?;
     Ok(tests)
 }

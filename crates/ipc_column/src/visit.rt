@@ -10,12 +10,11 @@ ghost use Rattle.ipc_column.specs.Views.{part_columns, column_of, children_of, o
 ghost use Rattle.ipc_column.specs.checks.Weights.{weight, weight_below};
 
 use crate::bitmaps::is_valid;
-use crate::cause::Cause;
-use crate::indices::visit_indices;
+use crate::indices::are_null_or_indices;
 use crate::offsets::{fixed_place, place_at};
 use crate::ranges::{ColumnRanges, bytes_at};
-use crate::texts::visit_texts;
-use ipc_model::{IntBits, Layout};
+use crate::texts::are_null_or_texts;
+use ipc_model::{Fault, IntBits, Layout};
 
 /// Returns whether a slot is not null. Each slot that is visited by itself is visited here, and the
 /// visit is counted.
@@ -33,13 +32,13 @@ pub(crate) fn visit(validity: &[u8], slot: usize, tests: &mut u64) -> bool
 // the slots between its offsets; for a fixed-size list its number of slots for each; for a struct
 // the slots of equal number of each child.
 #[cycle(visit)]
-fn visit_below(
+fn check_children(
     body: &[u8],
     part: &ColumnRanges,
     from: usize,
     to: usize,
     tests: &mut u64,
-) -> Result<(), Cause>
+) -> Result<(), Fault>
     requires some { from < to }
     requires slots { AreSlots (one body.now part.now) from to }
     requires room { tests.old + weight_below (column_of body.now part.now).layout
@@ -56,14 +55,14 @@ fn visit_below(
             let offsets = bytes_at(body, part.offsets);
             let first = place_at(offsets, from);
             let end = place_at(offsets, to);
-            visit_all(body, &part.children, first, end, tests)
+            check_all_values(body, &part.children, first, end, tests)
         }
         Layout::FixedLists(size) => {
             let first = fixed_place(size, &part.children, from);
             let last = fixed_place(size, &part.children, to - 1) + size as usize;
-            visit_all(body, &part.children, first, last, tests)
+            check_all_values(body, &part.children, first, last, tests)
         }
-        Layout::Structs => visit_all(body, &part.children, from, to, tests),
+        Layout::Structs => check_all_values(body, &part.children, from, to, tests),
         _ => Ok(()),
     }
 }
@@ -71,7 +70,7 @@ fn visit_below(
 // Whether a slot is null or its descendants are valid. Some descendant of the part has texts or
 // indices. The slot is visited.
 #[cycle(visit)]
-fn visit_slot(body: &[u8], part: &ColumnRanges, slot: usize, tests: &mut u64) -> Result<(), Cause>
+fn check_slot(body: &[u8], part: &ColumnRanges, slot: usize, tests: &mut u64) -> Result<(), Fault>
     requires slots { AreSlots (one body.now part.now) slot (slot + 1) }
     requires below { needs_slot_checks (column_of body.now part.now).layout ≡ false }
     requires visited { has_slot_visits (column_of body.now part.now) (children_of body.now part.now)
@@ -86,18 +85,18 @@ fn visit_slot(body: &[u8], part: &ColumnRanges, slot: usize, tests: &mut u64) ->
     if !visit(bytes_at(body, part.validity), slot, tests) {
         return Ok(());
     }
-    visit_below(body, part, slot, slot + 1, tests)
+    check_children(body, part, slot, slot + 1, tests)
 }
 
 // Whether the slots from `from` up to `to` are each null or their descendants are valid.
 #[cycle(visit)]
-fn visit_slots(
+fn check_slots(
     body: &[u8],
     part: &ColumnRanges,
     from: usize,
     to: usize,
     tests: &mut u64,
-) -> Result<(), Cause>
+) -> Result<(), Fault>
     requires slots { AreSlots (one body.now part.now) from to }
     requires below { needs_slot_checks (column_of body.now part.now).layout ≡ false }
     requires visited { has_slot_visits (column_of body.now part.now) (children_of body.now part.now)
@@ -108,19 +107,19 @@ fn visit_slots(
     ensures cost { tests.new ≤ tests.old + weight (one body.now part.now) from to }
 {
     for slot in from..to {
-        visit_slot(body, part, slot, tests)?;
+        check_slot(body, part, slot, tests)?;
     }
     Ok(())
 }
 
 // Whether the slots of a part of texts from one up to another are each null or hold UTF-8.
-fn visit_text_part(
+fn check_utf8(
     body: &[u8],
     part: &ColumnRanges,
     from: usize,
     to: usize,
     tests: &mut u64,
-) -> Result<(), Cause>
+) -> Result<(), Fault>
     requires some { from < to }
     requires texts { is_texts (column_of body.now part.now).layout ≡ true }
     requires slots { AreSlots (one body.now part.now) from to }
@@ -131,16 +130,16 @@ fn visit_text_part(
     let validity = bytes_at(body, part.validity);
     let offsets = bytes_at(body, part.offsets);
     let values = bytes_at(body, part.values);
-    if visit_texts(validity, offsets, values, part.slots, from, to, tests) {
+    if are_null_or_texts(validity, offsets, values, part.slots, from, to, tests) {
         Ok(())
     } else {
-        Err(Cause::ValueNotUtf8)
+        Err(Fault::ValueNotUtf8)
     }
 }
 
 // Whether the slots of a part of indices from one up to another are each null or hold one of a
 // value in its dictionary.
-fn visit_index_part(
+fn check_indices(
     body: &[u8],
     part: &ColumnRanges,
     bits: IntBits,
@@ -148,7 +147,7 @@ fn visit_index_part(
     from: usize,
     to: usize,
     tests: &mut u64,
-) -> Result<(), Cause>
+) -> Result<(), Fault>
     requires some { from < to }
     requires indices { IsIndexed (column_of body.now part.now).layout bits signed }
     requires slots { AreSlots (one body.now part.now) from to }
@@ -159,10 +158,10 @@ fn visit_index_part(
     let validity = bytes_at(body, part.validity);
     let indices = bytes_at(body, part.values);
     let count = part.dictionary.len();
-    if visit_indices(bits, signed, validity, indices, count, from, to, tests) {
+    if are_null_or_indices(bits, signed, validity, indices, count, from, to, tests) {
         Ok(())
     } else {
-        Err(Cause::BadIndex)
+        Err(Fault::BadIndex)
     }
 }
 
@@ -170,13 +169,13 @@ fn visit_index_part(
 // UTF-8 and its indices are those of values, with its descendants. Nothing is visited that is known
 // to be valid. Without a bitmap all descendants are checked together.
 #[cycle(visit)]
-fn visit_part(
+fn check_values(
     body: &[u8],
     part: &ColumnRanges,
     from: usize,
     to: usize,
     tests: &mut u64,
-) -> Result<(), Cause>
+) -> Result<(), Fault>
     requires slots { AreSlots (one body.now part.now) from to }
     requires room { tests.old + weight (one body.now part.now) from to < 2 ^ 64 }
     requires marks { IsMarked body.now part.now }
@@ -190,27 +189,27 @@ fn visit_part(
         return Ok(());
     }
     if part.layout.is_texts() {
-        return visit_text_part(body, part, from, to, tests);
+        return check_utf8(body, part, from, to, tests);
     }
     if let Layout::Indices { bits, signed, .. } = part.layout {
-        return visit_index_part(body, part, bits, signed, from, to, tests);
+        return check_indices(body, part, bits, signed, from, to, tests);
     }
     if bytes_at(body, part.validity).is_empty() {
-        return visit_below(body, part, from, to, tests);
+        return check_children(body, part, from, to, tests);
     }
-    visit_slots(body, part, from, to, tests)
+    check_slots(body, part, from, to, tests)
 }
 
 /// Checks the slots of each part from `from` up to `to`: every visible text is UTF-8, and every
 /// visible index is that of a value. Each slot that is visited is counted.
 #[cycle(visit)]
-pub(crate) fn visit_all(
+pub(crate) fn check_all_values(
     body: &[u8],
     parts: &[ColumnRanges],
     from: usize,
     to: usize,
     tests: &mut u64,
-) -> Result<(), Cause>
+) -> Result<(), Fault>
     requires slots { AreSlots (part_columns body.now parts.now) from to }
     requires room { tests.old + weight (part_columns body.now parts.now) from to < 2 ^ 64 }
     requires marks { AreMarked body.now parts.now }
@@ -218,7 +217,7 @@ pub(crate) fn visit_all(
     ensures cost { tests.new ≤ tests.old + weight (part_columns body.now parts.now) from to }
 {
     for part in parts {
-        visit_part(body, part, from, to, tests)?;
+        check_values(body, part, from, to, tests)?;
     }
     Ok(())
 }

@@ -3,7 +3,7 @@ use Rattle.std.proofs.Common.{◌≡◌, ◌∙◌, refl, ap, subst, ℕ, suc, �
 use Rattle.std.specs.Prelude.{slice_get, unwrap_or}
 use Rattle.std.proofs.lemmas.Bool.{and_parts}
 use Rattle.ipc_model.specs.declared.value.Value.{Value}
-use Rattle.ipc_column.specs.declared.cause.Cause.TheVariants as cause
+use Rattle.ipc_model.specs.declared.fault.Fault.TheVariants as fault
 use Rattle.ipc_column.specs.declared.ranges.ColumnRanges.{ColumnRanges}
 use Rattle.ipc_column.specs.Columns.{Columns}
 use Rattle.ipc_column.specs.Lent.{HaveValues, HasValue}
@@ -25,7 +25,7 @@ items_then f i j x l h =
 pub have_next : (cs : Columns) (i j : ℕ) → i < j → HaveValues cs i j → HaveValues cs (i + 1) j
 have_next cs i j l h = record {
   slots = slots_within cs i j (i + 1) j h.slots (omega arith) (omega arith);
-  good = good_within cause.ValueNotUtf8 cs i j (i + 1) j h.good (omega arith) (omega arith) (omega arith);
+  good = good_within fault.ValueNotUtf8 cs i j (i + 1) j h.good (omega arith) (omega arith) (omega arith);
 }
 
 -- the first part has a value where all have

@@ -11,8 +11,8 @@ use Rattle.ipc_model.specs.declared.layout.Layout.TheVariants as l
 use Rattle.ipc_model.specs.Layouts.{is_texts}
 use Rattle.ipc_column.specs.declared.ranges.ColumnRanges.{ColumnRanges}
 use Rattle.ipc_column.specs.declared.ranges.ColumnRanges.TheViews.{out-ColumnRanges}
-use Rattle.ipc_column.specs.declared.cause.Cause.{Cause}
-use Rattle.ipc_column.specs.declared.cause.Cause.TheVariants as cause
+use Rattle.ipc_model.specs.declared.fault.Fault.{Fault}
+use Rattle.ipc_model.specs.declared.fault.Fault.TheVariants as fault
 use Rattle.ipc_column.specs.Columns.{Column, Columns, none, column, every, every_top}
 use Rattle.ipc_column.specs.Values.{row, items, first_at, value_of, offset_position, child_slot, is_nested}
 use Rattle.ipc_column.specs.checks.Checks.{passes, top_passes, has_bitmap, holds_values, holds_offsets, in_order, children_have_slots}
@@ -38,12 +38,12 @@ pub record Long (c : Column) (children : Columns) : Type 0 where
   pub order : in_order c.layout c.slots c.offsets (length c.values) children ≡ true
   pub long : children_have_slots c.layout c.slots children ≡ true
 
-pub long : (c : Column) (children : Columns) → ((why : Cause) → passes why c children ≡ true) → Long c children
+pub long : (c : Column) (children : Columns) → ((why : Fault) → passes why c children ≡ true) → Long c children
 long c children h =
     let p = and_parts (has_bitmap c.slots (length c.validity))
-    (holds_values c.layout c.slots (length c.values) && holds_offsets c.layout c.slots (length c.offsets)) (h cause.BufferTooShort) in
+    (holds_values c.layout c.slots (length c.values) && holds_offsets c.layout c.slots (length c.offsets)) (h fault.BufferTooShort) in
     let q = and_parts (holds_values c.layout c.slots (length c.values)) (holds_offsets c.layout c.slots (length c.offsets)) p.1 in
-    record { bitmap = p.0; values = q.0; offsets = q.1; order = h cause.BadOffsets; long = h cause.BadNode }
+    record { bitmap = p.0; values = q.0; offsets = q.1; order = h fault.BadOffsets; long = h fault.BadNode }
 
 -- offsets of 32 bits, of so many slots
 pub bytes_from : (n bytes : ℕ) → (n == 0 || nat_le (4 * (n + 1)) bytes) ≡ true → 0 < n → 4 * (n + 1) ≤ bytes
@@ -122,11 +122,11 @@ pub slots_in_one : (c : Column) (children : Columns) (i j : ℕ) → AreSlots (c
 slots_in_one c children i j h = leb-true j c.slots (and_parts _ _ h.within).0
 
 pub own_in_one : (c : Column) (children : Columns) (i j : ℕ) → AreSlots (column c children none) i j
-    → (why : Cause) → passes why c children ≡ true
+    → (why : Fault) → passes why c children ≡ true
 own_in_one c children i j h why = (and_parts _ _ (h.sound why)).0
 
 pub below_in_one : (c : Column) (children : Columns) (i j : ℕ) → AreSlots (column c children none) i j
-    → (why : Cause) → every (passes why) children ≡ true
+    → (why : Fault) → every (passes why) children ≡ true
 below_in_one c children i j h why = (and_parts _ _ (and_parts _ _ (h.sound why)).1).0
 
 -- the first column and those behind it
@@ -174,11 +174,11 @@ items_at f i (suc n) (suc k) l =
     items_at f (i + 1) n k (omega arith) ∙ ap (λ (j : ℕ). Some (f j)) e
 
 good_at : (body : List ℕ) (ps : List ColumnRanges) (a b i j : ℕ) (p : ColumnRanges) → j < length ps → p ≡ get_or ps j p → a ≤ i → i < b
-    → good cause.ValueNotUtf8 (part_columns body ps) a b ≡ true → good_slot cause.ValueNotUtf8
-    (good cause.ValueNotUtf8 (children_of body p))
+    → good fault.ValueNotUtf8 (part_columns body ps) a b ≡ true → good_slot fault.ValueNotUtf8
+    (good fault.ValueNotUtf8 (children_of body p))
     (column_of body p) i ≡ true
 good_at body [] a b i j p l e f m h = absurd (omega arith)
-good_at body (q ∷ ps) a b i zero p l e f m h = rw e (slots_at (good_slot cause.ValueNotUtf8 (good cause.ValueNotUtf8
+good_at body (q ∷ ps) a b i zero p l e f m h = rw e (slots_at (good_slot fault.ValueNotUtf8 (good fault.ValueNotUtf8
     (children_of body q)) (column_of body q)) a b i
     (and_parts _ _ h).0 f m)
 good_at body (q ∷ ps) a b i (suc j) p l e f m h = good_at body ps a b i j p (omega arith) e f m (and_parts _ _ h).1
@@ -210,8 +210,8 @@ part_value body p i =
 
 -- the slots that a list of a fixed size holds have values
 pub fixed_values : (children : Columns) (size n i : ℕ) → i < n → children_have_slots (l.FixedLists size) n children ≡ true
-    → ((why : Cause) → every (passes why) children ≡ true) → good_below cause.ValueNotUtf8 (l.FixedLists size) []
-    (good cause.ValueNotUtf8 children) [] [] i ≡ true
+    → ((why : Fault) → every (passes why) children ≡ true) → good_below fault.ValueNotUtf8 (l.FixedLists size) []
+    (good fault.ValueNotUtf8 children) [] [] i ≡ true
     → HaveValues children (size * i) (size * (i + 1))
 fixed_values children size n i l h s g =
     let r = fixed_range [] children size n h i (i + 1) (omega arith) (omega arith) in
@@ -219,40 +219,40 @@ fixed_values children size n i l h s g =
 
 -- a struct's slot has values in its children
 pub struct_values : (children : Columns) (n i : ℕ) → i < n → children_have_slots l.Structs n children ≡ true
-    → ((why : Cause) → every (passes why) children ≡ true) → good_below cause.ValueNotUtf8 l.Structs []
-    (good cause.ValueNotUtf8 children) [] [] i ≡ true
+    → ((why : Fault) → every (passes why) children ≡ true) → good_below fault.ValueNotUtf8 l.Structs []
+    (good fault.ValueNotUtf8 children) [] [] i ≡ true
     → HaveValues children i (i + 1)
 struct_values children n i l h s g = record {
   slots = record { order = omega arith; within = fewer_slots children (i + 1) n (omega arith) h; sound = s };
   good = g;
 }
 
-have_at : (cs : Columns) (n m : ℕ) → m ≤ n → every_top (top_passes cause.BadNode n) cs ≡ true → have_slots m cs ≡ true
+have_at : (cs : Columns) (n m : ℕ) → m ≤ n → every_top (top_passes fault.BadNode n) cs ≡ true → have_slots m cs ≡ true
 have_at none n m l h = refl
 have_at (column c children rest) n m l h =
-    let p = and_parts (c.slots == n) (every_top (top_passes cause.BadNode n) rest) h in
+    let p = and_parts (c.slots == n) (every_top (top_passes fault.BadNode n) rest) h in
     let e = eqb-true c.slots n p.0 in
     and_from (nat_le m c.slots) (have_slots m rest) (le-leb m c.slots (omega (arith, e))) (have_at rest n m l p.1)
 
 -- the slots of the rows are there
-pub row_slots : (cs : Columns) (n i j : ℕ) → i ≤ j → j ≤ n → ((why : Cause) → every (passes why) cs ≡ true)
-    → every_top (top_passes cause.BadNode n) cs ≡ true → AreSlots cs i j
+pub row_slots : (cs : Columns) (n i j : ℕ) → i ≤ j → j ≤ n → ((why : Fault) → every (passes why) cs ≡ true)
+    → every_top (top_passes fault.BadNode n) cs ≡ true → AreSlots cs i j
 row_slots cs n i j l m s t = record { order = l; within = have_at cs n j m t; sound = s }
 
 -- each row of n has values
 pub row_values : (cs : Columns) (n i : ℕ) → i < n → PassTests n cs → HaveValues cs i (i + 1)
 row_values cs n i l h =
-    let top : (why : Cause) → every_top (top_passes why n) cs ≡ true = λ why. (and_parts _ _ (and_parts _ _ (h why)).1).0 in
-    let all : good cause.ValueNotUtf8 cs 0 n ≡ true = (and_parts _ _ (and_parts _ _ (h cause.ValueNotUtf8)).1).1 in
+    let top : (why : Fault) → every_top (top_passes why n) cs ≡ true = λ why. (and_parts _ _ (and_parts _ _ (h why)).1).0 in
+    let all : good fault.ValueNotUtf8 cs 0 n ≡ true = (and_parts _ _ (and_parts _ _ (h fault.ValueNotUtf8)).1).1 in
     record {
-      slots = row_slots cs n i (i + 1) (omega arith) (omega arith) (λ why. (and_parts _ _ (h why)).0) (top cause.BadNode);
-      good = good_within cause.ValueNotUtf8 cs 0 n i (i + 1) all (omega arith) (omega arith) (omega arith);
+      slots = row_slots cs n i (i + 1) (omega arith) (omega arith) (λ why. (and_parts _ _ (h why)).0) (top fault.BadNode);
+      good = good_within fault.ValueNotUtf8 cs 0 n i (i + 1) all (omega arith) (omega arith) (omega arith);
     }
 
 -- a list's slots, of these offsets and children
 pub list_have : (o : List ℕ) (cs : Columns) (n i size : ℕ) → i < n → holds_offsets l.Lists n (length o) ≡ true
-    → in_order l.Lists n o size cs ≡ true → ((why : Cause) → every (passes why) cs ≡ true)
-    → good_below cause.ValueNotUtf8 l.Lists [] (good cause.ValueNotUtf8 cs) o [] i ≡ true
+    → in_order l.Lists n o size cs ≡ true → ((why : Fault) → every (passes why) cs ≡ true)
+    → good_below fault.ValueNotUtf8 l.Lists [] (good fault.ValueNotUtf8 cs) o [] i ≡ true
     → HaveValues cs (offset_position o i) (offset_position o (i + 1))
 list_have o cs n i size m a b s g =
     let bytes = bytes_from n (length o) a (omega arith) in
@@ -298,33 +298,26 @@ part_most body p i j h = slots_in_one (own_column body p) (part_columns body (ou
     (part_slots body p i j h)
 
 -- a test of no top column but those of another length
-pub tops_judged : (cs : Columns) (n : ℕ) → every_top (top_passes cause.BadNode n) cs ≡ true → (why : Cause)
+pub tops_judged : (cs : Columns) (n : ℕ) → every_top (top_passes fault.BadNode n) cs ≡ true → (why : Fault)
     → every_top (top_passes why n) cs ≡ true
-tops_judged cs n h cause.BadNode = h
-tops_judged cs n h cause.WrongNodeCount = every_top_true cs
-tops_judged cs n h cause.WrongBufferCount = every_top_true cs
-tops_judged cs n h cause.BufferOutOfBody = every_top_true cs
-tops_judged cs n h cause.BufferTooShort = every_top_true cs
-tops_judged cs n h cause.BadNullCount = every_top_true cs
-tops_judged cs n h cause.BadOffsets = every_top_true cs
-tops_judged cs n h cause.ValueNotUtf8 = every_top_true cs
-tops_judged cs n h cause.BadIndex = every_top_true cs
+tops_judged cs n h fault.BadNode = h
+tops_judged cs n h _ = every_top_true cs
 
 -- all tests of columns whose rows are good
-pub all_judged : (cs : Columns) (n : ℕ) → ((why : Cause) → every (passes why) cs ≡ true)
-    → ((why : Cause) → every_top (top_passes why n) cs ≡ true) → ((why : Cause) → good why cs 0 n ≡ true)
-    → (why : Cause) → all_pass why n cs ≡ true
+pub all_judged : (cs : Columns) (n : ℕ) → ((why : Fault) → every (passes why) cs ≡ true)
+    → ((why : Fault) → every_top (top_passes why n) cs ≡ true) → ((why : Fault) → good why cs 0 n ≡ true)
+    → (why : Fault) → all_pass why n cs ≡ true
 all_judged cs n s t g why = and_from _ _ (s why) (and_from _ _ (t why) (sym (shown_is why n cs) ∙ g why))
 
 -- what rows show fails its test
-pub shown_fails : (why : Cause) (n : ℕ) (cs : Columns) → good why cs 0 n ≡ false → all_pass why n cs ≡ false
+pub shown_fails : (why : Fault) (n : ℕ) (cs : Columns) → good why cs 0 n ≡ false → all_pass why n cs ≡ false
 shown_fails why n cs h =
     and_right (every (passes why) cs) _ (and_right (every_top (top_passes why n) cs) _ (sym (shown_is why n cs) ∙ h))
 
 -- a cause that is found in what rows show asks nothing of the columns
-pub shown_asks : (why : Cause) (cs : Columns) → is_shown why ≡ true → every (passes why) cs ≡ true
-shown_asks cause.ValueNotUtf8 cs e = every_true cs
-shown_asks cause.BadIndex cs e = every_true cs
+pub shown_asks : (why : Fault) (cs : Columns) → is_shown why ≡ true → every (passes why) cs ≡ true
+shown_asks fault.ValueNotUtf8 cs e = every_true cs
+shown_asks fault.BadIndex cs e = every_true cs
 shown_asks _ cs e = absurd (false≢true e)
 
 -- a bitmap of n bits has those before a slot

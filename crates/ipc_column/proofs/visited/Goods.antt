@@ -9,8 +9,8 @@ use Rattle.ipc_model.specs.declared.layout.Layout.TheVariants as l
 use Rattle.ipc_model.specs.Layouts.{needs_slot_checks, is_texts}
 use Rattle.ipc_model.specs.declared.schema.IntBits.{IntBits}
 use Rattle.ipc_model.specs.declared.value.Value.{Value}
-use Rattle.ipc_column.specs.declared.cause.Cause.{Cause}
-use Rattle.ipc_column.specs.declared.cause.Cause.TheVariants as cause
+use Rattle.ipc_model.specs.declared.fault.Fault.{Fault}
+use Rattle.ipc_model.specs.declared.fault.Fault.TheVariants as fault
 use Rattle.ipc_column.specs.Columns.{Column, Columns, none, column}
 use Rattle.ipc_column.specs.Values.{between, number_in, offset_position, is_valid, child_slot}
 use Rattle.ipc_column.specs.checks.Rules.{have_slot_checks}
@@ -76,13 +76,13 @@ slots_add f a b c l m =
     rw (e, below_add (λ k. f (a + k)) (b - a) (c - b), same) refl
 
 -- no slots are good
-pub good_none : (why : Cause) (cs : Columns) (k : ℕ) → good why cs k k ≡ true
+pub good_none : (why : Fault) (cs : Columns) (k : ℕ) → good why cs k k ≡ true
 good_none why none k = refl
 good_none why (column c children rest) k = and_from _ _ (none_below (λ i. good_slot why (good why children) c (k + i)) k)
     (good_none why rest k)
 
 -- neighbouring ranges are good where the whole is
-pub good_add : (why : Cause) (cs : Columns) (a b c : ℕ) → a ≤ b → b ≤ c → good why cs a c ≡ (good why cs a b && good why cs b c)
+pub good_add : (why : Fault) (cs : Columns) (a b c : ℕ) → a ≤ b → b ≤ c → good why cs a c ≡ (good why cs a b && good why cs b c)
 good_add why none a b c l m = refl
 good_add why (column d children rest) a b c l m =
     rw (slots_add (good_slot why (good why children) d) a b c l m, good_add why rest a b c l m)
@@ -91,18 +91,18 @@ good_add why (column d children rest) a b c l m =
     (good why rest b c))
 
 -- a range within a good one
-pub good_within : (why : Cause) (cs : Columns) (a b i j : ℕ) → good why cs a b ≡ true → a ≤ i → i ≤ j → j ≤ b → good why cs i j ≡ true
+pub good_within : (why : Fault) (cs : Columns) (a b i j : ℕ) → good why cs a b ≡ true → a ≤ i → i ≤ j → j ≤ b → good why cs i j ≡ true
 good_within why cs a b i j h l m n =
     let p = and_parts (good why cs a i) (good why cs i b) (sym (good_add why cs a i b l (omega arith)) ∙ h) in
     (and_parts (good why cs i j) (good why cs j b) (sym (good_add why cs i j b m n) ∙ p.1)).0
 
 -- one column alone
-pub good_one : (why : Cause) (c : Column) (children : Columns) (i j : ℕ)
+pub good_one : (why : Fault) (c : Column) (children : Columns) (i j : ℕ)
     → good why (column c children none) i j ≡ all_slots (good_slot why (good why children) c) i (j - i)
 good_one why c children i j = and_true _
 
 -- the first column and those behind it
-pub good_first : (why : Cause) (c : Column) (children rest : Columns) (i j : ℕ)
+pub good_first : (why : Fault) (c : Column) (children rest : Columns) (i j : ℕ)
     → good why (column c children rest) i j ≡ (good why (column c children none) i j && good why rest i j)
 good_first why c children rest i j = ap (λ (b : Bool). b && good why rest i j) (sym (and_true _))
 
@@ -115,7 +115,7 @@ or_true true = refl
 or_true false = refl
 
 -- where neither texts nor indices stand in the columns or below them, nothing is asked
-pub quiet_good : (why : Cause) (cs : Columns) (i j : ℕ) → have_slot_checks cs ≡ false → good why cs i j ≡ true
+pub quiet_good : (why : Fault) (cs : Columns) (i j : ℕ) → have_slot_checks cs ≡ false → good why cs i j ≡ true
 quiet_good why none i j h = refl
 quiet_good why (column c children rest) i j h =
     let p = or_parts (needs_slot_checks c.layout) (have_slot_checks children || have_slot_checks rest) h in
@@ -136,7 +136,7 @@ quiet_good why (column c children rest) i j h =
     below _ d o w k e all = refl
 
 -- what the slots of several rows lead to
-run_good : (why : Cause) (layout : Layout) (dictionary : List Value) (children : Columns) (o w : List ℕ) (a m : ℕ)
+run_good : (why : Fault) (layout : Layout) (dictionary : List Value) (children : Columns) (o w : List ℕ) (a m : ℕ)
     → needs_slot_checks layout ≡ false
     → ((i : ℕ) → a ≤ i → i < a + m → child_slot layout o i ≤ child_slot layout o (i + 1))
     → all_slots (good_below why layout dictionary (good why children) o w) a m ≡ range_good layout (good why children) o a (a + m)
@@ -180,7 +180,7 @@ run_good why (l.VariableBytes false) d children o w a m t up = below_from (λ k.
 run_good why (l.Indices bits signed id) d children o w a m t up = absurd (false≢true (sym t))
 
 -- without a bitmap, what the slots of a range lead to is what the range leads to
-pub range_whole : (why : Cause) (c : Column) (children : Columns) (i j : ℕ) → needs_slot_checks c.layout ≡ false → length c.validity ≡ 0 → i
+pub range_whole : (why : Fault) (c : Column) (children : Columns) (i j : ℕ) → needs_slot_checks c.layout ≡ false → length c.validity ≡ 0 → i
     ≤ j
     → ((k : ℕ) → i ≤ k → k < j → child_slot c.layout c.offsets k ≤ child_slot c.layout c.offsets (k + 1))
     → range_good c.layout (good why children) c.offsets i j ≡ good why (column c children none) i j
@@ -195,7 +195,7 @@ range_whole why c children i j t v l up =
     sym (good_one why c children i j ∙ (same ∙ (run ∙ ap (λ (k : ℕ). range_good c.layout (good why children) c.offsets i k) e)))
 
 -- what one slot leads to
-pub slot_range : (why : Cause) (layout : Layout) (dictionary : List Value) (below : ℕ → ℕ → Bool) (o w : List ℕ) (i : ℕ)
+pub slot_range : (why : Fault) (layout : Layout) (dictionary : List Value) (below : ℕ → ℕ → Bool) (o w : List ℕ) (i : ℕ)
     → needs_slot_checks layout ≡ false → range_good layout below o i (i + 1) ≡ good_below why layout dictionary below o w i
 slot_range why (l.VariableBytes true) d below o w i t = absurd (false≢true (sym t))
 slot_range why (l.VariableBytes false) d below o w i t = refl
@@ -221,7 +221,7 @@ texts_layout (l.VariableBytes true) e = refl
 texts_layout _ e = absurd (false≢true e)
 
 -- slots that pass each test by themselves
-own_good : (why : Cause) (c : Column) (children : Columns) (i j : ℕ)
+own_good : (why : Fault) (c : Column) (children : Columns) (i j : ℕ)
     → ((k : ℕ) → good_below why c.layout c.dictionary (good why children) c.offsets c.values k ≡ true)
     → good why (column c children none) i j ≡ true
 own_good why c children i j all =
@@ -230,64 +230,50 @@ own_good why c children i j all =
 
 -- texts, by themselves
 texts_one : (c : Column) (children : Columns) (i j : ℕ) → c.layout ≡ l.VariableBytes true
-    → all_slots (text_good c.validity c.offsets c.values) i (j - i) ≡ good cause.ValueNotUtf8 (column c children none) i j
+    → all_slots (text_good c.validity c.offsets c.values) i (j - i) ≡ good fault.ValueNotUtf8 (column c children none) i j
 texts_one c children i j e =
     let same = below_same (λ k. text_good c.validity c.offsets c.values (i + k))
-    (λ k. good_slot cause.ValueNotUtf8 (good cause.ValueNotUtf8 children) c (i + k)) (j - i) (λ k. rw e refl) in
-    same ∙ sym (good_one cause.ValueNotUtf8 c children i j)
+    (λ k. good_slot fault.ValueNotUtf8 (good fault.ValueNotUtf8 children) c (i + k)) (j - i) (λ k. rw e refl) in
+    same ∙ sym (good_one fault.ValueNotUtf8 c children i j)
 
 -- where they are UTF-8, they pass every test
 texts_all : (c : Column) (children : Columns) (i j : ℕ) → c.layout ≡ l.VariableBytes true
-    → good cause.ValueNotUtf8 (column c children none) i j ≡ true → (why : Cause) → good why (column c children none) i j ≡ true
-texts_all c children i j e h cause.ValueNotUtf8 = h
-texts_all c children i j e h cause.WrongNodeCount = own_good cause.WrongNodeCount c children i j (λ k. rw e refl)
-texts_all c children i j e h cause.WrongBufferCount = own_good cause.WrongBufferCount c children i j (λ k. rw e refl)
-texts_all c children i j e h cause.BadNode = own_good cause.BadNode c children i j (λ k. rw e refl)
-texts_all c children i j e h cause.BufferOutOfBody = own_good cause.BufferOutOfBody c children i j (λ k. rw e refl)
-texts_all c children i j e h cause.BufferTooShort = own_good cause.BufferTooShort c children i j (λ k. rw e refl)
-texts_all c children i j e h cause.BadNullCount = own_good cause.BadNullCount c children i j (λ k. rw e refl)
-texts_all c children i j e h cause.BadOffsets = own_good cause.BadOffsets c children i j (λ k. rw e refl)
-texts_all c children i j e h cause.BadIndex = own_good cause.BadIndex c children i j (λ k. rw e refl)
+    → good fault.ValueNotUtf8 (column c children none) i j ≡ true → (why : Fault) → good why (column c children none) i j ≡ true
+texts_all c children i j e h fault.ValueNotUtf8 = h
+texts_all c children i j e h why = own_good why c children i j (λ k. rw e refl)
 
 pub texts_good : (c : Column) (children : Columns) (i j : ℕ) → is_texts c.layout ≡ true
-    → all_slots (text_good c.validity c.offsets c.values) i (j - i) ≡ good cause.ValueNotUtf8 (column c children none) i j
+    → all_slots (text_good c.validity c.offsets c.values) i (j - i) ≡ good fault.ValueNotUtf8 (column c children none) i j
 texts_good c children i j t = texts_one c children i j (texts_layout c.layout t)
 
 pub texts_pass : (c : Column) (children : Columns) (i j : ℕ) → is_texts c.layout ≡ true
-    → all_slots (text_good c.validity c.offsets c.values) i (j - i) ≡ true → (why : Cause) → good why (column c children none) i j ≡ true
+    → all_slots (text_good c.validity c.offsets c.values) i (j - i) ≡ true → (why : Fault) → good why (column c children none) i j ≡ true
 texts_pass c children i j t h =
     texts_all c children i j (texts_layout c.layout t) (sym (texts_good c children i j t) ∙ h)
 
 -- indices, by themselves
 pub indices_good : (c : Column) (children : Columns) (bits : IntBits) (signed : Bool) (i j : ℕ) → IsIndexed c.layout bits signed
     → all_slots (index_good c.validity bits signed (length c.dictionary) c.values) i (j - i)
-    ≡ good cause.BadIndex (column c children none) i j
+    ≡ good fault.BadIndex (column c children none) i j
 indices_good c children bits signed i j e =
     let same = below_same (λ k. index_good c.validity bits signed (length c.dictionary) c.values (i + k))
-    (λ k. good_slot cause.BadIndex (good cause.BadIndex children) c (i + k)) (j - i) (λ k. rw e.1 refl) in
-    same ∙ sym (good_one cause.BadIndex c children i j)
+    (λ k. good_slot fault.BadIndex (good fault.BadIndex children) c (i + k)) (j - i) (λ k. rw e.1 refl) in
+    same ∙ sym (good_one fault.BadIndex c children i j)
 
 -- where they are of values, they pass every test
 indices_all : (c : Column) (children : Columns) (bits : IntBits) (signed : Bool) (i j : ℕ) → IsIndexed c.layout bits signed
-    → good cause.BadIndex (column c children none) i j ≡ true → (why : Cause) → good why (column c children none) i j ≡ true
-indices_all c children bits signed i j e h cause.BadIndex = h
-indices_all c children bits signed i j e h cause.WrongNodeCount = own_good cause.WrongNodeCount c children i j (λ k. rw e.1 refl)
-indices_all c children bits signed i j e h cause.WrongBufferCount = own_good cause.WrongBufferCount c children i j (λ k. rw e.1 refl)
-indices_all c children bits signed i j e h cause.BadNode = own_good cause.BadNode c children i j (λ k. rw e.1 refl)
-indices_all c children bits signed i j e h cause.BufferOutOfBody = own_good cause.BufferOutOfBody c children i j (λ k. rw e.1 refl)
-indices_all c children bits signed i j e h cause.BufferTooShort = own_good cause.BufferTooShort c children i j (λ k. rw e.1 refl)
-indices_all c children bits signed i j e h cause.BadNullCount = own_good cause.BadNullCount c children i j (λ k. rw e.1 refl)
-indices_all c children bits signed i j e h cause.BadOffsets = own_good cause.BadOffsets c children i j (λ k. rw e.1 refl)
-indices_all c children bits signed i j e h cause.ValueNotUtf8 = own_good cause.ValueNotUtf8 c children i j (λ k. rw e.1 refl)
+    → good fault.BadIndex (column c children none) i j ≡ true → (why : Fault) → good why (column c children none) i j ≡ true
+indices_all c children bits signed i j e h fault.BadIndex = h
+indices_all c children bits signed i j e h why = own_good why c children i j (λ k. rw e.1 refl)
 
 pub indices_pass : (c : Column) (children : Columns) (bits : IntBits) (signed : Bool) (i j : ℕ) → IsIndexed c.layout bits signed
     → all_slots (index_good c.validity bits signed (length c.dictionary) c.values) i (j - i) ≡ true
-    → (why : Cause) → good why (column c children none) i j ≡ true
+    → (why : Fault) → good why (column c children none) i j ≡ true
 indices_pass c children bits signed i j e h =
     indices_all c children bits signed i j e (sym (indices_good c children bits signed i j e) ∙ h)
 
 -- a cause that isn't found in what rows show has no test of it
-asks_nothing : (why : Cause) → ((bytes : List ℕ) → text_passes why bytes ≡ true)
+asks_nothing : (why : Fault) → ((bytes : List ℕ) → text_passes why bytes ≡ true)
     → ((dictionary : List Value) (index : ℤ) → index_passes why dictionary index ≡ true) → (cs : Columns) (i j : ℕ) → good why cs i j ≡ true
 asks_nothing why texts indices none i j = refl
 asks_nothing why texts indices (column c children rest) i j =
@@ -306,19 +292,13 @@ asks_nothing why texts indices (column c children rest) i j =
     below _ k all = refl
 
 -- the tests of what rows show
-pub shown_is : (why : Cause) (n : ℕ) (cs : Columns) → good why cs 0 n ≡ visible_passes why n cs
-shown_is cause.ValueNotUtf8 n cs = refl
-shown_is cause.BadIndex n cs = refl
-shown_is cause.WrongNodeCount n cs = asks_nothing cause.WrongNodeCount (λ b. refl) (λ d z. refl) cs 0 n
-shown_is cause.WrongBufferCount n cs = asks_nothing cause.WrongBufferCount (λ b. refl) (λ d z. refl) cs 0 n
-shown_is cause.BadNode n cs = asks_nothing cause.BadNode (λ b. refl) (λ d z. refl) cs 0 n
-shown_is cause.BufferOutOfBody n cs = asks_nothing cause.BufferOutOfBody (λ b. refl) (λ d z. refl) cs 0 n
-shown_is cause.BufferTooShort n cs = asks_nothing cause.BufferTooShort (λ b. refl) (λ d z. refl) cs 0 n
-shown_is cause.BadNullCount n cs = asks_nothing cause.BadNullCount (λ b. refl) (λ d z. refl) cs 0 n
-shown_is cause.BadOffsets n cs = asks_nothing cause.BadOffsets (λ b. refl) (λ d z. refl) cs 0 n
+pub shown_is : (why : Fault) (n : ℕ) (cs : Columns) → good why cs 0 n ≡ visible_passes why n cs
+shown_is fault.ValueNotUtf8 n cs = refl
+shown_is fault.BadIndex n cs = refl
+shown_is why n cs = asks_nothing why (λ b. refl) (λ d z. refl) cs 0 n
 
 -- what the slots of a range lead to is enough, null or not
-pub range_enough : (why : Cause) (c : Column) (children : Columns) (i j : ℕ) → needs_slot_checks c.layout ≡ false → i ≤ j
+pub range_enough : (why : Fault) (c : Column) (children : Columns) (i j : ℕ) → needs_slot_checks c.layout ≡ false → i ≤ j
     → ((k : ℕ) → i ≤ k → k < j → child_slot c.layout c.offsets k ≤ child_slot c.layout c.offsets (k + 1))
     → range_good c.layout (good why children) c.offsets i j ≡ true → good why (column c children none) i j ≡ true
 range_enough why c children i j t l up h =

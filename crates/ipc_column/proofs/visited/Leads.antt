@@ -11,8 +11,8 @@ use Rattle.ipc_model.specs.declared.layout.Layout.{Layout}
 use Rattle.ipc_model.specs.declared.layout.Layout.TheVariants as l
 use Rattle.ipc_column.specs.declared.ranges.ColumnRanges.{ColumnRanges}
 use Rattle.ipc_column.specs.declared.ranges.ColumnRanges.TheViews.{out-ColumnRanges}
-use Rattle.ipc_column.specs.declared.cause.Cause.{Cause}
-use Rattle.ipc_column.specs.declared.cause.Cause.TheVariants as cause
+use Rattle.ipc_model.specs.declared.fault.Fault.{Fault}
+use Rattle.ipc_model.specs.declared.fault.Fault.TheVariants as fault
 use Rattle.ipc_model.specs.declared.schema.IntBits.{IntBits}
 use Rattle.ipc_column.specs.Columns.{Column, Columns, none, column, EachTop, every}
 use Rattle.ipc_column.specs.Values.{is_valid, own_value, offset_position, row, value_of}
@@ -151,7 +151,7 @@ nested_at body (q ∷ ps) (suc i) p m e = nested_at body ps i p (omega arith) e
 
 -- each part's buffers have what its slots need where all do
 pub child_found : (body : List ℕ) (ps : List ColumnRanges) (i : ℕ) (p : ColumnRanges) → i < length ps → p ≡ get_or ps i p
-    → ((why : Cause) → every (passes why) (part_columns body ps) ≡ true) → AreFound (column_of body p) (children_of body p)
+    → ((why : Fault) → every (passes why) (part_columns body ps) ≡ true) → AreFound (column_of body p) (children_of body p)
 child_found body ps i p m e h =
     let own = long (column_of body p) (children_of body p) (λ why. (every_at (passes why) body ps i p m e (h why)).0) in
     record {
@@ -209,7 +209,7 @@ slot_shows c body ps n i e m =
 texts_of : (c : Column) (cs : Columns) → HoldSlots c cs → (i : ℕ) → i < c.slots → HasUtf8Texts (column c cs none) i
 texts_of c cs h i m =
     (of_good (column c cs none) 0 c.slots).0
-    (good_one cause.ValueNotUtf8 c cs 0 c.slots ∙ slots_from (good_slot cause.ValueNotUtf8 (good cause.ValueNotUtf8 cs) c) 0 c.slots
+    (good_one fault.ValueNotUtf8 c cs 0 c.slots ∙ slots_from (good_slot fault.ValueNotUtf8 (good fault.ValueNotUtf8 cs) c) 0 c.slots
     (λ k a b. h.good k b)) i (omega arith) m
 
 pub slots_spell : (c : Column) (body : List ℕ) (ps : List ColumnRanges) (n : Nested) (vs : List Value) → n.column ≡ c → n.body ≡ body
@@ -301,8 +301,8 @@ leaf_order (l.Indices bits signed id) n o size cs not h = refl
 
 -- what is tested of a slot without children or dictionary
 pub leaf_good : (layout : Layout) (d : List Value) (below : ℕ → ℕ → Bool) (o w : List ℕ) (i : ℕ)
-    → good_below cause.ValueNotUtf8 layout d below o w i ≡ true
-    → good_below cause.ValueNotUtf8 layout [] (good cause.ValueNotUtf8 none) o w i ≡ true
+    → good_below fault.ValueNotUtf8 layout d below o w i ≡ true
+    → good_below fault.ValueNotUtf8 layout [] (good fault.ValueNotUtf8 none) o w i ≡ true
 leaf_good (l.VariableBytes true) d below o w i h = h
 leaf_good (l.VariableBytes false) d below o w i h = refl
 leaf_good l.Lists d below o w i h = refl

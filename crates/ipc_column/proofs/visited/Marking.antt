@@ -6,7 +6,7 @@ use Rattle.std.specs.Vec.{with_items}
 use Rattle.std.proofs.lemmas.Bool.{and_from, and_parts, le-leb}
 use Rattle.std.proofs.lemmas.List.{with_items_is}
 use Rattle.ipc_model.specs.Layouts.{needs_slot_checks}
-use Rattle.ipc_column.specs.declared.cause.Cause.{Cause}
+use Rattle.ipc_model.specs.declared.fault.Fault.{Fault}
 use Rattle.ipc_column.specs.declared.ranges.ColumnRanges.{ColumnRanges}
 use Rattle.ipc_column.specs.declared.ranges.ColumnRanges.TheOpen.{ColumnRanges-F}
 use Rattle.ipc_column.specs.declared.ranges.ColumnRanges.TheViews.{out-ColumnRanges, roll-ColumnRanges, out-roll-ColumnRanges}
@@ -59,13 +59,13 @@ returned_children body p held new e size same =
 
 -- what a part passes, one with the same column and children does
 pub passes_still : (body : List ℕ) (p q : ColumnRanges) → column_of body q ≡ column_of body p → children_of body q ≡ children_of body p
-    → ((why : Cause) → every (passes why) (one body p) ≡ true) → (why : Cause) → every (passes why) (one body q) ≡ true
+    → ((why : Fault) → every (passes why) (one body p) ≡ true) → (why : Fault) → every (passes why) (one body q) ≡ true
 passes_still body p q e k h why =
     subst (λ (c : Column). every (passes why) (column c (children_of body q) none) ≡ true) (sym e)
     (subst (λ (cs : Columns). every (passes why) (column (column_of body p) cs none) ≡ true) (sym k) (h why))
 
 -- what a part passes, those below it do
-pub passes_below : (body : List ℕ) (p : ColumnRanges) → ((why : Cause) → every (passes why) (one body p) ≡ true) → (why : Cause)
+pub passes_below : (body : List ℕ) (p : ColumnRanges) → ((why : Fault) → every (passes why) (one body p) ≡ true) → (why : Fault)
     → every (passes why) (part_columns body (out-ColumnRanges p).children.items) ≡ true
 passes_below body p h why =
     subst (λ (cs : Columns). every (passes why) cs ≡ true) (children_out body p) (and_parts _ _ (and_parts _ _ (h why)).1).0
@@ -88,7 +88,7 @@ stored_mark body p known m own below =
     (λ j. below (ap needs_slot_checks (layout_is body p) ∙ j))
 
 -- a part that passes its tests has all its slots
-pub own_slots : (body : List ℕ) (p : ColumnRanges) → ((why : Cause) → every (passes why) (one body p) ≡ true)
+pub own_slots : (body : List ℕ) (p : ColumnRanges) → ((why : Fault) → every (passes why) (one body p) ≡ true)
     → AreSlots (one body p) 0 (out-ColumnRanges p).slots
 own_slots body p h = record {
   order = omega arith;

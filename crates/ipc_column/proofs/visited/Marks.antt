@@ -7,7 +7,7 @@ use Rattle.ipc_model.specs.declared.layout.Layout.{Layout}
 use Rattle.ipc_model.specs.declared.layout.Layout.TheVariants as l
 use Rattle.ipc_model.specs.Layouts.{needs_slot_checks, is_texts}
 use Rattle.ipc_model.specs.declared.schema.IntBits.{IntBits}
-use Rattle.ipc_column.specs.declared.cause.Cause.{Cause}
+use Rattle.ipc_model.specs.declared.fault.Fault.{Fault}
 use Rattle.ipc_column.specs.declared.ranges.ColumnRanges.{ColumnRanges}
 use Rattle.ipc_column.specs.declared.ranges.ColumnRanges.TheOpen.{ColumnRanges-F}
 use Rattle.ipc_column.specs.declared.ranges.ColumnRanges.TheViews.{out-ColumnRanges, roll-ColumnRanges, out-roll-ColumnRanges}
@@ -118,7 +118,7 @@ columns_set body (q ∷ qs) (suc i) n d l c k =
     ap (λ (cs : Columns). column (column_of body q) (children_of body q) cs) (columns_set body qs i n d (omega arith) c k)
 
 -- what every part passes, each one does
-pub passes_at : (why : Cause) (body : List ℕ) (ps : List ColumnRanges) (i : ℕ) (d : ColumnRanges) → i < length ps
+pub passes_at : (why : Fault) (body : List ℕ) (ps : List ColumnRanges) (i : ℕ) (d : ColumnRanges) → i < length ps
     → every (passes why) (part_columns body ps) ≡ true → every (passes why) (one body (get_or ps i d)) ≡ true
 passes_at why body [] i d l h = absurd (omega arith)
 passes_at why body (q ∷ qs) zero d l h =
@@ -222,7 +222,7 @@ indices_within w bits signed count v n i j h b = below_from (λ k. index_good w 
     or_from false b e = e
 
 own_good : (body : List ℕ) (p : ColumnRanges) (x : Layout) → (out-ColumnRanges p).layout ≡ x → needs_slot_checks x ≡ true
-    → all_valid x (own_column body p) ≡ true → (i j : ℕ) → AreSlots (one body p) i j → (why : Cause) → good why (one body p) i j ≡ true
+    → all_valid x (own_column body p) ≡ true → (i j : ℕ) → AreSlots (one body p) i j → (why : Fault) → good why (one body p) i j ≡ true
 own_good body p (l.VariableBytes true) e t a i j s why =
     texts_pass_part body p i j (ap is_texts (layout_is body p ∙ e))
     (texts_within _ _ _ (out-ColumnRanges p).slots i j a (part_most body p i j s)) why
@@ -233,10 +233,10 @@ own_good body p _ e t a i j s why = absurd (false≢true t)
 
 -- the slots of these columns that are there are all good
 abbrev AllGood : Columns → Type 0
-AllGood cs = (i j : ℕ) → AreSlots cs i j → (why : Cause) → good why cs i j ≡ true
+AllGood cs = (i j : ℕ) → AreSlots cs i j → (why : Fault) → good why cs i j ≡ true
 
 range_over : (body : List ℕ) (p : ColumnRanges) (x : Layout) → (out-ColumnRanges p).layout ≡ x
-    → AllGood (part_columns body (out-ColumnRanges p).children.items) → (i j : ℕ) → AreSlots (one body p) i j → i < j → (why : Cause)
+    → AllGood (part_columns body (out-ColumnRanges p).children.items) → (i j : ℕ) → AreSlots (one body p) i j → i < j → (why : Fault)
     → range_good (column_of body p).layout (good why (children_of body p)) (column_of body p).offsets i j ≡ true
 range_over body p l.Lists e kids i j s m why =
     range_is why body p i j
@@ -258,7 +258,7 @@ range_over body p _ e kids i j s m why =
     range_is why body p i j
     ∙ ap (λ (x : Layout). range_good x (good why (part_columns body (out-ColumnRanges p).children.items)) (own_column body p).offsets i j) e
 
-none_good : (why : Cause) (body : List ℕ) (p : ColumnRanges) (i j : ℕ) → j - i ≡ 0 → good why (one body p) i j ≡ true
+none_good : (why : Fault) (body : List ℕ) (p : ColumnRanges) (i j : ℕ) → j - i ≡ 0 → good why (one body p) i j ≡ true
 none_good why body p i j e = rw e refl
 
 good_over : (body : List ℕ) (p : ColumnRanges) → needs_slot_checks (out-ColumnRanges p).layout ≡ false
@@ -313,5 +313,5 @@ part_known body = ind-ColumnRanges (IsKnown body) (λ x y is. subst (λ z. IsKno
 
 -- the slots of a part that is known to be valid are good
 pub known_good : (body : List ℕ) (p : ColumnRanges) → IsMarked body p → (out-ColumnRanges p).known_valid ≡ true → (i j : ℕ)
-    → AreSlots (one body p) i j → (why : Cause) → good why (one body p) i j ≡ true
+    → AreSlots (one body p) i j → (why : Fault) → good why (one body p) i j ≡ true
 known_good body p h v = part_known body p h (valid_out body p ∙ v)

@@ -14,8 +14,8 @@ use Rattle.ipc_column.specs.declared.ranges.ColumnRanges.TheViews.{out-ColumnRan
 use Rattle.ipc_column.specs.Columns.{Column, Columns, none, column}
 use Rattle.ipc_column.specs.Values.{offset_position, child_slot, is_nested}
 use Rattle.ipc_column.specs.checks.Rules.{have_slot_checks, has_slot_visits}
-use Rattle.ipc_column.specs.declared.cause.Cause.{Cause}
-use Rattle.ipc_column.specs.declared.cause.Cause.TheVariants as cause
+use Rattle.ipc_model.specs.declared.fault.Fault.{Fault}
+use Rattle.ipc_model.specs.declared.fault.Fault.TheVariants as fault
 use Rattle.ipc_column.specs.checks.Checks.{IsIndexed, good, range_good, all_slots, text_good, index_good, passes, holds_values}
 use Rattle.ipc_column.specs.Lent.{AreSlots}
 use Rattle.ipc_column.specs.Views.{part_columns, column_of, children_of, one}
@@ -121,7 +121,7 @@ pub struct_weight : (body : List ℕ) (p : ColumnRanges) (i j : ℕ) → (out-Co
 struct_weight body p i j e = weight_is body p i j
     ∙ ap (λ (x : Layout). weight_below x (weight (part_columns body (out-ColumnRanges p).children.items)) (own_column body p).offsets i j) e
 
-pub range_is : (why : Cause) (body : List ℕ) (p : ColumnRanges) (i j : ℕ)
+pub range_is : (why : Fault) (body : List ℕ) (p : ColumnRanges) (i j : ℕ)
     → range_good (column_of body p).layout (good why (children_of body p)) (column_of body p).offsets i j
     ≡ range_good (out-ColumnRanges p).layout (good why (part_columns body (out-ColumnRanges p).children.items)) (own_column body p).offsets
     i j
@@ -130,7 +130,7 @@ range_is why body p i j =
     ∙ ap (λ (cs : Columns). range_good (out-ColumnRanges p).layout (good why cs) (own_column body p).offsets i j) (children_out body p)
 
 -- what lists of a fixed size lead to, the same
-pub fixed_good_between : (why : Cause) (body : List ℕ) (p : ColumnRanges) (i j size first last : ℕ)
+pub fixed_good_between : (why : Fault) (body : List ℕ) (p : ColumnRanges) (i j size first last : ℕ)
     → (out-ColumnRanges p).layout ≡ l.FixedLists size → i < j
     → (0 < length (out-ColumnRanges p).children.items → first ≡ size * i)
     → (0 < length (out-ColumnRanges p).children.items → last ≡ size * (j - 1))
@@ -149,14 +149,14 @@ fixed_good_between why body p i j size first last e l f g =
         let some : 0 < length (q ∷ qs) = omega arith in
         rw (f some, fixed_end size j last i l (g some)) refl
 
-pub list_good : (why : Cause) (body : List ℕ) (p : ColumnRanges) (i j : ℕ) → (out-ColumnRanges p).layout ≡ l.Lists
+pub list_good : (why : Fault) (body : List ℕ) (p : ColumnRanges) (i j : ℕ) → (out-ColumnRanges p).layout ≡ l.Lists
     → range_good (column_of body p).layout (good why (children_of body p)) (column_of body p).offsets i j
     ≡ good why (part_columns body (out-ColumnRanges p).children.items) (offset_position (own_column body p).offsets i) (offset_position
     (own_column body p).offsets j)
 list_good why body p i j e = range_is why body p i j
     ∙ ap (λ (x : Layout). range_good x (good why (part_columns body (out-ColumnRanges p).children.items)) (own_column body p).offsets i j) e
 
-pub struct_good : (why : Cause) (body : List ℕ) (p : ColumnRanges) (i j : ℕ) → (out-ColumnRanges p).layout ≡ l.Structs
+pub struct_good : (why : Fault) (body : List ℕ) (p : ColumnRanges) (i j : ℕ) → (out-ColumnRanges p).layout ≡ l.Structs
     → range_good (column_of body p).layout (good why (children_of body p)) (column_of body p).offsets i j
     ≡ good why (part_columns body (out-ColumnRanges p).children.items) i j
 struct_good why body p i j e = range_is why body p i j
@@ -181,7 +181,7 @@ rising c children i j h k a b =
     ] refl
 
 -- without a bitmap, what a part's slots lead to is what they are
-pub whole_part : (why : Cause) (body : List ℕ) (p : ColumnRanges) (i j : ℕ) → AreSlots (one body p) i j
+pub whole_part : (why : Fault) (body : List ℕ) (p : ColumnRanges) (i j : ℕ) → AreSlots (one body p) i j
     → needs_slot_checks (out-ColumnRanges p).layout ≡ false
     → length (own_column body p).validity ≡ 0
     → range_good (column_of body p).layout (good why (children_of body p)) (column_of body p).offsets i j ≡ good why (one body p) i j
@@ -229,22 +229,22 @@ judged_is body p =
     or_false false = refl
 
 -- a part without texts or indices in it or below it is good
-pub quiet_part : (why : Cause) (body : List ℕ) (p : ColumnRanges) (i j : ℕ) → needs_slot_checks (out-ColumnRanges p).layout ≡ false
+pub quiet_part : (why : Fault) (body : List ℕ) (p : ColumnRanges) (i j : ℕ) → needs_slot_checks (out-ColumnRanges p).layout ≡ false
     → have_slot_checks (part_columns body (out-ColumnRanges p).children.items) ≡ false → good why (one body p) i j ≡ true
 quiet_part why body p i j t h = quiet_good why (one body p) i j (judged_is body p ∙ rw (t, h) refl)
 
 -- the slots of a part of texts
 pub texts_part : (body : List ℕ) (p : ColumnRanges) (i j : ℕ) → is_texts (column_of body p).layout ≡ true
     → all_slots (text_good (own_column body p).validity (own_column body p).offsets (own_column body p).values) i (j - i)
-    ≡ good cause.ValueNotUtf8 (one body p) i j
+    ≡ good fault.ValueNotUtf8 (one body p) i j
 texts_part body p i j t =
     texts_good (own_column body p) (children_of body p) i j (ap is_texts (sym (layout_is body p)) ∙ t)
-    ∙ ap (λ (c : Column). good cause.ValueNotUtf8 (column c (children_of body p) none) i j) (sym (column_is body p))
+    ∙ ap (λ (c : Column). good fault.ValueNotUtf8 (column c (children_of body p) none) i j) (sym (column_is body p))
 
 -- and where they are UTF-8
 pub texts_pass_part : (body : List ℕ) (p : ColumnRanges) (i j : ℕ) → is_texts (column_of body p).layout ≡ true
     → all_slots (text_good (own_column body p).validity (own_column body p).offsets (own_column body p).values) i (j - i) ≡ true
-    → (why : Cause) → good why (one body p) i j ≡ true
+    → (why : Fault) → good why (one body p) i j ≡ true
 texts_pass_part body p i j t h why =
     subst (λ (c : Column). good why (column c (children_of body p) none) i j ≡ true) (sym (column_is body p))
     (texts_pass (own_column body p) (children_of body p) i j (ap is_texts (sym (layout_is body p)) ∙ t) h why)
@@ -257,16 +257,16 @@ indexed_is body p bits signed e = (e.0, sym (layout_is body p) ∙ e.1)
 pub indices_part : (body : List ℕ) (p : ColumnRanges) (bits : IntBits) (signed : Bool) (i j : ℕ)
     → IsIndexed (column_of body p).layout bits signed
     → all_slots (index_good (own_column body p).validity bits signed (length (out-ColumnRanges p).dictionary) (own_column body p).values)
-    i (j - i) ≡ good cause.BadIndex (one body p) i j
+    i (j - i) ≡ good fault.BadIndex (one body p) i j
 indices_part body p bits signed i j e =
     indices_good (own_column body p) (children_of body p) bits signed i j (indexed_is body p bits signed e)
-    ∙ ap (λ (c : Column). good cause.BadIndex (column c (children_of body p) none) i j) (sym (column_is body p))
+    ∙ ap (λ (c : Column). good fault.BadIndex (column c (children_of body p) none) i j) (sym (column_is body p))
 
 -- and where they are those of values
 pub indices_pass_part : (body : List ℕ) (p : ColumnRanges) (bits : IntBits) (signed : Bool) (i j : ℕ)
     → IsIndexed (column_of body p).layout bits signed
     → all_slots (index_good (own_column body p).validity bits signed (length (out-ColumnRanges p).dictionary) (own_column body p).values)
-    i (j - i) ≡ true → (why : Cause) → good why (one body p) i j ≡ true
+    i (j - i) ≡ true → (why : Fault) → good why (one body p) i j ≡ true
 indices_pass_part body p bits signed i j e h why =
     subst (λ (c : Column). good why (column c (children_of body p) none) i j ≡ true) (sym (column_is body p))
     (indices_pass (own_column body p) (children_of body p) bits signed i j (indexed_is body p bits signed e) h why)
@@ -288,26 +288,22 @@ texts_of body p i j h m t =
     text_parts (own_column body p) (part_columns body (out-ColumnRanges p).children.items) (part_long body p i j h) t (omega arith)
 
 -- behind the last part all is good
-pub good_done : (why : Cause) (body : List ℕ) (ps : List ColumnRanges) (i a b : ℕ) → length ps ≤ i
+pub good_done : (why : Fault) (body : List ℕ) (ps : List ColumnRanges) (i a b : ℕ) → length ps ≤ i
     → good why (part_columns body (drop i ps)) a b ≡ true
 good_done why body ps i a b h = rw (drop_all i ps h) refl
 
 -- each test of a column
-pub all_pass_from : (c : Column) (children : Columns) → passes cause.BufferTooShort c children ≡ true
-    → passes cause.BadNullCount c children ≡ true → passes cause.BadOffsets c children ≡ true → passes cause.BadNode c children ≡ true
-    → (why : Cause) → passes why c children ≡ true
-all_pass_from c children a b d e cause.BufferTooShort = a
-all_pass_from c children a b d e cause.BadNullCount = b
-all_pass_from c children a b d e cause.BadOffsets = d
-all_pass_from c children a b d e cause.BadNode = e
-all_pass_from c children a b d e cause.WrongNodeCount = refl
-all_pass_from c children a b d e cause.WrongBufferCount = refl
-all_pass_from c children a b d e cause.BufferOutOfBody = refl
-all_pass_from c children a b d e cause.ValueNotUtf8 = refl
-all_pass_from c children a b d e cause.BadIndex = refl
+pub all_pass_from : (c : Column) (children : Columns) → passes fault.BufferTooShort c children ≡ true
+    → passes fault.BadNullCount c children ≡ true → passes fault.BadOffsets c children ≡ true → passes fault.BadNode c children ≡ true
+    → (why : Fault) → passes why c children ≡ true
+all_pass_from c children a b d e fault.BufferTooShort = a
+all_pass_from c children a b d e fault.BadNullCount = b
+all_pass_from c children a b d e fault.BadOffsets = d
+all_pass_from c children a b d e fault.BadNode = e
+all_pass_from c children a b d e _ = refl
 
 -- where what a part's slots lead to is good, they are
-pub enough_part : (why : Cause) (body : List ℕ) (p : ColumnRanges) (i j : ℕ) → AreSlots (one body p) i j
+pub enough_part : (why : Fault) (body : List ℕ) (p : ColumnRanges) (i j : ℕ) → AreSlots (one body p) i j
     → needs_slot_checks (out-ColumnRanges p).layout ≡ false
     → range_good (column_of body p).layout (good why (children_of body p)) (column_of body p).offsets i j ≡ true
     → good why (one body p) i j ≡ true

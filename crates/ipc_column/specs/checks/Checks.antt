@@ -12,8 +12,6 @@ use Rattle.ipc_meta.specs.declared.head.BatchHead.{BatchHead}
 use Rattle.ipc_model.specs.declared.layout.Layout.{Layout}
 use Rattle.ipc_model.specs.declared.layout.Layout.TheVariants as l
 use Rattle.ipc_model.specs.Layouts.{number_bytes, has_validity}
-use Rattle.ipc_column.specs.declared.cause.Cause.{Cause}
-use Rattle.ipc_column.specs.declared.cause.Cause.TheVariants as cause
 use Rattle.ipc_column.specs.Columns.{Column, Columns, none, column, every, every_top}
 use Rattle.ipc_column.specs.Shapes.{Shape, node_count, buffer_count, assigned_columns}
 use Rattle.ipc_column.specs.Values.{rows_of, offset, offset_position, between, is_valid, number_in}
@@ -23,22 +21,10 @@ use Rattle.ipc_model.specs.declared.schema.IntBits.{IntBits}
 use Rattle.ipc_model.specs.declared.value.Value.{Value}
 use Rattle.ipc_model.specs.declared.limits.Limits.{Limits}
 
--- the fault that is returned for a cause
-abbrev pub fault_of : Cause → Fault
-fault_of cause.WrongNodeCount = fault.WrongNodeCount
-fault_of cause.WrongBufferCount = fault.WrongBufferCount
-fault_of cause.BadNode = fault.BadNode
-fault_of cause.BufferOutOfBody = fault.BufferOutOfBody
-fault_of cause.BufferTooShort = fault.BufferTooShort
-fault_of cause.BadNullCount = fault.BadNullCount
-fault_of cause.BadOffsets = fault.BadOffsets
-fault_of cause.ValueNotUtf8 = fault.ValueNotUtf8
-fault_of cause.BadIndex = fault.BadIndex
-
 -- the result of a family of tests, one for each cause: with Ok all hold; a cause is returned only
 -- if its own test fails
-abbrev pub Judges : {X : Type 0} → Result X Cause → (Cause → Bool) → Type 0
-Judges (Ok x) test = (c : Cause) → test c ≡ true
+abbrev pub Judges : {X : Type 0} → Result X Fault → (Fault → Bool) → Type 0
+Judges (Ok x) test = (c : Fault) → test c ≡ true
 Judges (Err c) test = test c ≡ false
 
 -- the test holds for each item
@@ -66,25 +52,25 @@ is_within_body size range = int_le (pos 0) range.0
     (unsigned_abs range.1 == 0 || nat_le (unsigned_abs range.0 + unsigned_abs range.1) size))
 
 -- the test of a batch's head for this cause; the head has none for other causes
-abbrev pub head_passes : Limits → Cause → Shape → BatchHead → ℕ → Bool
-head_passes limits cause.WrongNodeCount shape head size = length head.nodes == node_count shape
-head_passes limits cause.WrongBufferCount shape head size =
+abbrev pub head_passes : Limits → Fault → Shape → BatchHead → ℕ → Bool
+head_passes limits fault.WrongNodeCount shape head size = length head.nodes == node_count shape
+head_passes limits fault.WrongBufferCount shape head size =
     length head.buffers == buffer_count shape
-head_passes limits cause.BadNode shape head size = is_slot_count limits head.length
+head_passes limits fault.BadNode shape head size = is_slot_count limits head.length
     && all (is_node limits) head.nodes
-head_passes limits cause.BufferOutOfBody shape head size = all (is_within_body size) head.buffers
+head_passes limits fault.BufferOutOfBody shape head size = all (is_within_body size) head.buffers
 head_passes limits _ shape head size = true
 
 -- the head has exactly the nodes and buffers that the fields need
 pub record CountsHold (limits : Limits) (shape : Shape) (head : BatchHead) (size : ℕ) : Type 0 where
-  pub nodes : head_passes limits cause.WrongNodeCount shape head size ≡ true
-  pub buffers : head_passes limits cause.WrongBufferCount shape head size ≡ true
+  pub nodes : head_passes limits fault.WrongNodeCount shape head size ≡ true
+  pub buffers : head_passes limits fault.WrongBufferCount shape head size ≡ true
 
 -- for a bad node or a bad range, the counts of nodes and buffers hold; nothing is stated for other
 -- causes
-abbrev pub AreCountsRight : Limits → Cause → Shape → BatchHead → ℕ → Type 0
-AreCountsRight limits cause.BadNode shape head size = CountsHold limits shape head size
-AreCountsRight limits cause.BufferOutOfBody shape head size = CountsHold limits shape head size
+abbrev pub AreCountsRight : Limits → Fault → Shape → BatchHead → ℕ → Type 0
+AreCountsRight limits fault.BadNode shape head size = CountsHold limits shape head size
+AreCountsRight limits fault.BufferOutOfBody shape head size = CountsHold limits shape head size
 AreCountsRight limits _ shape head size = ⊤
 
 -- a bitmap of this many bytes has n bits, or is absent
@@ -140,18 +126,18 @@ abbrev pub all_slots : (ℕ → Bool) → ℕ → ℕ → Bool
 all_slots test i n = all_below (λ k. test (i + k)) n
 
 -- the test of a text for this cause
-abbrev pub text_passes : Cause → List ℕ → Bool
-text_passes cause.ValueNotUtf8 bytes = is_utf8 bytes
+abbrev pub text_passes : Fault → List ℕ → Bool
+text_passes fault.ValueNotUtf8 bytes = is_utf8 bytes
 text_passes _ bytes = true
 
 -- the test of an index for this cause
-abbrev pub index_passes : Cause → List Value → ℤ → Bool
-index_passes cause.BadIndex dictionary index = is_some (place_below (length dictionary) index)
+abbrev pub index_passes : Fault → List Value → ℤ → Bool
+index_passes fault.BadIndex dictionary index = is_some (place_below (length dictionary) index)
 index_passes _ dictionary index = true
 
 -- the test of the content of valid slot i for this cause; `below` tests a range of the children's
 -- slots
-abbrev pub good_below : Cause → Layout → List Value → (ℕ → ℕ → Bool) → List ℕ → List ℕ → ℕ → Bool
+abbrev pub good_below : Fault → Layout → List Value → (ℕ → ℕ → Bool) → List ℕ → List ℕ → ℕ → Bool
 good_below why (l.VariableBytes true) dictionary below offsets values i =
     text_passes why (between offsets values i)
 good_below why (l.Indices bits signed id) dictionary below offsets values i =
@@ -172,12 +158,12 @@ range_good l.Structs below offsets i j = below i j
 range_good _ below offsets i j = true
 
 -- slot i is null, or its content passes the test
-abbrev pub good_slot : Cause → (ℕ → ℕ → Bool) → Column → ℕ → Bool
+abbrev pub good_slot : Fault → (ℕ → ℕ → Bool) → Column → ℕ → Bool
 good_slot why below c i = not (is_valid c.validity i)
     || good_below why c.layout c.dictionary below c.offsets c.values i
 
 -- the slots from i up to j of each column pass the test; nothing is tested below a null slot
-abbrev pub good : Cause → Columns → ℕ → ℕ → Bool
+abbrev pub good : Fault → Columns → ℕ → ℕ → Bool
 good why none i j = true
 good why (column c children rest) i j =
     all_slots (good_slot why (good why children) c) i (j - i) && good why rest i j
@@ -207,85 +193,85 @@ abbrev pub nulls_in : List ℕ → ℕ → ℕ
 nulls_in validity n = if length validity == 0 then 0 else clear validity n
 
 -- the tests of a column and the columns of its children for this cause
-abbrev pub passes : Cause → Column → Columns → Bool
-passes cause.BadNode c children = children_have_slots c.layout c.slots children
-passes cause.BufferTooShort c children = has_bitmap c.slots (length c.validity)
+abbrev pub passes : Fault → Column → Columns → Bool
+passes fault.BadNode c children = children_have_slots c.layout c.slots children
+passes fault.BufferTooShort c children = has_bitmap c.slots (length c.validity)
     && (holds_values c.layout c.slots (length c.values)
     && holds_offsets c.layout c.slots (length c.offsets))
-passes cause.BadNullCount c children = not (has_validity c.layout)
+passes fault.BadNullCount c children = not (has_validity c.layout)
     || (not (has_bitmap c.slots (length c.validity)) || (c.nulls == nulls_in c.validity c.slots))
-passes cause.BadOffsets c children =
+passes fault.BadOffsets c children =
     in_order c.layout c.slots c.offsets (length c.values) children
 passes _ c children = true
 
 -- the test of a top-level column for this cause: it has one slot for each of n rows
-abbrev pub top_passes : Cause → ℕ → Column → Bool
-top_passes cause.BadNode n c = c.slots == n
+abbrev pub top_passes : Fault → ℕ → Column → Bool
+top_passes fault.BadNode n c = c.slots == n
 top_passes _ n c = true
 
 -- the test for this cause of the values that n rows of columns show
-abbrev pub visible_passes : Cause → ℕ → Columns → Bool
-visible_passes cause.ValueNotUtf8 n cs = good cause.ValueNotUtf8 cs 0 n
-visible_passes cause.BadIndex n cs = good cause.BadIndex cs 0 n
+abbrev pub visible_passes : Fault → ℕ → Columns → Bool
+visible_passes fault.ValueNotUtf8 n cs = good fault.ValueNotUtf8 cs 0 n
+visible_passes fault.BadIndex n cs = good fault.BadIndex cs 0 n
 visible_passes _ n cs = true
 
 -- a cause that is found in the values of rows, after all others
-abbrev pub is_shown : Cause → Bool
-is_shown cause.ValueNotUtf8 = true
-is_shown cause.BadIndex = true
+abbrev pub is_shown : Fault → Bool
+is_shown fault.ValueNotUtf8 = true
+is_shown fault.BadIndex = true
 is_shown _ = false
 
 -- all tests of n rows of columns for this cause
-abbrev pub all_pass : Cause → ℕ → Columns → Bool
+abbrev pub all_pass : Fault → ℕ → Columns → Bool
 all_pass why n cs = every (passes why) cs
     && (every_top (top_passes why n) cs && visible_passes why n cs)
 
 -- all tests of a head and a body for this cause
-abbrev pub fits : Limits → Dictionaries → Shape → BatchHead → List ℕ → Cause → Bool
+abbrev pub fits : Limits → Dictionaries → Shape → BatchHead → List ℕ → Fault → Bool
 fits limits m shape head body why = head_passes limits why shape head (length body)
     && all_pass why (unsigned_abs head.length) (assigned_columns m shape head body 0 0)
 
 -- n rows of the columns pass all tests, so they have values
 abbrev pub PassTests : ℕ → Columns → Type 0
-PassTests n cs = (why : Cause) → all_pass why n cs ≡ true
+PassTests n cs = (why : Fault) → all_pass why n cs ≡ true
 
 -- a head and a body pass all tests, and these are the rows of their columns
 pub record Passing (limits : Limits) (m : Dictionaries) (shape : Shape) (head : BatchHead)
     (body : List ℕ) (rows : List (List Value)) : Type 0 where
-  pub sound : (why : Cause) → fits limits m shape head body why ≡ true
+  pub sound : (why : Fault) → fits limits m shape head body why ≡ true
   pub values : rows ≡ rows_of (assigned_columns m shape head body 0 0) (unsigned_abs head.length)
 
 -- the head passes all its tests
 abbrev pub HeadHolds : Limits → Shape → BatchHead → List ℕ → Type 0
-HeadHolds limits shape head body = (why : Cause)
+HeadHolds limits shape head body = (why : Fault)
     → head_passes limits why shape head (length body) ≡ true
 
 -- the fault's own test fails and the tests that it depends on hold, or memory ran out; no other
 -- fault has a cause
 abbrev pub Failing : Limits → Fault → Dictionaries → Shape → BatchHead → List ℕ → Type 0
 Failing limits fault.WrongNodeCount m shape head body =
-    fits limits m shape head body cause.WrongNodeCount ≡ false
+    fits limits m shape head body fault.WrongNodeCount ≡ false
 Failing limits fault.WrongBufferCount m shape head body =
-    fits limits m shape head body cause.WrongBufferCount ≡ false
+    fits limits m shape head body fault.WrongBufferCount ≡ false
 Failing limits fault.BadNode m shape head body =
     CountsHold limits shape head (length body)
-    × (fits limits m shape head body cause.BadNode ≡ false)
+    × (fits limits m shape head body fault.BadNode ≡ false)
 Failing limits fault.BufferOutOfBody m shape head body =
     CountsHold limits shape head (length body)
-    × (fits limits m shape head body cause.BufferOutOfBody ≡ false)
+    × (fits limits m shape head body fault.BufferOutOfBody ≡ false)
 Failing limits fault.BufferTooShort m shape head body =
-    HeadHolds limits shape head body × (fits limits m shape head body cause.BufferTooShort ≡ false)
+    HeadHolds limits shape head body × (fits limits m shape head body fault.BufferTooShort ≡ false)
 Failing limits fault.BadNullCount m shape head body =
-    HeadHolds limits shape head body × (fits limits m shape head body cause.BadNullCount ≡ false)
+    HeadHolds limits shape head body × (fits limits m shape head body fault.BadNullCount ≡ false)
 Failing limits fault.BadOffsets m shape head body =
-    HeadHolds limits shape head body × (fits limits m shape head body cause.BadOffsets ≡ false)
+    HeadHolds limits shape head body × (fits limits m shape head body fault.BadOffsets ≡ false)
 Failing limits fault.ValueNotUtf8 m shape head body =
-    HeadHolds limits shape head body × ((fits limits m shape head body cause.BufferTooShort ≡ true)
-    × (fits limits m shape head body cause.BadOffsets ≡ true)
-    × (fits limits m shape head body cause.ValueNotUtf8 ≡ false))
+    HeadHolds limits shape head body × ((fits limits m shape head body fault.BufferTooShort ≡ true)
+    × (fits limits m shape head body fault.BadOffsets ≡ true)
+    × (fits limits m shape head body fault.ValueNotUtf8 ≡ false))
 Failing limits fault.BadIndex m shape head body =
-    HeadHolds limits shape head body × ((fits limits m shape head body cause.BufferTooShort ≡ true)
-    × (fits limits m shape head body cause.BadOffsets ≡ true)
-    × (fits limits m shape head body cause.BadIndex ≡ false))
+    HeadHolds limits shape head body × ((fits limits m shape head body fault.BufferTooShort ≡ true)
+    × (fits limits m shape head body fault.BadOffsets ≡ true)
+    × (fits limits m shape head body fault.BadIndex ≡ false))
 Failing limits fault.OutOfMemory m shape head body = ⊤
 Failing limits _ m shape head body = ⊥

@@ -1,6 +1,6 @@
 use Rattle.std.proofs.Common.{◌≡◌, ◌+◌, ◌∷◌, rules, arith}
 use Rattle.ipc_column.proofs.lending.CellIters.{have_first, have_others}
-use Rattle.ipc_column.proofs.cell_iter.StructIterIterator.next.Goals as goal
+use Rattle.ipc_column.proofs.cell.StructCell.pop_first.Goals as goal
 
 pub cell_at-cell-requires : goal.cell_at-cell-requires
 cell_at-cell-requires c =

@@ -1,6 +1,6 @@
 use Rattle.std.proofs.Common.{◌≡◌, ◌+◌, ◌-◌, true}
 use Rattle.ipc_column.specs.checks.Checks.{all_slots, index_good}
-use Rattle.ipc_column.proofs.indices.visit_indices.Given as goal
+use Rattle.ipc_column.proofs.indices.are_null_or_indices.Given as goal
 
 abbrev pub invariant-loop-slot : goal.invariant-loop-slot
 invariant-loop-slot l = record {
