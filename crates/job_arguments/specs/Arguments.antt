@@ -169,12 +169,13 @@ pub data HasWrongValue (name : Text) (rows : List Row) : Type 0 where
   -- there is no such subcommand
   other : IsNoSubcommand name → HasWrongValue name rows
 
--- the subcommand of this name, with what was found for its options, asks for this job, and for the
--- reports of its flags
+-- the subcommand of this name, with what was found for its options, asks for this job, and has
+-- these flags
 abbrev pub IsInvocationOf : Text → List Row → Invocation → Type 0
 IsInvocationOf name rows asked =
     IsJobOf name rows asked.job × HasFlag (codes "explain") rows asked.explain
     × HasFlag (codes "progress") rows asked.progress
+    × HasFlag (codes "require-eof") rows asked.require_eof
 
 -- the words ask for this: `clap` finds no fault in them, and they name a subcommand that asks for
 -- it

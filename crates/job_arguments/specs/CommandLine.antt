@@ -55,8 +55,8 @@ with_schema_limits a = with_rule (with_rule (with_rule (with_rule a
 
 -- a subcommand with the options for the end of a stream, and for what is reported of it
 abbrev pub with_reports : App → App
-with_reports a = with_rule (with_rule (with_rule a (flag (codes "require-mark"))) explain)
-    (flag (codes "progress"))
+with_reports a = with_rule (with_rule (with_rule (with_rule a (flag (codes "require-mark")))
+    (flag (codes "require-eof"))) explain) (flag (codes "progress"))
 
 -- a subcommand with the options of those that read a stream: its limits, its end, and what is
 -- reported of it

@@ -98,6 +98,8 @@ pub struct Invocation {
     pub explain: bool,
     /// Whether to report after each batch how far a stream is read.
     pub progress: bool,
+    /// Whether nothing may follow a stream that is read to its end.
+    pub require_eof: bool,
 }
 
 /// Why a command line contains no job.
@@ -432,6 +434,7 @@ fn read_invocation(alloc: Global, name: &str, options: &ArgMatches<'_>) -> Resul
         job,
         explain: has_flag(options, "explain"),
         progress: has_flag(options, "progress"),
+        require_eof: has_flag(options, "require-eof"),
     })
 }
 

@@ -227,6 +227,11 @@ fn with_reports<'a>(alloc: Global, command: Command<'a>) -> Result<Command<'a>, 
             "require-mark",
             "Refuse a stream that ends without the end-of-stream mark",
         ))?
+        .arg(flag(
+            alloc,
+            "require-eof",
+            "Refuse a stream with a byte after its end-of-stream mark",
+        ))?
         .arg(explain(alloc))?
         .arg(flag(
             alloc,

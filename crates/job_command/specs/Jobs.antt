@@ -1,6 +1,9 @@
 -- What the jobs read and send, and the exit statuses.
-use Rattle.std.specs.Prelude.{◌≡◌, ◌⊎◌, ℕ, List, Option, Some, Result, Ok, Err, ⊤}
-use Rattle.std.specs.Prelude.{Bool, IfSome, None, option_and_then, string_bytes, true, false}
+use Rattle.std.specs.Io.KnownBytes.{Consumes, IsAtEnd, Keeps}
+use Rattle.std.specs.Prelude.{◌≡◌, ◌⊎◌, ℕ, List, [], length, Option, Some, Result, Ok, Err, ⊤}
+use Rattle.std.specs.Prelude.{Bool, IfSome, IsFalse, IsTrue, None, is_some, option_and_then}
+use Rattle.std.specs.Prelude.{string_bytes}
+use Rattle.std.specs.Prelude.{true, false}
 use Rattle.serde_json.specs.Read.{read}
 use Rattle.ipc_device.specs.Reports.{Report}
 use Rattle.ipc_model.specs.Limits.{IsStandard}
@@ -82,10 +85,15 @@ stop_of_csv s (from_csv.Write fault) = stop.Rows fault s
 stop_of_csv s (from_csv.Text fault) = stop.Text fault
 stop_of_csv s (from_csv.Record fault refused) = stop.Record fault refused s
 
--- a result with its reason for stopping as the job's
-abbrev pub job_result : {A : Type 0} → (A → Stop) → Result ⊤ A → Result ⊤ Stop
-job_result stop_of (Ok done) = Ok done
-job_result stop_of (Err why) = Err (stop_of why)
+-- a result as the job's: how many messages a stream has that was read to its end, or why it stopped
+abbrev pub job_result : {A B : Type 0} → (A → Option ℕ) → (B → Stop) → Result A B
+    → Result (Option ℕ) Stop
+job_result messages_of stop_of (Ok done) = Ok (messages_of done)
+job_result messages_of stop_of (Err why) = Err (stop_of why)
+
+-- the job reads no stream to its end
+abbrev pub no_messages : ⊤ → Option ℕ
+no_messages done = None
 
 -- the dialect of CSV with this delimiter and text of null
 abbrev pub IsDialectOf : CsvDialect → Dialect → Type 0
@@ -107,28 +115,28 @@ rewrite_options output mark = record {
 
 -- what a result states about the schema of a stream that is printed
 abbrev pub AnswersSchemaJob : Limits → Option (List ℕ) → Option (List ℕ) → Option (List ℕ)
-    → Option (List ℕ) → ℕ → ℕ → ℕ → ℕ → Result ⊤ Stop → Type 0
+    → Option (List ℕ) → ℕ → ℕ → ℕ → ℕ → Result (Option ℕ) Stop → Type 0
 AnswersSchemaJob limits old new written_old written_new source_old source_new sink_old sink_new r =
-    (p : Result ⊤ PrintStop) × (r ≡ job_result stop_of_print p)
+    (p : Result ⊤ PrintStop) × (r ≡ job_result no_messages stop_of_print p)
     × PrintsSchema limits old new written_old written_new p
     × PrintTells source_old source_new sink_old sink_new p
 
 -- what a result states about a stream that is printed by these options. When W9 and F36 come, the
 -- counts of failures of sink and source are as `print` states them
 abbrev pub AnswersPrint : PrintOptions → Limits → Option (List ℕ) → Option (List ℕ)
-    → Option (List ℕ) → Option (List ℕ) → ℕ → ℕ → ℕ → ℕ → Result ⊤ Stop → Type 0
+    → Option (List ℕ) → Option (List ℕ) → ℕ → ℕ → ℕ → ℕ → Result (Option ℕ) Stop → Type 0
 AnswersPrint options limits old new written_old written_new source_old source_new sink_old sink_new
-    r = (p : Result ⊤ PrintStop) × (r ≡ job_result stop_of_print p)
+    r = (p : Result (Option ℕ) PrintStop) × (r ≡ job_result (λ n. n) stop_of_print p)
     × Prints options limits old new written_old written_new p
     × PrintTells source_old source_new sink_old sink_new p
 
 -- what a result states about a stream that is rewritten. When W9 and F36 come, the counts of
 -- failures of sink and source tell, as `rewrite` states it
 abbrev pub AnswersRewrite : RewriteOptions → Limits → Option (List ℕ) → Option (List ℕ)
-    → Option (List ℕ) → Option (List ℕ) → ℕ → ℕ → ℕ → ℕ → Result ⊤ Stop → Type 0
+    → Option (List ℕ) → Option (List ℕ) → ℕ → ℕ → ℕ → ℕ → Result (Option ℕ) Stop → Type 0
 AnswersRewrite options limits old new written_old written_new source_old source_new sink_old
     sink_new r =
-    (p : Result ⊤ RewriteStop) × (r ≡ job_result stop_of_rewrite p)
+    (p : Result ℕ RewriteStop) × (r ≡ job_result Some stop_of_rewrite p)
     × Rewrites options limits old new written_old written_new sink_old sink_new p
     × RewriteTells source_old source_new sink_old sink_new p
 
@@ -143,6 +151,12 @@ pub record IsSchemaOf (bytes : Option (List ℕ)) (s : Schema) : Type 0 where
   pub limits : Limits
   pub standard : IsStandard limits
   pub formed : WellFormed limits s
+
+-- the file after a job: only `FromCsv` reads it, and gives it back if it was opened; for any other
+-- job it is as it was
+abbrev pub GivesFileBack : {P : Type 0} → Job → Option P → Option P → Type 0
+GivesFileBack (job.FromCsv path size dialect) old new = is_some new ≡ is_some old
+GivesFileBack _ old new = new ≡ old
 
 -- how many calls of a file failed; 1 if it was not opened
 abbrev pub failures_of : {P : Type 0} → (P → ℕ) → Option P → ℕ
@@ -168,20 +182,20 @@ HasNoSchema bytes failures why = ⊥
 -- the sink was called; or the records were converted by the file's schema to a stream with batches
 -- of `size` rows, or that broke off
 abbrev pub AnswersCsv : Dialect → Option (List ℕ) → ℕ → ℕ → Option (List ℕ) → Option (List ℕ)
-    → Option (List ℕ) → ℕ → ℕ → ℕ → ℕ → Result ⊤ Stop → Type 0
+    → Option (List ℕ) → ℕ → ℕ → ℕ → ℕ → Result (Option ℕ) Stop → Type 0
 AnswersCsv d bytes failures size input written_old written_new source_old source_new sink_old
     sink_new
     r = ((why : Stop) × (r ≡ Err why) × HasNoSchema bytes failures why
     × (written_new ≡ written_old) × (source_new ≡ source_old) × (sink_new ≡ sink_old))
     ⊎ ((s : Schema) × IsSchemaOf bytes s × (failures ≡ 0) × (p : Result ⊤ CsvStop)
-    × (r ≡ job_result (stop_of_csv s) p)
+    × (r ≡ job_result no_messages (stop_of_csv s) p)
     × csv.AnswersConversion d input s size written_old written_new sink_old sink_new p
     × CountsSourceFailure source_old source_new p × CountsSinkFailure sink_old sink_new p)
 
 -- what a result states about a job: what was read of the input, what was sent, and which device
 -- failed. `bytes` and `failures` are those of the schema's file
 abbrev pub Answers : Job → Option (List ℕ) → ℕ → Option (List ℕ) → Option (List ℕ)
-    → Option (List ℕ) → Option (List ℕ) → ℕ → ℕ → ℕ → ℕ → Result ⊤ Stop → Type 0
+    → Option (List ℕ) → Option (List ℕ) → ℕ → ℕ → ℕ → ℕ → Result (Option ℕ) Stop → Type 0
 Answers (job.Schema limits) bytes failures old new written_old written_new source_old source_new
     sink_old sink_new r = AnswersSchemaJob limits old new written_old written_new source_old
     source_new
@@ -210,22 +224,22 @@ Answers (job.FromCsv path size dialect) bytes failures old new written_old writt
 
 -- which batches of a stream that is printed were reported, as `print` states it
 abbrev pub ReportsPrint : Limits → Option (List ℕ) → Option (List ℕ) → Option (List Report)
-    → Option (List Report) → Result ⊤ Stop → Type 0
+    → Option (List Report) → Result (Option ℕ) Stop → Type 0
 ReportsPrint limits old new reports_old reports_new r =
-    (p : Result ⊤ PrintStop) × (r ≡ job_result stop_of_print p)
+    (p : Result (Option ℕ) PrintStop) × (r ≡ job_result (λ n. n) stop_of_print p)
     × ReportsPrintedBatches limits old new reports_old reports_new p
 
 -- which batches of a stream that is rewritten were reported, as `rewrite` states it
 abbrev pub ReportsRewrite : Limits → Option (List ℕ) → Option (List ℕ) → Option (List Report)
-    → Option (List Report) → Result ⊤ Stop → Type 0
+    → Option (List Report) → Result (Option ℕ) Stop → Type 0
 ReportsRewrite limits old new reports_old reports_new r =
-    (p : Result ⊤ RewriteStop) × (r ≡ job_result stop_of_rewrite p)
+    (p : Result ℕ RewriteStop) × (r ≡ job_result Some stop_of_rewrite p)
     × ReportsSentBatches limits old new reports_old reports_new p
 
 -- which batches a job reported: those of the stream that it printed or rewrote; any other job
 -- reports none
 abbrev pub ReportsBatches : Job → Option (List ℕ) → Option (List ℕ) → Option (List Report)
-    → Option (List Report) → Result ⊤ Stop → Type 0
+    → Option (List Report) → Result (Option ℕ) Stop → Type 0
 ReportsBatches (job.Check limits mark) old new reports_old reports_new r =
     ReportsPrint limits old new reports_old reports_new r
 ReportsBatches (job.Show limits objects pairs count mark) old new reports_old reports_new r =
@@ -237,3 +251,27 @@ ReportsBatches (job.Rewrite limits output mark) old new reports_old reports_new 
 ReportsBatches (job.Schema limits) old new reports_old reports_new r = reports_new ≡ reports_old
 ReportsBatches (job.FromCsv path size dialect) old new reports_old reports_new r =
     reports_new ≡ reports_old
+
+-- what is answered after a stream of so many messages, if nothing may follow it: one byte that
+-- follows is taken, and refused as F1 at the number of the next message; or the input fails
+abbrev pub MeetsEnd : Option (List ℕ) → Option (List ℕ) → ℕ → ℕ → Result ⊤ Stop → Type 0
+MeetsEnd old new failures messages (Ok done) =
+    Consumes old new [] × IsAtEnd new × (failures ≡ 0)
+MeetsEnd old new failures messages (Err (stop.Read f.NotContinued number)) =
+    (number ≡ messages) × (failures ≡ 0)
+    × ((x : List ℕ) × Consumes old new x × (length x ≡ 1))
+MeetsEnd old new failures messages (Err (stop.Read f.Read number)) =
+    (number ≡ messages) × (failures ≡ 1) × Keeps old new
+MeetsEnd old new failures messages (Err why) = ⊥
+
+-- how the answer of a job becomes that of the program. If nothing may follow a stream that was read
+-- to its end, its input is asked for a byte more
+abbrev pub EndsJob : Bool → Option (List ℕ) → Option (List ℕ) → ℕ → ℕ → Result (Option ℕ) Stop
+    → Result ⊤ Stop → Type 0
+EndsJob required old new failures_old failures_new (Ok (Some messages)) r =
+    (IsTrue required → MeetsEnd old new failures_new messages r)
+    × (IsFalse required → (r ≡ Ok tt) × (new ≡ old) × (failures_new ≡ failures_old))
+EndsJob required old new failures_old failures_new (Ok None) r =
+    (r ≡ Ok tt) × (new ≡ old) × (failures_new ≡ failures_old)
+EndsJob required old new failures_old failures_new (Err why) r =
+    (r ≡ Err why) × (new ≡ old) × (failures_new ≡ failures_old)

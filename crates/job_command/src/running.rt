@@ -1,11 +1,12 @@
 //! Does jobs, each between an input and a sink.
 ghost use Rattle.std.specs.Io.KnownBytes.{Appends};
 ghost use Rattle.std.specs.Prelude.{◌≡◌, ◌≢◌, ◌⊎◌, ◌++◌, ◌∷◌, [], Result, Some, OnOk, is_some, ⊤};
-ghost use Rattle.std.specs.Prelude.{IfSome, IsTrue};
+ghost use Rattle.std.specs.Prelude.{ℕ, IfSome, IsOk, IsTrue, List, Option};
 ghost use Rattle.ipc_device.specs.Failures.{CountsFailures};
 ghost use Rattle.job_command.specs.Jobs.{Answers, AnswersCsv, AnswersPrint, AnswersRewrite};
 ghost use Rattle.job_command.specs.Jobs.{AnswersSchemaJob, shape_of, file_bytes, exit_status};
 ghost use Rattle.job_command.specs.Jobs.{ReportsBatches, ReportsPrint, ReportsRewrite};
+ghost use Rattle.job_command.specs.Jobs.{EndsJob, GivesFileBack, MeetsEnd, no_messages};
 ghost use Rattle.job_command.specs.Jobs.{failures_of, job_result, rewrite_options, stop_of_csv};
 ghost use Rattle.job_command.specs.Lines.{ExplainsStop, PrintsStopLines, stop_text};
 ghost use Rattle.job_arguments.specs.Arguments.{HasGoodSize, IsBatchSize};
@@ -15,7 +16,7 @@ ghost use Rattle.job_print.specs.declared.form.Form.TheVariants.{Rows};
 use crate::schema_file::read_schema;
 use crate::stop::Stop;
 use ipc_device::{Failed, Progress, Sink, Source, send_all};
-use ipc_model::{Limits, Schema};
+use ipc_model::{Fault, Limits, Schema};
 use ipc_stream::Seed;
 use ipc_text_csv::Dialect;
 use ipc_text_json::RowShape;
@@ -32,7 +33,7 @@ fn schema_job<S: Source, W: Sink>(
     limits: Limits,
     input: S,
     sink: W,
-) -> (Result<(), Stop>, S, W)
+) -> (Result<Option<u64>, Stop>, S, W)
     ensures answers { AnswersSchemaJob limits (S.remaining input) (S.remaining result.1)
         (W.written sink) (W.written result.2) (S.failures input) (S.failures result.1)
         (W.failures sink) (W.failures result.2) result.0 }
@@ -42,7 +43,7 @@ fn schema_job<S: Source, W: Sink>(
     let mut sink = sink;
     let (result, source) = print_schema(alloc, limits, input, &mut sink);
     let result = match result {
-        Ok(()) => Ok(()),
+        Ok(()) => Ok(None),
         Err(why) => Err(why.into()),
     };
     (result, source, sink)
@@ -56,7 +57,7 @@ fn print_job<S: Source, W: Sink, N: Progress>(
     input: S,
     sink: W,
     progress: &mut N,
-) -> (Result<(), Stop>, S, W)
+) -> (Result<Option<u64>, Stop>, S, W)
     ensures answers { AnswersPrint options.entry limits (S.remaining input) (S.remaining result.1)
         (W.written sink) (W.written result.2) (S.failures input) (S.failures result.1)
         (W.failures sink) (W.failures result.2) result.0 }
@@ -68,7 +69,7 @@ fn print_job<S: Source, W: Sink, N: Progress>(
     let mut sink = sink;
     let (result, source) = print(alloc, limits, options, input, &mut sink, progress);
     let result = match result {
-        Ok(()) => Ok(()),
+        Ok(messages) => Ok(messages),
         Err(why) => Err(why.into()),
     };
     (result, source, sink)
@@ -83,7 +84,7 @@ fn rewrite_job<S: Source, W: Sink, N: Progress>(
     input: S,
     sink: W,
     progress: &mut N,
-) -> (Result<(), Stop>, S, W)
+) -> (Result<Option<u64>, Stop>, S, W)
     ensures answers { AnswersRewrite options limits (S.remaining input) (S.remaining result.1)
         (W.written sink) (W.written result.2) (S.failures input) (S.failures result.1)
         (W.failures sink) (W.failures result.2) result.0 }
@@ -94,18 +95,21 @@ fn rewrite_job<S: Source, W: Sink, N: Progress>(
 {
     let (result, source, sink) = rewrite(alloc, seed, options, limits, input, sink, progress);
     let result = match result {
-        Ok(()) => Ok(()),
+        Ok(messages) => Ok(Some(messages)),
         Err(why) => Err(why.into()),
     };
     (result, source, sink)
 }
 
 // Converts the result of `from_csv` to that of the job.
-fn csv_result(answer: Result<(), job_from_csv::FromCsvStop>, schema: Schema) -> Result<(), Stop>
-    ensures { result ≡ job_result (stop_of_csv schema) answer }
+fn csv_result(
+    answer: Result<(), job_from_csv::FromCsvStop>,
+    schema: Schema,
+) -> Result<Option<u64>, Stop>
+    ensures { result ≡ job_result no_messages (stop_of_csv schema) answer }
 {
     match answer {
-        Ok(()) => Ok(()),
+        Ok(()) => Ok(None),
         Err(why) => Err(Stop::of_csv(why, schema)),
     }
 }
@@ -119,7 +123,7 @@ fn csv_job<P: Source, S: Source, W: Sink>(
     batch: u64,
     input: S,
     sink: W,
-) -> (Result<(), Stop>, S, W, Option<P>)
+) -> (Result<Option<u64>, Stop>, S, W, Option<P>)
     requires { IsBatchSize batch }
     ensures answers { AnswersCsv dialect.entry (file_bytes P.remaining file)
         (failures_of P.failures result.3) batch (S.remaining input) (W.written sink)
@@ -177,7 +181,8 @@ fn rewrite_options(output: OutputLimits, require_mark: bool) -> RewriteOptions
     }
 }
 
-// Does a job, as `run`.
+// Does a job, as `run` without `require_eof`. Returns how many messages a stream has that was read
+// to its end.
 fn do_job<P: Source, S: Source, W: Sink, N: Progress>(
     alloc: Global,
     seed: Seed,
@@ -186,14 +191,14 @@ fn do_job<P: Source, S: Source, W: Sink, N: Progress>(
     input: S,
     sink: W,
     progress: &mut N,
-) -> (Result<(), Stop>, S, W, Option<P>)
+) -> (Result<Option<u64>, Stop>, S, W, Option<P>)
     requires { HasGoodSize job }
     ensures answers { Answers job (file_bytes P.remaining schema) (failures_of P.failures result.3)
         (S.remaining input) (S.remaining result.1) (W.written sink) (W.written result.2)
         (S.failures input) (S.failures result.1) (W.failures sink) (W.failures result.2) result.0 }
     ensures handed_on { OnOk result.0 (W.held_back result.2 ≡ Some []) }
     ensures works { exit_status result.0 ≢ 3 → W.failures sink ≡ 0 → W.failures result.2 ≡ 0 }
-    ensures file { is_some result.3 ≡ is_some schema }
+    ensures file { GivesFileBack job schema result.3 }
     ensures reports { ReportsBatches job (S.remaining input) (S.remaining result.1)
         (N.reports progress.old) (N.reports progress.new) result.0 }
 {
@@ -240,6 +245,37 @@ fn do_job<P: Source, S: Source, W: Sink, N: Progress>(
         } => return csv_job(alloc, seed, dialect.dialect(), schema, batch, input, sink),
     };
     (result, input, sink, schema)
+}
+
+// Asks the input for a byte more, after a stream of so many messages. If one comes, it is F1.
+fn check_at_end<S: Source>(input: &mut S, messages: u64) -> Result<(), Stop>
+    ensures { MeetsEnd (S.remaining input.old) (S.remaining input.new) (S.failures input.new)
+        messages result }
+{
+    let mut byte = [0];
+    match input.read(&mut byte) {
+        Ok(0) => Ok(()),
+        Ok(_) => Err(Stop::Read(Fault::NotContinued, messages)),
+        Err(_) => Err(Stop::Read(Fault::Read, messages)),
+    }
+}
+
+// The result of a job. If nothing may follow a stream that was read to its end, this is checked.
+fn check_eof<S: Source>(
+    require_eof: bool,
+    answer: Result<Option<u64>, Stop>,
+    input: &mut S,
+) -> Result<(), Stop>
+    ensures ends { EndsJob require_eof (S.remaining input.old) (S.remaining input.new)
+        (S.failures input.old) (S.failures input.new) answer result }
+    ensures done { exit_status result ≡ 0 → IsOk answer }
+    ensures works { exit_status result ≢ 3 → exit_status answer ≢ 3 }
+{
+    match answer {
+        Ok(Some(messages)) if require_eof => check_at_end(input, messages),
+        Ok(_) => Ok(()),
+        Err(why) => Err(why),
+    }
 }
 
 // An input whose messages are kept, if a refusal of a stream is to be explained.
@@ -328,7 +364,8 @@ fn report<S: Source, E: Sink>(
 /// Does a job: reads `input` batch by batch and writes the result to `sink`. After a refusal it
 /// prints the fault's line to `messages`, and with `explain` lines that explain it; at success
 /// nothing. The bytes that were sent remain sent. Of a stream, no byte after its end-of-stream mark
-/// is read.
+/// is read, unless `invocation.require_eof` is set. Then a byte after a stream that was read to its
+/// end is F1 at the number of the message after the last one; what the job sends was sent before.
 ///
 /// `schema` is the file that the job names, or `None` if it cannot be opened. Only `FromCsv` reads
 /// it. The batch size must be from 1 to 2^31 - 1, as `read_words` returns it. `progress` receives
@@ -354,34 +391,40 @@ pub fn run<P: Source, S: Source, W: Sink, N: Progress, E: Sink>(
     messages: &mut E,
 ) -> (u8, S, W, Option<P>)
     requires { HasGoodSize invocation.job }
-    // The status is that of an answer, which says what was read, what went out and which device
-    // failed. Exactly its line was printed, and with `explain` the lines that explain it; at
-    // success nothing. Each batch of a stream that was read was reported, as `print` and `rewrite`
-    // state it.
-    ensures answers { (r : Result ⊤ Stop) × (result.0 ≡ exit_status r)
+    // The job has an answer, which says what was read, what went out and which device failed. The
+    // status is that of this answer, or of the check that nothing follows the stream. Exactly its
+    // line was printed, and with `explain` the lines that explain it; at success nothing. Each
+    // batch of a stream that was read was reported, as `print` and `rewrite` state it.
+    ensures answers { (answer : Result (Option ℕ) Stop) × (r : Result ⊤ Stop)
+        × (between : Option (List ℕ)) × (failures : ℕ) × (result.0 ≡ exit_status r)
         × Answers invocation.job (file_bytes P.remaining schema) (failures_of P.failures result.3)
-        (S.remaining input) (S.remaining result.1) (W.written sink) (W.written result.2)
-        (S.failures input) (S.failures result.1) (W.failures sink) (W.failures result.2) r
+        (S.remaining input) between (W.written sink) (W.written result.2) (S.failures input)
+        failures (W.failures sink) (W.failures result.2) answer
+        × EndsJob invocation.require_eof between (S.remaining result.1) failures
+        (S.failures result.1) answer r
         × PrintsStopLines invocation.explain (E.written messages.old) (E.written messages.new)
         (E.failures messages.new) r
-        × ReportsBatches invocation.job (S.remaining input) (S.remaining result.1)
-        (N.reports progress.old) (N.reports progress.new) r }
+        × ReportsBatches invocation.job (S.remaining input) between (N.reports progress.old)
+        (N.reports progress.new) answer }
     // Where all was done the sink holds nothing back.
     ensures handed_on { result.0 ≡ 0 → W.held_back result.2 ≡ Some [] }
     // A sink fails only at 3.
     ensures works { result.0 ≢ 3 → W.failures sink ≡ 0 → W.failures result.2 ≡ 0 }
     // There is no other status.
     ensures one { (result.0 ≡ 0) ⊎ (result.0 ≡ 1) ⊎ (result.0 ≡ 3) ⊎ (result.0 ≡ 4) }
-    // A file that was opened comes back, and none is made up.
-    ensures file { is_some result.3 ≡ is_some schema }
+    // Only `FromCsv` reads the file. One that was opened comes back, and none is made up.
+    ensures file { GivesFileBack invocation.job schema result.3 }
 {
     let Invocation {
         job,
         explain,
         progress: _,
+        require_eof,
     } = invocation;
     let input = record(alloc, &job, explain, input);
-    let (result, input, sink, schema) = do_job(alloc, seed, job, schema, input, sink, progress);
+    let (answer, input, sink, schema) = do_job(alloc, seed, job, schema, input, sink, progress);
+    let mut input = input;
+    let result = check_eof(require_eof, answer, &mut input);
     let status = report(alloc, explain, &result, &input, messages);
     (status, input.into_inner(), sink, schema)
 }

@@ -1,5 +1,5 @@
 -- Which batches are reported when a stream is printed.
-use Rattle.std.specs.Prelude.{ℕ, List, Option, Result, Ok, Err, ⊤}
+use Rattle.std.specs.Prelude.{ℕ, List, Option, Result, Ok, Err}
 use Rattle.ipc_model.specs.declared.limits.Limits.{Limits}
 use Rattle.ipc_device.specs.Reports.{Report}
 use Rattle.ipc_stream_read.specs.Progress.{ReportsAll, ReportsBefore, ReportsSome}
@@ -13,8 +13,8 @@ use Rattle.job_print.specs.declared.stop.PrintStop.TheVariants as stop
 -- read was reported, in order. Where a row has no text or writing failed, the last one that was
 -- read may have no report
 abbrev pub ReportsPrintedBatches : Limits → Option (List ℕ) → Option (List ℕ) → Option (List Report)
-    → Option (List Report) → Result ⊤ PrintStop → Type 0
-ReportsPrintedBatches limits old new reports_old reports_new (Ok done) =
+    → Option (List Report) → Result (Option ℕ) PrintStop → Type 0
+ReportsPrintedBatches limits old new reports_old reports_new (Ok messages) =
     ReportsAll limits old new reports_old reports_new
 ReportsPrintedBatches limits old new reports_old reports_new (Err (stop.Read fault message)) =
     ReportsBefore limits old new reports_old reports_new fault

@@ -72,6 +72,14 @@ pub record PrintsTable (options : PrintOptions) (limits : Limits)
   pub text : Appends written_old written_new (stream_text options.form table.schema table.batches
       ++ tail_text options.form end (count_up 0 (length x)) table.batches)
 
+-- the bytes that were taken are the message of a table's schema, other messages with its batches,
+-- and the end; this number counts the messages
+abbrev pub HasMessages : Limits → Option (List ℕ) → Option (List ℕ) → Table → End → ℕ → Type 0
+HasMessages limits old new t end messages =
+    (x y : List ℕ) × Consumes old new (x ++ y) × OpensStream limits t.schema x
+    × ((reads : Reads limits (Some (initial_state t.schema)) y new (map batch t.batches) (Ok end))
+    × (messages ≡ count_up 1 (messages_in reads.run)))
+
 -- no shorter beginning of these bytes is messages that report these events
 abbrev pub AreShortest : Limits → State → List ℕ → List Event → Type 0
 AreShortest limits σ x events =
@@ -174,7 +182,7 @@ pub data PrintsSome (options : PrintOptions) (limits : Limits)
 -- the sink's is left. At `Text` the source never failed, and the sink's count is left. At `Write`
 -- the sink's count is 1 if the fault is W9, and any other fault leaves both. So of devices that had
 -- not failed before, F36 and W9 name the one that failed; if both failed, the answer is W9
-abbrev pub CountsPrintFailures : ℕ → ℕ → ℕ → ℕ → Result ⊤ PrintStop → Type 0
+abbrev pub CountsPrintFailures : {T : Type 0} → ℕ → ℕ → ℕ → ℕ → Result T PrintStop → Type 0
 CountsPrintFailures source_old source_new sink_old sink_new (Ok done) =
     (source_old ≡ 0) × (source_new ≡ 0) × (sink_old ≡ 0) × (sink_new ≡ 0)
 CountsPrintFailures source_old source_new sink_old sink_new (Err (stop.Read fault message)) =
@@ -184,13 +192,16 @@ CountsPrintFailures source_old source_new sink_old sink_new (Err (stop.Text faul
 CountsPrintFailures source_old source_new sink_old sink_new (Err (stop.Write fault)) =
     (source_old ≡ 0) × (fault ≢ w.Write → source_new ≡ 0) × CountsSinkFault sink_old sink_new fault
 
--- what a result states about a stream that is printed. At Ok the whole table was printed, or its
--- rows up to the limit; if printing stopped, a beginning of the text was printed
+-- what a result states about a stream that is printed. At Ok the whole table was printed, and the
+-- number counts its messages; or its rows up to the limit were. If printing stopped, a beginning of
+-- the text was printed
 abbrev pub Prints : PrintOptions → Limits → Option (List ℕ) → Option (List ℕ) → Option (List ℕ)
-    → Option (List ℕ) → Result ⊤ PrintStop → Type 0
-Prints options limits old new written_old written_new (Ok done) =
-    PrintsTable options limits old new written_old written_new
-    ⊎ PrintsFirst options limits old new written_old written_new
+    → Option (List ℕ) → Result (Option ℕ) PrintStop → Type 0
+Prints options limits old new written_old written_new (Ok (Some messages)) =
+    (p : PrintsTable options limits old new written_old written_new)
+    × HasMessages limits old new p.table p.end messages
+Prints options limits old new written_old written_new (Ok None) =
+    PrintsFirst options limits old new written_old written_new
 Prints options limits old new written_old written_new (Err (stop.Read fault message)) =
     EndsPrinting options limits old new written_old written_new fault message
 Prints options limits old new written_old written_new (Err (stop.Text fault)) =
@@ -249,8 +260,8 @@ PrintsText options t end bytes written_old written_new =
 -- the result if the source contains a table and its end, of this many bytes, and does not fail. The
 -- text was printed, or the fault is in the table, or the sink failed or memory ran out
 abbrev pub AnswersPrintedTable : PrintOptions → Table → End → ℕ → Option (List ℕ) → Option (List ℕ)
-    → Result ⊤ PrintStop → Type 0
-AnswersPrintedTable options t end bytes written_old written_new (Ok done) =
+    → Result (Option ℕ) PrintStop → Type 0
+AnswersPrintedTable options t end bytes written_old written_new (Ok messages) =
     PrintsText options t end bytes written_old written_new
 AnswersPrintedTable options t end bytes written_old written_new (Err (stop.Read fault message)) =
     fault ≡ OutOfMemory
@@ -271,8 +282,8 @@ pub record ReachesLimit (options : PrintOptions) (limits : Limits) (x : List ℕ
 -- last batch, and does not fail. The text of the rows up to the limit was printed, and no byte
 -- after x was taken; or the fault is in these rows, or the sink failed or memory ran out
 abbrev pub AnswersFirst : PrintOptions → Table → List ℕ → Option (List ℕ) → Option (List ℕ)
-    → Option (List ℕ) → Option (List ℕ) → Result ⊤ PrintStop → Type 0
-AnswersFirst options t x old new written_old written_new (Ok done) =
+    → Option (List ℕ) → Option (List ℕ) → Result (Option ℕ) PrintStop → Type 0
+AnswersFirst options t x old new written_old written_new (Ok messages) =
     ((taken rest : List ℕ) × (x ≡ taken ++ rest) × Consumes old new taken)
     × Appends written_old written_new
     (stream_text options.form t.schema (within options.limit t.batches))
@@ -456,13 +467,15 @@ write_fault p.Write = w.Write
 write_fault p.OutOfMemory = w.OutOfMemory
 
 -- what a result states about a stream whose schema was read
-abbrev pub PrintsStream : PrintOptions → Reader → Reader → Output → Output → Result ⊤ PrintStop
-    → Type 0
-PrintsStream options old new before after (Ok done) =
-    (form_fault options.form old.schema.fields ≡ None)
-    × (((end : End) × PrintsWhole options (front_text options.form old.schema) old new before after
+abbrev pub PrintsStream : PrintOptions → Reader → Reader → Output → Output
+    → Result (Option ℕ) PrintStop → Type 0
+PrintsStream options old new before after (Ok (Some messages)) =
+    (form_fault options.form old.schema.fields ≡ None) × (messages ≡ new.messages)
+    × ((end : End) × PrintsWhole options (front_text options.form old.schema) old new before after
     end × (IsTrue options.require_mark → end ≡ Mark))
-    ⊎ PrintsLimited options (front_text options.form old.schema) old new before after)
+PrintsStream options old new before after (Ok None) =
+    (form_fault options.form old.schema.fields ≡ None)
+    × PrintsLimited options (front_text options.form old.schema) old new before after
 PrintsStream options old new before after (Err (stop.Read fault message)) =
     (answer : Result End Fault)
     × PrintsRows options (front_text options.form old.schema) old new before after answer

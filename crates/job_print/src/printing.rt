@@ -229,7 +229,7 @@ pub(crate) fn write_fault_of(fault: PrintFault) -> WriteFault
     }
 }
 
-// Prints a stream whose schema was read.
+// Prints a stream whose schema was read, as `print`.
 #[tactic(auto, using(crate::proofs::streams::Reporting::none_reported))]
 fn print_open<R: Source, W: Sink, P: Progress>(
     alloc: Global,
@@ -237,7 +237,7 @@ fn print_open<R: Source, W: Sink, P: Progress>(
     stream: &mut StreamReader<R>,
     sink: &mut W,
     progress: &mut P,
-) -> Result<(), PrintStop>
+) -> Result<Option<u64>, PrintStop>
     requires { stream.old.phase ≡ Reading }
     ensures handed_on { OnOk result (W.held_back sink.new ≡ Some []) }
     ensures prints { PrintsStream options.entry stream.old stream.new
@@ -253,8 +253,8 @@ fn print_open<R: Source, W: Sink, P: Progress>(
         return Err(PrintStop::Text(fault));
     }
     match print_stream(alloc, options, stream, sink, progress) {
-        Ok(Outcome::Whole(..)) => Ok(()),
-        Ok(Outcome::Limited) => Ok(()),
+        Ok(Outcome::Whole(..)) => Ok(Some(stream.messages())),
+        Ok(Outcome::Limited) => Ok(None),
         Ok(Outcome::Broken(fault)) => Err(PrintStop::Read(fault, stream.messages())),
         Ok(Outcome::Refused(fault)) => Err(PrintStop::Text(fault)),
         Err(fault) => Err(PrintStop::Write(write_fault_of(fault))),
@@ -262,8 +262,10 @@ fn print_open<R: Source, W: Sink, P: Progress>(
 }
 
 /// Prints the stream of `source` to `sink` by these options, batch by batch under these limits.
-/// Returns the source. What was printed before a refusal remains valid. No byte after an
-/// end-of-stream mark is read. At Ok the sink was flushed.
+/// Returns the source, and the number of messages of a stream that was read to its end: a message
+/// after the end would have this number. It is `None` if the rows reach the limit. What was printed
+/// before a refusal remains valid. No byte after an end-of-stream mark is read. At Ok the sink was
+/// flushed.
 ///
 /// The text of the schema and of each batch is written, and the sink is flushed, before the next
 /// batch is read. Text is sent whenever 64 KiB are kept, and after each batch; no clause counts the
@@ -288,14 +290,14 @@ pub fn print<R: Source, W: Sink, P: Progress>(
     source: R,
     sink: &mut W,
     progress: &mut P,
-) -> (Result<(), PrintStop>, R)
+) -> (Result<Option<u64>, PrintStop>, R)
     // At Ok the sink holds nothing back.
     ensures handed_on { OnOk result.0 (W.held_back sink.new ≡ Some []) }
-    // At Ok the bytes that were taken denote a table with its end, which is the mark if that is
-    // required, and exactly its text was printed. Or they are the messages up to the batch in which
-    // the rows reach the limit, and exactly the text up to that row was printed. At a fault its
-    // cause is true, and exactly what came before was printed. The number of the message is the
-    // count of the messages before it.
+    // At Ok with a number the bytes that were taken denote a table with its end, which is the mark
+    // if that is required, in so many messages, and exactly its text was printed. At Ok without one
+    // they are the messages up to the batch in which the rows reach the limit, and exactly the text
+    // up to that row was printed. At a fault its cause is true, and exactly what came before was
+    // printed. The number of the message is the count of the messages before it.
     ensures prints { Prints options.entry limits (R.remaining source) (R.remaining result.1)
         (W.written sink.old) (W.written sink.new) result.0 }
     // Whatever the answer, a beginning of the text of what was read was printed, up to the limit.

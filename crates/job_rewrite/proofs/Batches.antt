@@ -333,8 +333,9 @@ module _ (options : RewriteOptions) (count rows : ℕ) (old now new : Reader) (b
 
   -- also where the mark is required and there is one
   pub copied_end : (found : Option End) (e f : End) → NextCall now new (Ok None) → found ≡ end_of new.phase
-      → e ≡ unwrap_or found Closed → as_required options.require_mark (Ok e) ≡ Ok f → CopiesBatches options old new before after (Ok tt)
-  copied_end found e f t is given ends = (e, copied_rest found e t is given, marked options.require_mark e f ends)
+      → e ≡ unwrap_or found Closed → as_required options.require_mark (Ok e) ≡ Ok f
+      → CopiesBatches options old new before after (Ok new.messages)
+  copied_end found e f t is given ends = (e, copied_rest found e t is given, marked options.require_mark e f ends, refl)
 
   -- where it has no mark, that is the fault
   pub copied_unmarked : (found : Option End) (e : End) (fault : Fault) → NextCall now new (Ok None) → found ≡ end_of new.phase

@@ -1,7 +1,7 @@
 -- Where a source holds a table, that table is sent, or writing it breaks off, or memory runs out in reading.
 use Rattle.std.proofs.Common.{◌≡◌, ◌∙◌, refl, sym, subst, ℕ, ◌<◌, List, [], ◌∷◌, ◌++◌, length, map, Option, Some, None}
 use Rattle.std.proofs.Common.{Result, Ok, Err, append_assoc, append-nil, arith}
-use Rattle.std.specs.Prelude.{⊤, Bool, IsTrue, true, false}
+use Rattle.std.specs.Prelude.{Bool, IsTrue, true, false}
 use Rattle.std.specs.List.{AllByRecursion}
 use Rattle.std.specs.Io.KnownBytes.{Consumes, IsAtEnd}
 use Rattle.std.proofs.lemmas.List.{length-append}
@@ -147,9 +147,9 @@ module _ {limits : Limits} (options : RewriteOptions) (new : Option (List ℕ)) 
   pub answered : (g0 g1 : ℕ) → ((fault : Fault) → TakesTable limits (Some z) new (Err fault) → CountsFault g0 g1 fault → fault
       ≡ OutOfMemory)
       → ((u : Table) → TakesTable limits (Some z) new (Ok (u, Closed)) → IsTrue options.require_mark → ⊥)
-      → (r : Result ⊤ RewriteStop) → CountsRewriteFailures g0 g1 f0 f1 r → Rewrites options limits (Some z) new w0 w1 f0 f1 r
+      → (r : Result ℕ RewriteStop) → CountsRewriteFailures g0 g1 f0 f1 r → Rewrites options limits (Some z) new w0 w1 f0 f1 r
       → AnswersRewrittenTable options (sent_limits options limits) t w0 w1 f0 f1 r
-  answered g0 g1 memory ends (Ok done) tells c =
+  answered g0 g1 memory ends (Ok n) tells (c, number) =
       subst (λ (u : Table). AreWithin options u.batches × Sent (IsTableOf (sent_limits options limits) u) w0 w1 f0 f1)
       (same_table c.x c.table c.end c.bytes c.denotes c.closed) (c.within, c.sent)
   answered g0 g1 memory ends (Err (stop.Read fault message)) tells c =
@@ -157,7 +157,7 @@ module _ {limits : Limits} (options : RewriteOptions) (new : Option (List ℕ)) 
   answered g0 g1 memory ends (Err (stop.Write fault)) tells c = writing fault c
   answered g0 g1 memory ends (Err (stop.Above total number)) tells c = stopping total number c
 
-module _ {limits : Limits} (options : RewriteOptions) (old new w0 w1 : Option (List ℕ)) (g0 g1 f0 f1 : ℕ) (r : Result ⊤ RewriteStop)
+module _ {limits : Limits} (options : RewriteOptions) (old new w0 w1 : Option (List ℕ)) (g0 g1 f0 f1 : ℕ) (r : Result ℕ RewriteStop)
     (tells : CountsRewriteFailures g0 g1 f0 f1 r) (c : Rewrites options limits old new w0 w1 f0 f1 r) (none : g1 ≡ 0) where
   -- where bytes up to an end mark denote a table, that one is written or refused, unless memory runs out
   pub answered_marked : (x rest : List ℕ) (t : Table) → old ≡ Some (x ++ rest)

@@ -1,7 +1,7 @@
 -- A whole stream, from its schema on.
 use Rattle.std.proofs.Common.{◌≡◌, ◌∙◌, refl, sym, ap, subst, ℕ, List, [], ◌∷◌, ◌++◌, map, Option, Some, None, Result, Ok, Err}
 use Rattle.std.proofs.Common.{arith}
-use Rattle.std.specs.Prelude.{IsTrue, false}
+use Rattle.std.specs.Prelude.{false}
 use Rattle.std.specs.List.{AllByRecursion}
 use Rattle.std.specs.Io.KnownBytes.{Consumes}
 use Rattle.std.proofs.KnownBytes.{Appends-trans, Consumes-trans}
@@ -12,7 +12,6 @@ use Rattle.ipc_model.specs.declared.limits.Limits.{Limits}
 use Rattle.ipc_model.specs.declared.table.BatchRows.{BatchRows}
 use Rattle.ipc_model.specs.declared.table.Table.{Table}
 use Rattle.ipc_stream_read.specs.declared.end.End.{End}
-use Rattle.ipc_stream_read.specs.declared.end.End.TheVariants.{Mark}
 use Rattle.ipc_stream_read.specs.Reader.{Reader, in_force_of, Opens, OpenFails}
 use Rattle.ipc_stream_read.specs.Reasons.{Reads}
 use Rattle.ipc_stream_read.specs.Stream.{InForce, schema, batch, Run, events_of, DenotesClosed, EndsStream, OpensStream}
@@ -115,15 +114,14 @@ module _ {limits : Limits} (options : RewriteOptions) (start : Option (List ℕ)
         omega (arith, counted, reads_behind.1)
 
   -- where all batches and the mark were sent, so was the table
-  pub table_copied : (after : Writer) (end : End) (w1 : Option (List ℕ)) (f1 : ℕ)
-      → CopiesRest options s t before after (Ok end) → (IsTrue options.require_mark → end ≡ Mark)
-      → Sent EndsStream after.written w1 after.failures f1 → CopiesTable options limits start t.remaining w0 w1 f0 f1
-  table_copied after end w1 f1 r marked mark =
+  pub table_copied : (after : Writer) (n : ℕ) (w1 : Option (List ℕ)) (f1 : ℕ) → CopiesBatches options s t before after (Ok n)
+      → Sent EndsStream after.written w1 after.failures f1 → Rewrites options limits start t.remaining w0 w1 f0 f1 (Ok n)
+  table_copied after n w1 f1 (end, r, marked, number) mark =
       let h = taken_denotes start t.remaining (Ok (table_with r.batches, end))
       (record { x = o.x ++ r.x; bytes = taken after (Ok end) r; gives = reads after (Ok end) r }) in
       let sent = all_sent r.batches after.written after.failures r.sent in
       let report = table_tells (sent_limits options limits) (table_with r.batches) sent.x sent.whole in
-      record {
+      let copies : CopiesTable options limits start t.remaining w0 w1 f0 f1 = record {
         x = h.0;
         table = table_with r.batches;
         end = end;
@@ -140,7 +138,9 @@ module _ {limits : Limits} (options : RewriteOptions) (start : Option (List ℕ)
           worked = sent.worked;
           works = mark.works;
         };
-      }
+      } in
+      let counted = number ∙ numbered after (Ok end) r in
+      (copies, (o.x, r.x, taken after (Ok end) r, opened start s o, ((reads_behind after (Ok end) r).0, counted)))
 
   mark_refused : (after : Writer) (end : End) (w1 : Option (List ℕ)) (f1 : ℕ) → CopiesRest options s t before after (Ok end)
       → CutShort EndsStream after.written w1 f1 → BreaksWriting options limits start t.remaining w0 w1 f0 f1 w.Write

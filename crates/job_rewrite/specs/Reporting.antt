@@ -1,5 +1,5 @@
 -- Which batches are reported when a stream is rewritten.
-use Rattle.std.specs.Prelude.{ℕ, List, Option, Result, Ok, Err, ⊤}
+use Rattle.std.specs.Prelude.{ℕ, List, Option, Result, Ok, Err}
 use Rattle.ipc_model.specs.declared.limits.Limits.{Limits}
 use Rattle.ipc_device.specs.Reports.{Report}
 use Rattle.ipc_stream_read.specs.Progress.{ReportsAll, ReportsBefore, ReportsSome}
@@ -10,7 +10,7 @@ use Rattle.job_rewrite.specs.declared.stop.RewriteStop.TheVariants as stop
 -- read was reported, in order. Where writing failed or a total stopped it, the last one that was
 -- read may have no report
 abbrev pub ReportsSentBatches : Limits → Option (List ℕ) → Option (List ℕ) → Option (List Report)
-    → Option (List Report) → Result ⊤ RewriteStop → Type 0
+    → Option (List Report) → Result ℕ RewriteStop → Type 0
 ReportsSentBatches limits old new reports_old reports_new (Ok done) =
     ReportsAll limits old new reports_old reports_new
 ReportsSentBatches limits old new reports_old reports_new (Err (stop.Read fault message)) =

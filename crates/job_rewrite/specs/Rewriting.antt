@@ -1,6 +1,6 @@
 -- What is taken from a source and sent to a sink when a stream is rewritten.
 use Rattle.std.specs.Prelude.{◌≡◌, ◌+◌, ℕ, List, [], ◌∷◌, ◌++◌, map, Option, Some, length}
-use Rattle.std.specs.Prelude.{None, Result, Ok, Err, ⊤, IsTrue}
+use Rattle.std.specs.Prelude.{None, Result, Ok, Err, IsTrue}
 use Rattle.std.specs.Io.KnownBytes.{Consumes, IsAtEnd}
 use Rattle.std.specs.List.{AllByRecursion}
 use Rattle.ipc_model.specs.declared.fault.Fault.{Fault}
@@ -53,6 +53,14 @@ pub record CopiesTable (options : RewriteOptions) (limits : Limits)
   pub accepts : AcceptsTable (sent_limits options limits) table
   pub sent : Sent (IsTableOf (sent_limits options limits) table) written_old written_new
       failures_old failures_new
+
+-- the bytes that were taken are the message of a table's schema, other messages with its batches,
+-- and the end; this number counts the messages
+abbrev pub HasMessages : Limits → Option (List ℕ) → Option (List ℕ) → Table → End → ℕ → Type 0
+HasMessages limits old new t end messages =
+    (x y : List ℕ) × Consumes old new (x ++ y) × OpensStream limits t.schema x
+    × ((reads : Reads limits (Some (initial_state t.schema)) y new (map batch t.batches) (Ok end))
+    × (messages ≡ count_up 1 (messages_in reads.run)))
 
 -- why a stream is not read to its end, and the messages that were sent before
 pub data BreaksReading (options : RewriteOptions) (limits : Limits)
@@ -134,11 +142,12 @@ pub record BreaksTotals (options : RewriteOptions) (limits : Limits)
       written_new failures_old failures_new total number
 
 -- what a result states about a stream that is read under these limits and written under those that
--- the options give
+-- the options give. At Ok the number counts the messages that were read
 abbrev pub Rewrites : RewriteOptions → Limits → Option (List ℕ) → Option (List ℕ) → Option (List ℕ)
-    → Option (List ℕ) → ℕ → ℕ → Result ⊤ RewriteStop → Type 0
-Rewrites options limits old new written_old written_new failures_old failures_new (Ok done) =
-    CopiesTable options limits old new written_old written_new failures_old failures_new
+    → Option (List ℕ) → ℕ → ℕ → Result ℕ RewriteStop → Type 0
+Rewrites options limits old new written_old written_new failures_old failures_new (Ok messages) =
+    (c : CopiesTable options limits old new written_old written_new failures_old failures_new)
+    × HasMessages limits old new c.table c.end messages
 Rewrites options limits old new written_old written_new failures_old failures_new
     (Err (stop.Read fault message)) =
     BreaksReading options limits old new written_old written_new failures_old failures_new fault
@@ -155,7 +164,7 @@ Rewrites options limits old new written_old written_new failures_old failures_ne
 -- totals, or memory ran out in reading it, or writing it broke off, or it stopped before the first
 -- batch that would exceed a total
 abbrev pub AnswersRewrittenTable : RewriteOptions → Limits → Table → Option (List ℕ)
-    → Option (List ℕ) → ℕ → ℕ → Result ⊤ RewriteStop → Type 0
+    → Option (List ℕ) → ℕ → ℕ → Result ℕ RewriteStop → Type 0
 AnswersRewrittenTable options limits t written_old written_new failures_old failures_new (Ok done) =
     AreWithin options t.batches
     × Sent (IsTableOf limits t) written_old written_new failures_old failures_new
@@ -174,7 +183,7 @@ AnswersRewrittenTable options limits t written_old written_new failures_old fail
 -- how a result changes the counts of failures of the source and the sink. Success and a stop at a
 -- total need 0 before and after. If reading is refused, the sink did not fail in the call; if
 -- writing is refused, the source never failed
-abbrev pub CountsRewriteFailures : ℕ → ℕ → ℕ → ℕ → Result ⊤ RewriteStop → Type 0
+abbrev pub CountsRewriteFailures : ℕ → ℕ → ℕ → ℕ → Result ℕ RewriteStop → Type 0
 CountsRewriteFailures source_old source_new sink_old sink_new (Ok done) =
     (source_old ≡ 0) × (source_new ≡ 0) × (sink_old ≡ 0) × (sink_new ≡ 0)
 CountsRewriteFailures source_old source_new sink_old sink_new (Err (stop.Read fault message)) =
@@ -240,10 +249,10 @@ pub record StopsAtLast (options : RewriteOptions) (old new : Reader) (before aft
 
 -- what a result states about the batches after the schema
 abbrev pub CopiesBatches : RewriteOptions → Reader → Reader → Writer → Writer
-    → Result ⊤ RewriteStop → Type 0
-CopiesBatches options old new before after (Ok done) =
+    → Result ℕ RewriteStop → Type 0
+CopiesBatches options old new before after (Ok messages) =
     (end : End) × CopiesRest options old new before after (Ok end)
-    × (IsTrue options.require_mark → end ≡ Mark)
+    × (IsTrue options.require_mark → end ≡ Mark) × (messages ≡ new.messages)
 CopiesBatches options old new before after (Err (stop.Read fault message)) =
     (answer : Result End Fault) × CopiesRest options old new before after answer
     × (as_required options.require_mark answer ≡ Err fault) × (message ≡ new.messages)

@@ -49,14 +49,15 @@ fn copy_batch<W: Sink>(
 }
 
 // Writes each batch that is read, and reports it then, up to the first one that would exceed a
-// total, or to the end of the stream, which is F4 if it is not the mark that is required.
+// total, or to the end of the stream, which is F4 if it is not the mark that is required. Returns
+// how many messages were read.
 #[tactic(auto, using(crate::proofs::Batches::copied_none, crate::proofs::Batches::copied_more))]
 fn copy_batches<R: Source, W: Sink, P: Progress>(
     options: RewriteOptions,
     stream: &mut StreamReader<R>,
     writer: &mut StreamWriter<W>,
     progress: &mut P,
-) -> Result<(), RewriteStop>
+) -> Result<u64, RewriteStop>
     requires reading { stream.old.phase ≡ Reading }
     requires source { stream.old.failures ≡ 0 }
     requires works { writer.old.failed ≡ false }
@@ -93,7 +94,7 @@ fn copy_batches<R: Source, W: Sink, P: Progress>(
                 .unwrap_or(End::Closed)
                 .check_mark(options.require_mark)
             {
-                Ok(_) => return Ok(()),
+                Ok(_) => return Ok(stream.messages()),
                 Err(missing) => return Err(RewriteStop::Read(missing, stream.messages())),
             },
             Err(fault) => return Err(RewriteStop::Read(fault, stream.messages())),
@@ -109,7 +110,7 @@ fn copy_stream<R: Source, W: Sink, P: Progress>(
     stream: &mut StreamReader<R>,
     sink: W,
     progress: &mut P,
-) -> (Result<(), RewriteStop>, W)
+) -> (Result<u64, RewriteStop>, W)
     requires reading { stream.old.phase ≡ Reading }
     requires source { stream.old.failures ≡ 0 }
     ensures rewrites { (limits : Limits) (start : Option (List ℕ)) → Opens limits start stream.old
@@ -130,8 +131,8 @@ fn copy_stream<R: Source, W: Sink, P: Progress>(
         Err((fault, sink)) => return (Err(RewriteStop::Write(fault)), sink),
     };
     match copy_batches(options, stream, &mut writer, progress) {
-        Ok(()) => match writer.finish() {
-            Ok(sink) => (Ok(()), sink),
+        Ok(messages) => match writer.finish() {
+            Ok(sink) => (Ok(messages), sink),
             Err((fault, sink)) => (Err(RewriteStop::Write(fault)), sink),
         },
         Err(stop) => (Err(stop), writer.into_inner()),
@@ -140,7 +141,8 @@ fn copy_stream<R: Source, W: Sink, P: Progress>(
 
 /// Reads a stream from `source` and writes it to `sink` in canonical layout, with its schema, its
 /// batches and the end-of-stream mark (Arrow Columnar Format, "IPC Streaming Format"). Returns
-/// `source` and `sink` with the result.
+/// `source` and `sink` with the result: how many messages were read. A message after the end of the
+/// stream would have this number.
 ///
 /// The schema's message is sent as soon as it is read. Each batch is sent with its pairs and rows,
 /// after the dictionaries that it needs, before the next one is read. One batch is kept at a time,
@@ -172,11 +174,11 @@ pub fn rewrite<R: Source, W: Sink, P: Progress>(
     source: R,
     sink: W,
     progress: &mut P,
-) -> (Result<(), RewriteStop>, R, W)
-    // At Ok what was taken denotes a table, with its mark if that is required, and what was sent is
-    // that table with the mark. At a fault, why reading or writing broke off there, and the
-    // messages that were sent before. At a total, the batch that would exceed it, and those before,
-    // which were sent and are within the totals.
+) -> (Result<u64, RewriteStop>, R, W)
+    // At Ok what was taken denotes a table, with its mark if that is required, in so many messages,
+    // and what was sent is that table with the mark. At a fault, why reading or writing broke off
+    // there, and the messages that were sent before. At a total, the batch that would exceed it,
+    // and those before, which were sent and are within the totals.
     ensures rewrites { Rewrites options limits (R.remaining source) (R.remaining result.1)
         (W.written sink) (W.written result.2) (W.failures sink) (W.failures result.2) result.0 }
     // At Ok the sink holds nothing back.

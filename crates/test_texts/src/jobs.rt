@@ -151,6 +151,7 @@ fn done(
         job,
         explain: false,
         progress: false,
+        require_eof: false,
     };
     let schema = Some(schema);
     let (status, _, sink, _) = run(

@@ -35,8 +35,8 @@ use Rattle.job_print.proofs.streams.FirstRows.{reached_more, refused_within, wit
 use Rattle.job_print.proofs.streams.Streams.{one_more, reads_opened}
 
 -- how often the source failed is stated where reading is refused
-abbrev pub TellsRead : ℕ → ℕ → Result ⊤ PrintStop → Type 0
-TellsRead old new (Ok done) = ⊤
+abbrev pub TellsRead : ℕ → ℕ → Result (Option ℕ) PrintStop → Type 0
+TellsRead old new (Ok messages) = ⊤
 TellsRead old new (Err (stop.Read fault message)) = CountsFault old new fault
 TellsRead old new (Err (stop.Write fault)) = ⊤
 TellsRead old new (Err (stop.Text fault)) = ⊤
@@ -129,12 +129,13 @@ same_closed z x (Some b) bytes end = sym (append-nil x) ∙ ap (λ (c : List ℕ
 
 module _ {limits : Limits} (options : PrintOptions) (old new w0 w1 : Option (List ℕ)) (g0 g1 : ℕ) (none : g1 ≡ 0) where
   -- where bytes up to an end mark denote a table, that one is printed, unless something stands in the way
-  pub printed_marked : (r : Result ⊤ PrintStop) → TellsRead g0 g1 r → Prints options limits old new w0 w1 r → (x rest : List ℕ) (t : Table)
-      → old ≡ Some (x ++ rest) → Denotes limits x t Mark → AnswersPrintedTable options t Mark (length x) w0 w1 r
-  printed_marked (Ok done) tells (inr p) x rest t is d =
+  pub printed_marked : (r : Result (Option ℕ) PrintStop) → TellsRead g0 g1 r → Prints options limits old new w0 w1 r
+      → (x rest : List ℕ) (t : Table) → old ≡ Some (x ++ rest) → Denotes limits x t Mark
+      → AnswersPrintedTable options t Mark (length x) w0 w1 r
+  printed_marked (Ok None) tells p x rest t is d =
       first_text options (x ++ rest) t (holds_marked x rest t d) new w0 w1 Mark (length x)
       (subst (λ (o : Option (List ℕ)). PrintsFirst options limits o new w0 w1) is p)
-  printed_marked (Ok done) tells (inl p) x rest t is d =
+  printed_marked (Ok (Some n)) tells (p, number) x rest t is d =
       let same = answers_marked old new 0 0 (Ok (p.table, p.end)) (printed_taken options old new w0 w1 p) refl (refl, refl) x rest t is d in
       let here = subst (λ (o : Option (List ℕ)). Consumes o new p.x) is p.bytes in
       let left = left_of (x ++ rest) new p.x here in
@@ -153,12 +154,13 @@ module _ {limits : Limits} (options : PrintOptions) (old new w0 w1 : Option (Lis
   printed_marked (Err (stop.Write fault)) tells p x rest t is d = p.0
 
   -- where all bytes of the source denote a table, and no mark is required, so is that one
-  pub printed_closed : (r : Result ⊤ PrintStop) → TellsRead g0 g1 r → Prints options limits old new w0 w1 r → (x : List ℕ) (t : Table)
-      → options.require_mark ≡ false → old ≡ Some x → Denotes limits x t Closed → AnswersPrintedTable options t Closed (length x) w0 w1 r
-  printed_closed (Ok done) tells (inr p) x t free is d =
+  pub printed_closed : (r : Result (Option ℕ) PrintStop) → TellsRead g0 g1 r → Prints options limits old new w0 w1 r
+      → (x : List ℕ) (t : Table) → options.require_mark ≡ false → old ≡ Some x → Denotes limits x t Closed
+      → AnswersPrintedTable options t Closed (length x) w0 w1 r
+  printed_closed (Ok None) tells p x t free is d =
       first_text options x t (holds_closed x t d) new w0 w1 Closed (length x)
       (subst (λ (o : Option (List ℕ)). PrintsFirst options limits o new w0 w1) is p)
-  printed_closed (Ok done) tells (inl p) x t free is d =
+  printed_closed (Ok (Some n)) tells (p, number) x t free is d =
       let same = answers_closed old new 0 0 (Ok (p.table, p.end)) (printed_taken options old new w0 w1 p) refl (refl, refl) x t is d in
       let here = subst (λ (o : Option (List ℕ)). Consumes o new p.x) is p.bytes in
       text_of options w0 w1 p.table t p.end Closed (length p.x) (length x) same.0 same.1
@@ -173,9 +175,9 @@ module _ {limits : Limits} (options : PrintOptions) (old new w0 w1 : Option (Lis
   printed_closed (Err (stop.Write fault)) tells p x t free is d = p.0
 
 -- what the answer to a stream whose schema was read says of how often its source failed
-pub stream_tells : (options : PrintOptions) (s t : Reader) (before after : Output) (r : Result ⊤ PrintStop)
+pub stream_tells : (options : PrintOptions) (s t : Reader) (before after : Output) (r : Result (Option ℕ) PrintStop)
     → PrintsStream options s t before after r → TellsRead s.failures t.failures r
-stream_tells options s t before after (Ok done) p = tt
+stream_tells options s t before after (Ok messages) p = tt
 stream_tells options s t before after (Err (stop.Read fault n)) p = p.3
 stream_tells options s t before after (Err (stop.Write fault)) p = tt
 stream_tells options s t before after (Err (stop.Text fault)) p = tt

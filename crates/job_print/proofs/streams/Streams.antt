@@ -2,7 +2,7 @@
 use Rattle.ipc_model.specs.declared.table.BatchRows.{BatchRows}
 use Rattle.std.proofs.Common.{refl, ◌≡◌, ◌≢◌, ◌∙◌, sym, ap, subst, ℕ, inl, inr, List, [], ◌∷◌, ◌++◌, map, take, drop, Option, Some, None}
 use Rattle.std.proofs.Common.{Result, Ok, Err, append_assoc, append-nil, arith, ◌+◌}
-use Rattle.std.specs.Prelude.{⊤, length}
+use Rattle.std.specs.Prelude.{length}
 use Rattle.std.specs.Io.KnownBytes.{Appends, Consumes, IsAtEnd, Keeps}
 use Rattle.std.proofs.KnownBytes.{Consumes-trans, Keeps-refl}
 use Rattle.ipc_model.specs.declared.fault.Fault.{Fault}
@@ -152,16 +152,17 @@ module _ {limits : Limits} (options : PrintOptions) (old : Option (List ℕ)) (s
       (subst (λ l. Run l (Some (in_force_of s)) r.whole (map batch r.batches) r.state) o.same_limits r.run))
       r.inside r.ends r.puts.bytes r.few (subst (λ l. AreLast l r.state r.rest t.remaining r.puts.behind) o.same_limits r.last)
 
-  prints_rows : (r : Result ⊤ PrintStop) → PrintsStream options s t (output w0 n0 []) (output w1 n1 []) r
+  prints_rows : (r : Result (Option ℕ) PrintStop) → PrintsStream options s t (output w0 n0 []) (output w1 n1 []) r
       → Prints options limits old t.remaining w0 w1 r
-  prints_rows (Ok done) (fits, inr r) = inr (rows_limited fits r)
-  prints_rows (Ok done) (fits, inl (end, all, marked)) =
+  prints_rows (Ok None) (fits, r) = rows_limited fits r
+  prints_rows (Ok (Some n)) (fits, number, (end, all, marked)) =
       let r = all.rows in
       let reads = all_reads all.middle (Ok end) r in
       let long = length-append o.x r.x in
       let taken : t.taken ≡ count_up 0 (length (o.x ++ r.x)) =
       r.counted (length o.x) o.counted ∙ ap (count_up 0) (sym long) in
-      inl record {
+      let counted = number ∙ numbered all.middle (Ok end) r in
+      let whole : PrintsTable options limits old t.remaining w0 w1 = record {
         x = o.x ++ r.x;
         table = record { schema = s.schema; batches = r.batches };
         end = end;
@@ -175,7 +176,8 @@ module _ {limits : Limits} (options : PrintOptions) (old : Option (List ℕ)) (s
         rows = r.have;
         text = subst (λ (n : ℕ). Appends w0 w1 (stream_text options.form s.schema r.batches ++ tail_text options.form end n r.batches))
             taken (grows_appends w0 w1 _ (grows_then w0 all.middle.written w1 [] all.middle.kept [] _ _ r.puts.bytes all.tail.bytes));
-      }
+      } in
+      (whole, (o.x, r.x, all_bytes all.middle (Ok end) r, opened, ((reads_behind all.middle (Ok end) r).0, counted)))
   prints_rows (Err (stop.Read fault n)) (answer, r, ends, tells, number) =
       let after = output w1 n1 [] in
       broken o.x r.x (record { schema = s.schema; batches = r.batches }) answer (all_bytes after answer r) opened
@@ -192,8 +194,8 @@ module _ {limits : Limits} (options : PrintOptions) (old : Option (List ℕ)) (s
 -- the same with the source that came back
 pub prints_all : {limits : Limits} → (options : PrintOptions) (old new : Option (List ℕ)) (s t : Reader)
     (w0 w1 : Option (List ℕ)) (n0 n1 : ℕ)
-    (r : Result ⊤ PrintStop) → Opens limits old s → new ≡ t.remaining → PrintsStream options s t (output w0 n0 []) (output w1 n1 []) r
-    → Prints options limits old new w0 w1 r
+    (r : Result (Option ℕ) PrintStop) → Opens limits old s → new ≡ t.remaining
+    → PrintsStream options s t (output w0 n0 []) (output w1 n1 []) r → Prints options limits old new w0 w1 r
 prints_all {limits} options old new s t w0 w1 n0 n1 r o is h =
     subst (λ (z : Option (List ℕ)). Prints options limits old z w0 w1 r) (sym is) (prints_rows options old s t o w0 w1 n0 n1 r h)
 
@@ -284,10 +286,10 @@ first_part options old new w0 w1 s =
     (appends_grows w0 w1 _ (subst (λ (z : List ℕ). Appends w0 w1 z) (sym (append-nil _)) s.text)) (omega arith) (inl refl)
 
 -- whatever the answer, a beginning of the text of the batches that were read was printed
-pub part_of : {limits : Limits} → (options : PrintOptions) (old new w0 w1 : Option (List ℕ)) (r : Result ⊤ PrintStop)
+pub part_of : {limits : Limits} → (options : PrintOptions) (old new w0 w1 : Option (List ℕ)) (r : Result (Option ℕ) PrintStop)
     → Prints options limits old new w0 w1 r → PrintsSome options limits old new w0 w1
-part_of options old new w0 w1 (Ok done) (inl h) = table_part options old new w0 w1 h
-part_of options old new w0 w1 (Ok done) (inr h) = first_part options old new w0 w1 h
+part_of options old new w0 w1 (Ok (Some n)) h = table_part options old new w0 w1 h.0
+part_of options old new w0 w1 (Ok None) h = first_part options old new w0 w1 h
 part_of options old new w0 w1 (Err (stop.Read fault n)) h = broken_part options old new w0 w1 fault n h
 part_of options old new w0 w1 (Err (stop.Text fault)) h = stopped_part options old new w0 w1 fault h
 part_of options old new w0 w1 (Err (stop.Write fault)) h = h.1

@@ -26,12 +26,12 @@ returns-in-Some-clause-copies g c =
 
 pub returns-in-Ok-clause-copies : goal.returns-in-Ok-clause-copies
 returns-in-Ok-clause-copies g c =
-    copied_end _ _ _ _ _ _ _ _ c.loop-batch.invariant.copied c.end.result c.unwrap_or.result _
-    (rw c.in-Ok-None.field-0-is at c.in-Ok-None.ensures.next) c.end.ensures c.unwrap_or.ensures (sym c.check_mark.ensures ∙ c.in-Ok.is)
+    rw c.messages.ensures (copied_end _ _ _ _ _ _ _ _ c.loop-batch.invariant.copied c.end.result c.unwrap_or.result _
+    (rw c.in-Ok-None.field-0-is at c.in-Ok-None.ensures.next) c.end.ensures c.unwrap_or.ensures (sym c.check_mark.ensures ∙ c.in-Ok.is))
 
 pub returns-in-Err-check_mark-clause-copies : goal.returns-in-Err-check_mark-clause-copies
 returns-in-Err-check_mark-clause-copies g c =
-    rw c.messages.ensures (copied_unmarked _ _ _ _ _ _ _ _ c.loop-batch.invariant.copied c.end.result c.unwrap_or.result
+    rw c.messages-in-Err-check_mark.ensures (copied_unmarked _ _ _ _ _ _ _ _ c.loop-batch.invariant.copied c.end.result c.unwrap_or.result
     c.in-Err-check_mark.missing (rw c.in-Ok-None.field-0-is at c.in-Ok-None.ensures.next) c.end.ensures c.unwrap_or.ensures
     (sym c.check_mark.ensures ∙ c.in-Err-check_mark.is))
 

@@ -10,8 +10,7 @@ returns-in-Err-clause-rewrites g c = λ limits start o.
 pub returns-in-Ok-finish-clause-rewrites : goal.returns-in-Ok-finish-clause-rewrites
 returns-in-Ok-finish-clause-rewrites g c = λ limits start o.
     let begun = rw (c.sent_limits-limits.ensures.sent, c.limits.ensures, c.schema.ensures) at c.in-Ok.ensures.started in
-    let copies = c.in-Ok-copy_batches.ensures.copies in
-    table_copied c.args.options start _ _ _ _ _ o begun _ copies.0 _ _ copies.1 copies.2 c.in-Ok-finish.ensures.finished.sent
+    table_copied c.args.options start _ _ _ _ _ o begun _ _ _ _ c.in-Ok-copy_batches.ensures.copies c.in-Ok-finish.ensures.finished.sent
 
 pub returns-in-Err-finish-clause-rewrites : goal.returns-in-Err-finish-clause-rewrites
 returns-in-Err-finish-clause-rewrites g c = λ limits start o.
