@@ -21,7 +21,9 @@ FILES = (
 SEE_ALSO = (
     ".BR jq (1)",
     ".PP",
-    "The format: https://arrow.apache.org/docs/format/Columnar.html#ipc\\-streaming\\-format",
+    "The format:",
+    ".br",
+    "https://arrow.apache.org/docs/format/Columnar.html#ipc\\-streaming\\-format",
 )
 
 
