@@ -1,6 +1,7 @@
 -- Columns whose values fit their fields.
-use Rattle.std.proofs.Common.{◌≡◌, ◌∙◌, sym, subst, ℕ, zero, suc, ◌+◌, ◌-◌, ◌<◌, ◌≤◌, Bool, true, false, cond, List, [], ◌∷◌, ◌++◌}
+use Rattle.std.proofs.Common.{◌≡◌, ◌∙◌, sym, subst, ℕ, zero, suc, ◌+◌, ◌-◌, ◌*◌, ◌<◌, ◌≤◌, Bool, true, false, cond, List, [], ◌∷◌, ◌++◌}
 use Rattle.std.proofs.Common.{length, take, get_or, arith, ℤ, ap, refl, Result, Err, inl, inr}
+use Rattle.std.proofs.Math.Nat.{mul-le-mul_left}
 use Rattle.std.proofs.lemmas.Bool.{cases_lt}
 use Rattle.std.proofs.lemmas.List.{take_more}
 use Rattle.std.proofs.lemmas.Option.{get_or_from_slice_get}
@@ -32,7 +33,9 @@ use Rattle.ipc_column.proofs.Opened.{list_out, null_out, struct_out}
 use Rattle.ipc_column.proofs.Plain.{items_each, null_shown}
 use Rattle.ipc_column.proofs.SlotValues.{cell_value, first_slots, first_value, null_only, slot_count, slot_is}
 use Rattle.ipc_column.proofs.lending.Lendings.{lent_offsets, lent_order}
+use Rattle.ipc_column.proofs.lending.Slots.{items_length}
 use Rattle.ipc_column.proofs.visited.Leads.{list_leads}
+use Rattle.ipc_column.specs.Columns.{EachTop}
 use Rattle.ipc_column.specs.Lending.{AreBuffers}
 use Rattle.ipc_column.specs.Nested.{Nested, child_columns, slot_values}
 use Rattle.ipc_column.specs.Slots.{is_null, nested_in}
@@ -280,20 +283,37 @@ list_slot s child b f i h e kind is m may inner = either (is_valid s.column.vali
         (λ j k. slot_is child j k ∙ sym (first_value s child j is)) inner)
     either false valid = null_fits f (get_or (slot_values s) i Null) (slot_is s i m ∙ rw valid refl) may
 
--- a slot of lists of a fixed size that have no items
-pub empty_slot : (s : Nested) (f : Field) (i : ℕ) → s.column.layout ≡ l.FixedLists 0 → (out-Field f).kind ≡ t.FixedSizeList 0
-    → i < length (slot_values s) → (is_null (get_or (slot_values s) i Null) ≡ true → MayBeNull f)
-    → Fits f (get_or (slot_values s) i Null)
-empty_slot s f i laid kind m may = either (is_valid s.column.validity i) refl
+-- ---- lists of a fixed size
+
+fixed_inner : (size : ℕ) (fs : List Field) (vs : List Value) → InnerFit Fits t.List fs (o.List vs)
+    → InnerFit Fits (t.FixedSizeList size) fs (o.List vs)
+fixed_inner size [] vs h = tt
+fixed_inner size (f ∷ fs) vs h = h
+
+-- a slot of lists of a fixed size, where all slots of the child fit
+pub fixed_slot : (s child : Nested) (b : Buffers) (f : Field) (size i : ℕ) → AreBuffers s b → s.column.layout ≡ l.FixedLists size
+    → (out-Field f).kind ≡ t.FixedSizeList size → slice_get (nested_in s) 0 ≡ Some child → i < length (slot_values s)
+    → (is_null (get_or (slot_values s) i Null) ≡ true → MayBeNull f)
+    → InnerFit Fits t.List (out-Field f).children (o.List (slot_values child)) → Fits f (get_or (slot_values s) i Null)
+fixed_slot s child b f size i h laid kind is m may inner = either (is_valid s.column.validity i) refl
   where
-    nothing : (fs : List Field) → InnerFit Fits (t.FixedSizeList 0) fs (o.List [])
-    nothing [] = tt
-    nothing (g ∷ gs) = tt
+    g : ℕ → Value
+    g j = first_of (row (child_columns s) j)
+
+    long : EachTop (λ c. size * s.column.slots ≤ c.slots) (child_columns s)
+    long = rw laid at h.long_children
 
     either : (valid : Bool) → is_valid s.column.validity i ≡ valid → Fits f (get_or (slot_values s) i Null)
-    either true e = kind_fit f (t.FixedSizeList 0) (get_or (slot_values s) i Null) (o.List []) kind
-        (ap out-Value (slot_is s i m ∙ rw (e, laid) refl) ∙ list_out []) refl (nothing (out-Field f).children)
-    either false e = null_fits f (get_or (slot_values s) i Null) (slot_is s i m ∙ rw e refl) may
+    either true valid =
+        let most = first_slots s child (size * s.column.slots) is long in
+        let less = mul-le-mul_left size (let m' : i + 1 ≤ s.column.slots = omega (arith, m, slot_count s) in m') in
+        let next : size * (i + 1) ≡ size * i + size = omega arith in
+        kind_fit f (t.FixedSizeList size) (get_or (slot_values s) i Null) (o.List (items g (size * i) size)) kind
+        (ap out-Value (slot_is s i m ∙ rw (valid, laid) refl) ∙ list_out (items g (size * i) size)) (items_length g (size * i) size)
+        (fixed_inner size (out-Field f).children (items g (size * i) size)
+        (inner_run (out-Field f).children (slot_values child) g (size * i) size (omega (arith, less, next, most))
+        (λ j k. slot_is child j k ∙ sym (first_value s child j is)) inner))
+    either false valid = null_fits f (get_or (slot_values s) i Null) (slot_is s i m ∙ rw valid refl) may
 
 -- ---- structs
 

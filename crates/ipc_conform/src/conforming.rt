@@ -176,8 +176,8 @@ fn slots_fit(field: &Field, view: &SlotView<'_>, parent_validity: &[u8]) -> bool
     match (&field.kind, view.buffers().layout) {
         (DataType::List, Layout::Lists) => items_fit(fields, view),
         (DataType::Struct, Layout::Structs) => parts_fit(fields, view),
-        (DataType::FixedSizeList(size), Layout::FixedLists(items)) if *size == 0 && items == 0 => {
-            true
+        (DataType::FixedSizeList(size), Layout::FixedLists(items)) if *size == items => {
+            items_fit(fields, view)
         }
         _ => fields.is_empty() && leaf_fits(field, view),
     }

@@ -3,12 +3,14 @@ use Rattle.std.proofs.Common.{◌≡◌, ◌∙◌, refl, sym, ap, subst, ℕ, z
 use Rattle.std.proofs.Common.{◌∷◌, ◌++◌, length, map, get_or, take, replicate, Some, arith, inl, inr}
 use Rattle.std.proofs.lemmas.Bool.{and_parts, false≢true, cases_lt}
 use Rattle.std.proofs.lemmas.List.{append-nil, take_all}
+use Rattle.std.proofs.Math.Nat.{mul-le-mul_left}
 use Rattle.std.proofs.lemmas.Option.{none-some}
+use Rattle.std.specs.List.{AllByRecursion}
 use Rattle.std.specs.Prelude.{slice_get, ◌&&◌, not}
 use Rattle.ipc_model.specs.Limits.{max_data}
 use Rattle.ipc_model.specs.declared.layout.Layout.{Layout}
 use Rattle.ipc_model.specs.declared.layout.Layout.TheVariants as l
-use Rattle.ipc_model.specs.declared.value.Value.{Value}
+use Rattle.ipc_model.specs.declared.value.Value.{Value, out-Value}
 use Rattle.ipc_model.specs.declared.value.Value.TheOpen.{Value-F}
 use Rattle.ipc_model.specs.declared.value.Value.TheVariants.{Null}
 use Rattle.ipc_model.specs.declared.value.Value.TheVariants as v
@@ -23,6 +25,7 @@ use Rattle.ipc_column.specs.checks.Checks.{are_ascending, have_slots}
 use Rattle.ipc_column.specs.Columns.{Columns}
 use Rattle.ipc_column.specs.Lending.{AreBuffers, MarksNulls}
 use Rattle.ipc_column.specs.Nested.{Nested, child_columns, slot_values, only_column}
+use Rattle.ipc_column.specs.checks.Plain.{IsShownBy}
 use Rattle.ipc_column.specs.checks.Rules.{IsText, HasUtf8Texts}
 use Rattle.ipc_column.specs.Shapes.{Shape, bare, field}
 use Rattle.ipc_column.specs.Slots.{nested, nested_in}
@@ -31,6 +34,7 @@ use Rattle.ipc_column.specs.Views.{part_columns, column_of, children_of}
 use Rattle.ipc_column.specs.declared.buffers.Buffers.{Buffers}
 use Rattle.ipc_column.specs.declared.ranges.ColumnRanges.{ColumnRanges}
 use Rattle.ipc_encode.specs.Cells.{all_items, all_parts, cell, is_set, items_in, offsets, struct_member, part_in}
+use Rattle.ipc_encode.specs.Cells.{all_fixed_items, fixed_items, fixed_items_in}
 use Rattle.ipc_encode.specs.Cells as cells
 use Rattle.ipc_encode.specs.Columns.{data_in}
 use Rattle.ipc_encode.specs.Pieces.{Items, Valid}
@@ -38,7 +42,7 @@ use Rattle.ipc_encode.specs.WholeColumns.{AreFullColumns, IsFullColumn}
 use Rattle.ipc_encode.proofs.Growing.{IsAt}
 use Rattle.ipc_encode.proofs.LentBuffers.{offsets_lie, buffers_at, place_few, place_is}
 use Rattle.ipc_encode.proofs.LentBuffers.{own_set, start_of}
-use Rattle.ipc_encode.proofs.Steps.{below_append, extents, items_extents, items_next}
+use Rattle.ipc_encode.proofs.Steps.{below_append, extents, items_extents, items_next, of_size}
 
 -- ---- the slots of the children of a column that was read, where they are those that its slots lead to
 
@@ -245,6 +249,85 @@ no_lists [] [] none same = refl
 no_lists [] (w ∷ ws) none same = absurd (omega arith)
 no_lists (v ∷ vs) ws none same = absurd (omega arith)
 
+-- ---- lists of a fixed size
+
+-- a run of nulls
+nulls_run : (g : ℕ → Value) (a n : ℕ) → ((j : ℕ) → a ≤ j → j < a + n → g j ≡ Null) → items g a n ≡ replicate n Null
+nulls_run g a zero h = refl
+nulls_run g a (suc n) h =
+    let first : g a ≡ Null = h a (omega arith) (omega arith) in
+    let rest = nulls_run g (a + 1) n (λ j from to. h j (omega (arith, from)) (omega (arith, to))) in
+    rw (first, rest) refl
+
+only_null : (value : Value) → IsShownBy l.Null value → value ≡ Null
+unfolding out-Value denote.Hole.Carrier.out
+only_null v.Null h = refl
+only_null value h = absurd h
+
+-- each slot of a column of nulls is null
+pub null_each : (vs : List Value) (j : ℕ) → AllByRecursion (IsShownBy l.Null) vs → get_or vs j Null ≡ Null
+null_each [] j h = refl
+null_each (v ∷ vs) zero h = only_null v h.0
+null_each (v ∷ vs) (suc j) h = null_each vs j h.1
+
+-- lists whose items are runs of one size have the items of one run
+fixed_join : (f g : ℕ → Value) (size n : ℕ) → ((i : ℕ) → i < n → fixed_items size (f i) ≡ items g (size * i) size)
+    → all_fixed_items size (items f 0 n) ≡ items g 0 (size * n)
+fixed_join f g size zero each = ap (λ (k : ℕ). items g 0 k) (let none : 0 ≡ size * 0 = omega arith in none)
+fixed_join f g size (suc n) each =
+    let before = fixed_join f g size n (λ i m. each i (omega arith)) in
+    let more : n + 1 ≡ suc n = omega arith in
+    let here : 0 + n ≡ n = omega arith in
+    let behind : size * n ≡ 0 + size * n = omega arith in
+    let whole : size * n + size ≡ size * suc n = omega arith in
+    ap (λ (k : ℕ). all_fixed_items size (items f 0 k)) (sym more)
+    ∙ (ap (all_fixed_items size) (items_more f 0 n ∙ ap (λ (k : ℕ). items f 0 n ++ f k ∷ []) here)
+    ∙ (below_append (l.FixedLists size) (items f 0 n) (f n ∷ []) 0
+    ∙ (ap (λ (vs : List Value). all_fixed_items size (items f 0 n) ++ vs) (append-nil (fixed_items size (f n)))
+    ∙ (ap (λ (vs : List Value). vs ++ fixed_items size (f n)) before
+    ∙ (ap (λ (vs : List Value). items g 0 (size * n) ++ vs)
+    (each n (omega arith) ∙ ap (λ (k : ℕ). items g k size) behind)
+    ∙ (sym (items_join g 0 (size * n) size)
+    ∙ ap (λ (k : ℕ). items g 0 k) whole))))))
+
+-- a child with so many slots, which are null where the list is, has the items of the lists
+pub fixed_gives : (s child : Nested) (b : Buffers) (size : ℕ) → AreBuffers s b → b.layout ≡ l.FixedLists size
+    → slice_get (nested_in s) 0 ≡ Some child → size * length (slot_values s) ≡ length (slot_values child)
+    → ((i : ℕ) → i < length (slot_values s) → is_valid b.validity.now i ≡ false → (j : ℕ) → size * i ≤ j → j < size * (i + 1)
+    → get_or (slot_values child) j Null ≡ Null) → all_fixed_items size (slot_values s) ≡ slot_values child
+fixed_gives s child b size h e is all empty =
+    let count = slot_count s in
+    let many : size * s.column.slots ≡ child.column.slots = omega (arith, all, ap (λ (n : ℕ). size * n) count, slot_count child) in
+    fixed_join (value_of (row (child_columns s)) s.column) g size s.column.slots (λ i m. at i (omega (arith, m, count)))
+    ∙ (ap (λ (k : ℕ). items g 0 k) many
+    ∙ items_same g (child_value child) 0 child.column.slots (λ j. first_value s child j is))
+  where
+    g : ℕ → Value
+    g j = first_of (row (child_columns s) j)
+
+    own : (layout : Layout) (i : ℕ) → layout ≡ l.FixedLists size
+        → fixed_items size (own_value layout s.column.dictionary (row (child_columns s)) b.offsets.now b.values.now i)
+        ≡ items g (size * i) size
+    own layout i e =
+        let run = items g (size * i) size in
+        rw e (ap (fixed_items_in size) (list_out run) ∙ of_size run (replicate size Null) size (items_length g (size * i) size))
+
+    either : (i : ℕ) → i < length (slot_values s) → (valid : Bool) → is_valid b.validity.now i ≡ valid
+        → fixed_items size (cond valid (own_value b.layout s.column.dictionary (row (child_columns s)) b.offsets.now b.values.now i) v.Null)
+        ≡ items g (size * i) size
+    either i m true e' = own b.layout i e
+    either i m false e' =
+        let last : size * i + size ≡ size * (i + 1) = omega arith in
+        let less : size * (i + 1) ≤ size * length (slot_values s) = mul-le-mul_left size (omega (arith, m)) in
+        ap (fixed_items_in size) null_out
+        ∙ sym (nulls_run g (size * i) size (λ j from to.
+        first_value s child j is
+        ∙ (sym (slot_is child j (omega (arith, to, last, less, all)))
+        ∙ empty i m e' j from (omega (arith, to, last)))))
+
+    at : (i : ℕ) → i < length (slot_values s) → fixed_items size (value_of (row (child_columns s)) s.column i) ≡ items g (size * i) size
+    at i m = ap (fixed_items size) (sym (slot_is s i m) ∙ buffers_at s b h i m) ∙ either i m (is_valid b.validity.now i) refl
+
 -- ---- structs
 
 -- part k of each value, one by one
@@ -425,6 +508,26 @@ struct_spells s child b k h e is size empty spelled j m =
     let here : j < length (slot_values s) = omega (arith, size, m) in
     struct_texts s child k j is (sym h.layout ∙ e) (spelled j here) m
     (λ null. empty j here (ap (λ (v : List ℕ). is_valid v j) h.validity ∙ not_true (is_valid s.column.validity j) null))
+
+-- the slots of a child of lists of a fixed size, which are null where the list is
+pub fixed_spells : (s child : Nested) (b : Buffers) (size : ℕ) → AreBuffers s b → b.layout ≡ l.FixedLists size
+    → slice_get (nested_in s) 0 ≡ Some child → size * length (slot_values s) ≡ length (slot_values child)
+    → ((i : ℕ) → i < length (slot_values s) → is_valid b.validity.now i ≡ false → (j : ℕ) → size * i ≤ j → j < size * (i + 1)
+    → get_or (slot_values child) j Null ≡ Null)
+    → ((i : ℕ) → i < length (slot_values s) → HasUtf8Texts (only_column s) i)
+    → (j : ℕ) → j < length (slot_values child) → HasUtf8Texts (only_column child) j
+fixed_spells s child b size h e is all empty spelled j m = either (is_valid s.column.validity at.step) refl
+  where
+    at : Stands (λ i. size * i) (length (slot_values s)) j
+    at = stands (λ i. size * i) (length (slot_values s)) j (let low : size * 0 ≤ j = omega arith in low) (omega (arith, all, m))
+
+    either : (valid : Bool) → is_valid s.column.validity at.step ≡ valid → HasUtf8Texts (only_column child) j
+    either true v =
+        child_spells s child 0 j is
+        (subst (λ (x : Layout). IsText x (HasUtf8Texts (child_columns s)) s.column.offsets s.column.values at.step) (sym h.layout ∙ e)
+        ((spelled at.step at.within).0 v) j at.from at.to)
+    either false v = null_spells child j m
+        (empty at.step at.within (ap (λ (o : List ℕ). is_valid o at.step) h.validity ∙ v) j at.from at.to)
 
 -- ---- columns that lie whole, one by one
 

@@ -19,8 +19,8 @@ use Rattle.ipc_encode.specs.Columns.{bits_length, data_in, validity_bytes}
 use Rattle.ipc_encode.specs.Limits.{HasExcessData}
 use Rattle.ipc_encode.specs.Pieces.{Items}
 
--- the slots of a column of this layout can be taken all at once: they are neither indices, whose
--- values are stored elsewhere, nor lists of a fixed size
+-- the slots of a column of this layout can be taken all at once: they are no indices, whose values
+-- are stored elsewhere
 abbrev pub is_taken_whole : Layout → Bool
 is_taken_whole l.Null = true
 is_taken_whole l.Bits = true
@@ -29,7 +29,7 @@ is_taken_whole (l.FixedBytes width) = true
 is_taken_whole (l.VariableBytes utf8) = true
 is_taken_whole l.Lists = true
 is_taken_whole l.Structs = true
-is_taken_whole (l.FixedLists size) = false
+is_taken_whole (l.FixedLists size) = true
 is_taken_whole (l.Indices bits signed id) = false
 
 -- lists have all slots of their child, one list after another from the first slot on, so their

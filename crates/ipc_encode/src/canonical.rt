@@ -136,7 +136,7 @@ fn has_written_data(view: &SlotView<'_>) -> bool
     let buffers = view.buffers();
     let count = view.len();
     match view.layout() {
-        Layout::Null | Layout::Structs => true,
+        Layout::Null | Layout::Structs | Layout::FixedLists(_) => true,
         Layout::Bits => {
             unused_bits_are_zeros(buffers.values, count)
                 && valid_are_among(buffers.values, buffers.validity, count)
@@ -153,7 +153,7 @@ fn has_written_data(view: &SlotView<'_>) -> bool
                     && nulls_are_empty(buffers.validity, buffers.offsets, count)
         }
         Layout::Lists => lists_use_all_items(view),
-        Layout::FixedLists(_) | Layout::Indices { .. } => false,
+        Layout::Indices { .. } => false,
     }
 }
 

@@ -1,7 +1,7 @@
 //! Adds columns that were read with all their slots, where they have the layouts of a field and
 //! of its descendants.
 ghost use Rattle.std.specs.Prelude.{◌≡◌, ◌<◌, ℕ, Some, true, false, length, slice_get, slice_index};
-ghost use Rattle.std.specs.Prelude.{slice_index_or, IsTrue, ◌≤◌, ◌+◌, ◌*◌, IfErr, OnOk};
+ghost use Rattle.std.specs.Prelude.{slice_index_or, IsTrue, ◌≤◌, ◌+◌, ◌*◌, ◌^◌, IfErr, OnOk};
 ghost use Rattle.ipc_model.specs.declared.layout.Layout.{Layout};
 ghost use Rattle.ipc_model.specs.declared.layout.Layout.TheVariants.{Lists};
 ghost use Rattle.ipc_model.specs.declared.limits.Limits.{Limits};
@@ -25,7 +25,7 @@ ghost use Rattle.ipc_encode.specs.WholeColumns.{lent_offsets};
 use crate::canonical::{first_bytes, is_canonical, lent_validity, offset_at};
 use crate::fault::PushFault;
 use crate::segments::{Draft, Segment, add_buffer, add_counts};
-use ipc_column::{SlotView, valid_are_among};
+use ipc_column::{SlotView, is_valid, valid_are_among};
 use ipc_model::{Field, Layout, Limits, layout_of};
 
 // Whether each slot that is null in the column of a child is null in the child too.
@@ -63,6 +63,71 @@ pub(crate) fn structs_use_all_slots(view: &SlotView<'_>, i: usize) -> bool
     nulls_are_shared(buffers.validity, &child)
 }
 
+// Whether the slots of a column from `from` up to `to` are null. Those of a column of nulls are not
+// visited.
+fn are_null(view: &SlotView<'_>, from: usize, to: usize) -> bool
+    requires { to ≤ length (slot_values view.now) }
+    ensures { IsTrue result → (j : ℕ) → from ≤ j → j < to
+        → slice_index_or (slot_values view.now) j Null ≡ Null }
+{
+    if let Layout::Null = view.layout() {
+        return true;
+    }
+    for slot in from..to {
+        if !view.is_null(slot) {
+            return false;
+        }
+    }
+    true
+}
+
+// Whether the child of `count` lists of this size has only null slots for a list that is null.
+fn null_lists_have_nulls(marks: &[u8], size: usize, count: usize, child: &SlotView<'_>) -> bool
+    requires bits { has_bitmap count (length marks.now) ≡ true }
+    requires slots { size * count ≡ length (slot_values child.now) }
+    requires few { size * count < 2 ^ 64 }
+    ensures { IsTrue result → (i : ℕ) → i < count → is_valid marks.now i ≡ false
+        → (j : ℕ) → size * i ≤ j → j < size * (i + 1)
+        → slice_index_or (slot_values child.now) j Null ≡ Null }
+{
+    if marks.is_empty() {
+        return true;
+    }
+    for slot in 0..count {
+        if !is_valid(marks, slot) && !are_null(child, size * slot, size * slot + size) {
+            return false;
+        }
+    }
+    true
+}
+
+// Returns true only if the fixed-size lists of a column use all slots of a child: those of one list
+// after another, which are null if the list is.
+fn fixed_lists_use_all_slots(view: &SlotView<'_>, i: usize) -> bool
+    requires { i < length view.now.children }
+    ensures slots { IsTrue result → (child : Nested)
+        → slice_get (nested_in view.now) i ≡ Some child
+        → child_values view.now.column.layout (slot_values view.now) i ≡ slot_values child }
+    ensures texts { IsTrue result → (child : Nested)
+        → slice_get (nested_in view.now) i ≡ Some child
+        → ((j : ℕ) → j < length (slot_values view.now) → HasUtf8Texts (only_column view.now) j)
+        → (j : ℕ) → j < length (slot_values child) → HasUtf8Texts (only_column child) j }
+{
+    let buffers = view.buffers();
+    let Layout::FixedLists(size) = buffers.layout else {
+        return false;
+    };
+    let count = view.len();
+    let Some(slots) = (size as usize).checked_mul(count) else {
+        return false;
+    };
+    let child = view.child(i);
+    if i != 0 || child.len() != slots {
+        return false;
+    }
+    null_lists_have_nulls(buffers.validity, size as usize, count, &child)
+}
+
 // Whether the slots of a column lead to all slots of a child, in their order.
 fn uses_all_slots(view: &SlotView<'_>, i: usize) -> bool
     requires child { i < length view.now.children }
@@ -78,6 +143,7 @@ fn uses_all_slots(view: &SlotView<'_>, i: usize) -> bool
     match view.layout() {
         Layout::Lists => i == 0,
         Layout::Structs => structs_use_all_slots(view, i),
+        Layout::FixedLists(_) => fixed_lists_use_all_slots(view, i),
         _ => false,
     }
 }

@@ -12,7 +12,7 @@ use Rattle.ipc_column.proofs.lending.Lendings.{lent_bitmap}
 use Rattle.ipc_column.specs.Nested.{child_columns, slot_values}
 use Rattle.ipc_column.specs.Values.{is_valid, row}
 use Rattle.ipc_column.specs.checks.Checks.{has_bitmap}
-use Rattle.ipc_conform.proofs.FittingColumns.{each_fits, empty_slot, fits_next, inner_all, list_slot, part_slot, struct_slot}
+use Rattle.ipc_conform.proofs.FittingColumns.{each_fits, fits_next, fixed_slot, inner_all, list_slot, part_slot, struct_slot}
 use Rattle.ipc_conform.proofs.conforming.+slots.Goals as goal
 
 -- ---- one column
@@ -37,11 +37,14 @@ slots_fit-returns-in-Struct-Structs t c = λ yes i m valid.
 
 pub slots_fit-returns-in-FixedSizeList-FixedLists : goal.slots_fit-returns-in-FixedSizeList-FixedLists
 slots_fit-returns-in-FixedSizeList-FixedLists t c = λ yes i m valid.
-    let laid : c.args.view.now.column.layout ≡ l.FixedLists 0 =
-    sym c.buffers.ensures.layout ∙ (c.in-FixedSizeList-FixedLists.is-1 ∙ ap (λ (n : ℕ). l.FixedLists n) c.if-items-eq0.true) in
-    let kind : (out-Field c.args.field.now).kind ≡ kinds.FixedSizeList 0 =
-    c.in-FixedSizeList-FixedLists.is-0 ∙ ap (λ (n : ℕ). kinds.FixedSizeList n) c.if-size-eq0.true in
-    empty_slot c.args.view.now c.args.field.now i laid kind m (c.nulls_fit.ensures c.if-not-nulls_fit.false i m valid)
+    let inner = c.items_fit-in-FixedSizeList-FixedLists.ensures yes in
+    let size = c.in-FixedSizeList-FixedLists.items in
+    let laid : c.args.view.now.column.layout ≡ l.FixedLists size = sym c.buffers.ensures.layout ∙ c.in-FixedSizeList-FixedLists.is-1 in
+    let kind : (out-Field c.args.field.now).kind ≡ kinds.FixedSizeList size =
+    c.in-FixedSizeList-FixedLists.is-0 ∙ ap (λ (n : ℕ). kinds.FixedSizeList n) c.if-size-items.true in
+    fixed_slot c.args.view.now inner.0 c.buffers.result c.args.field.now size i c.buffers.ensures laid kind inner.1.0 m
+    (c.nulls_fit.ensures c.if-not-nulls_fit.false i m valid)
+    (subst (λ (fs : List Field). InnerFit Fits kinds.List fs (values.List (slot_values inner.0))) c.as_slice-fields.ensures inner.1.1)
 
 -- ---- lists
 

@@ -27,3 +27,6 @@ returns-in-Structs-clause-slots c = λ report child is.
     let s = c.args.view.now in
     ap (λ (l : Layout). child_values l (slot_values s) c.args.i) (sym c.layout.ensures.layout ∙ c.in-Structs.is)
     ∙ c.structs_use_all_slots.ensures.slots report child is
+
+pub returns-in-FixedLists-clause-slots : goal.returns-in-FixedLists-clause-slots
+returns-in-FixedLists-clause-slots c = λ report child is. c.fixed_lists_use_all_slots.ensures.slots report child is
