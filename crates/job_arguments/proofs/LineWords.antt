@@ -1,7 +1,10 @@
 -- What is read of the words of a command line.
 use Rattle.std.proofs.Common.{◌≡◌, ◌∙◌, sym, ap, subst, refl, ℕ, List, [], Option, Some, None, Result, Ok, Err, ◌<◌, ◌≤◌, ◌^◌, arith}
 use Rattle.std.proofs.Common.{◌⊎◌, ⊎_elim, inl, inr, true, false, slice_index, ap₂, ◌||◌, is_some}
-use Rattle.std.specs.Prelude.{Bool, IfErr, codes, option_map, unwrap_or}
+use Rattle.std.proofs.lemmas.Option.{slice_get-map, slice_get_past, slice_get_read}
+use Rattle.std.specs.Borrow.{Bor}
+use Rattle.std.specs.Prelude.{Bool, IfErr, String, codes, map, option_map, slice_get, string_bytes, unwrap_or}
+use Rattle.std.specs.Slice.{IsItemAt}
 use Rattle.std.specs.Result.{IsErrAnd}
 use Rattle.std.specs.Str.Parse.{ParsesBool, ParsesUnsigned}
 use Rattle.clap.specs.Words.{FailsBy, HasKind, HasMatchesOf, IsParsedFrom, app_of, first_value, kind_of, one_of, subcommand_rows_of}
@@ -212,3 +215,12 @@ module _ (E : Type 0) (m : ArgMatches) (name : Text) where
       → ((t : List ℕ) → one_text (found_of m) name ≡ Some t → ReadsOne (ParsesBool {E = E}) t o)
       → HasFlag name (rows_of (found_of m)) b
   flag_is o b is none value = subst (λ x. HasFlag name (rows_of (found_of m)) x) (sym is) (flag_read o none value)
+
+-- the second word, as it was looked up
+pub second_word : {Z : Type 0} (words : List (String Z)) (r o : Option (Bor (String Z))) → IsItemAt words 1 r → r ≡ o
+    → slice_get (map string_bytes words) 1 ≡ option_map (λ w. string_bytes w.now) o
+second_word words r None h is = slice_get-map string_bytes words 1
+    ∙ ap (λ o. option_map string_bytes o) (slice_get_past words 1 (subst (λ o. IsItemAt words 1 o) is h).3)
+second_word words r (Some w) h is =
+    let there = subst (λ o. IsItemAt words 1 o) is h in
+    slice_get-map string_bytes words 1 ∙ ap (λ o. option_map string_bytes o) (slice_get_read words _ 1 w.now refl there.3.0 there.1)

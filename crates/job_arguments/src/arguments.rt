@@ -138,9 +138,10 @@ error: --delimiter takes one ASCII character, or \\t for a tab
 
 const DIALECT: &str = "\
 error: with this --delimiter and --null, a value could be taken for null or for two fields
-The delimiter is no letter, digit, '-', '.', ':', '\"' or end of a line. The text of null has no
-delimiter, '\"' or end of a line in it. It does not begin with a digit, or with '-' and a digit. It
-is not true, false or pairs of hexadecimal digits.
+--delimiter must not be a letter, a digit, '-', '.', ':', '\"' or an end of a line.
+--null must not contain the delimiter, '\"' or an end of a line.
+--null must not begin with a digit, or with '-' and a digit.
+--null must not be true, false or pairs of hexadecimal digits.
 ";
 
 // The subcommand that the second word names, or `check` if it names none.

@@ -30,8 +30,9 @@ Exit status:
   4  out of memory";
 
 const CHECK_EXAMPLES: &str = "\
-Prints the schema as JSON, and then how the stream ended and its numbers of bytes, batches and rows.
-With --schema, it prints the schema alone, and reads nothing after the schema's message.
+The first line is the schema as JSON. The second one has how the stream ended and its numbers of
+bytes, batches and rows. With --schema, the first line is printed alone, and nothing is read after
+the schema's message.
 
 Examples:
   arrowstream check < trades.arrows

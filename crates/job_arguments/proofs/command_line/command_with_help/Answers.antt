@@ -1,0 +1,12 @@
+use Rattle.std.proofs.Common.{◌∙◌, ap}
+use Rattle.clap.specs.declared.builder.command.Command.{Command}
+use Rattle.clap.specs.declared.builder.command.Command.TheOpen.{Command-F}
+use Rattle.clap.specs.Simple.{app_of_fields}
+use Rattle.job_arguments.proofs.command_line.command_with_help.Goals as goal
+
+pub returns : goal.returns
+returns c = (
+  ap app_of_fields c.after_help.ensures ∙ ap app_of_fields c.about.ensures ∙ c.new-job.ensures.app,
+  ap (λ (f : Command-F Command). f.has_globals) c.after_help.ensures ∙ ap (λ (f : Command-F Command). f.has_globals) c.about.ensures
+      ∙ c.new-job.ensures.local,
+)
