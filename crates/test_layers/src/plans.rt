@@ -2,8 +2,7 @@
 ghost use Rattle.std.specs.Prelude.{◌≡◌};
 ghost use Rattle.ipc_dict.specs.SchemaIds.{ids_of, kept_ids};
 
-use crate::dictionaries::schema_of;
-use crate::indices::{A_AND_B, ONLY_C, in_force, indexed, set};
+use crate::indices::{A_AND_B, ONLY_C, in_force, indexed, schema, set};
 use ipc_dict::{Kept, Plan};
 use ipc_encode::encode;
 use ipc_model::{Limits, Row, Schema, WriteFault};
@@ -41,7 +40,7 @@ fn plans_rows_that_were_read(rt: HostRuntime) -> Result<(), Fail> {
     let b_and_a = indexed(alloc, (2, 0), &[1, 0], &values)?.to_rows(alloc)?;
     set(alloc, &mut values, &ONLY_C)?;
     let null_and_c = indexed(alloc, (2, 1), &[0b10, 9, 0], &values)?.to_rows(alloc)?;
-    let schema = schema_of(alloc, 1)?;
+    let schema = schema(alloc)?;
     let mut kept = Kept::new(alloc, &schema)?;
     let of_two = [0, 1, 0, 0, 0, 0, 0, 0].as_slice();
     let of_null = [0b10, 0, 0, 0, 0, 0, 0, 0, 0, 0, 0, 0, 0, 0, 0, 0].as_slice();

@@ -287,8 +287,8 @@ fn readers_and_writers_of_std(rt: HostRuntime) -> Result<(), Fail> {
     Ok(())
 }
 
-// A reader and writer of std that fails with this kind of error at its first calls. A read of it is
-// at its end.
+// A reader and writer of std that fails with this kind of error at its first calls. After them, a
+// read is at its end.
 #[derive(Drop)]
 struct Moody {
     kind: ErrorKind,
@@ -351,17 +351,5 @@ fn interrupted_calls(rt: HostRuntime) -> Result<(), Fail> {
     ] {
         assert!(rt; failures_of(kind, 1) == [Some(kind); 3]);
     }
-    Ok(())
-}
-
-// A reader at its end has not failed.
-#[test]
-fn reader_at_its_end(rt: HostRuntime) -> Result<(), Fail> {
-    let mut device = Device::new(Moody {
-        kind: ErrorKind::Other,
-        failures: 0,
-    });
-    let mut bytes = [0; 4];
-    assert!(rt; device.read(&mut bytes) == Ok(0) && device.read(&mut bytes) == Ok(0));
     Ok(())
 }

@@ -1,6 +1,6 @@
 //! Tests of streams that need Rust: devices that fail, limits of calls, how often a sink is called,
-//! bytes in pieces, refusals of the writer, dictionaries that it sends, and what comes after a
-//! refusal. What the library answers to streams is in `cases/`.
+//! bytes in pieces, refusals of the writer, and rows that are refused between others. What the
+//! library answers to streams is in `cases/`.
 #![tactic(auto)]
 
 #[cfg(test)]
@@ -10,11 +10,7 @@ mod columns;
 #[cfg(test)]
 mod devices;
 #[cfg(test)]
-mod dictionaries;
-#[cfg(test)]
 mod example;
-#[cfg(test)]
-mod nested_columns;
 #[cfg(test)]
 mod pieces;
 #[cfg(test)]

@@ -1,8 +1,6 @@
 //! What writers answer to scripts, and what they send.
-ghost use Rattle.ipc_stream.specs.PendingBatches.{Stays};
-
 use crate::tables::{Column, Rows, empty};
-use ipc_model::{BatchRows, Fault, Items, Limits, Row, Schema, Text, Value, WriteFault};
+use ipc_model::{BatchRows, Fault, Items, Limits, Row, Schema, Text, WriteFault};
 use ipc_stream::{Batch, BatchWriter, Memory, Sink, StreamReader, StreamWriter};
 use std::alloc::{AllocError, Global};
 
@@ -17,8 +15,6 @@ pub enum Step<'a> {
     Push(Rows<'a>),
     /// The same with one pair, of two bytes.
     PushPaired(Rows<'a>),
-    /// To push this number as a row, and to drop the batch.
-    LetGo(i64),
     /// To write a batch of these rows that was read, from its columns.
     Columns(Rows<'a>),
 }
@@ -29,7 +25,6 @@ impl<'a> Step<'a> {
         match self {
             Step::Write(numbers) | Step::Push(numbers) | Step::Columns(numbers) => (numbers, false),
             Step::WritePaired(numbers) | Step::PushPaired(numbers) => (numbers, true),
-            Step::LetGo(_) => (&[], false),
         }
     }
 }
@@ -89,25 +84,11 @@ fn push_rows<W: Sink>(
     batch.send()
 }
 
-// Begins a batch, pushes a row and drops the batch. Unless memory is refused, the writer is as it
-// was.
-fn let_go<W: Sink>(
-    writer: &mut StreamWriter<W>,
-    pairs: Items<(Text, Text)>,
-    row: &[Value],
-) -> Result<(), WriteFault>
-    ensures { Stays writer.old writer.new result }
-{
-    let mut batch = writer.batch(pairs)?;
-    batch.push(row)
-}
-
 // A step with what it writes.
 #[derive(Drop)]
 enum Prepared {
     Write(BatchRows),
     Push(BatchRows),
-    LetGo(Items<(Text, Text)>, i64),
     Columns(Batch, Items<(Text, Text)>),
 }
 
@@ -120,7 +101,6 @@ fn take<W: Sink>(
     match step {
         Prepared::Write(batch) => writer.write_batch(&batch),
         Prepared::Push(batch) => push_rows(writer, batch, faults),
-        Prepared::LetGo(pairs, number) => let_go(writer, pairs, &[Value::Int(number)]),
         Prepared::Columns(batch, pairs) => writer.write_columns(&batch, pairs),
     }
 }
@@ -149,7 +129,6 @@ fn prepare(alloc: Global, column: Column, step: Step<'_>) -> Result<Prepared, Al
     Ok(match step {
         Step::Write(_) | Step::WritePaired(_) => Prepared::Write(batch),
         Step::Push(_) | Step::PushPaired(_) => Prepared::Push(batch),
-        Step::LetGo(number) => Prepared::LetGo(batch.pairs, number),
         Step::Columns(_) => Prepared::Columns(read_back(alloc, column, &batch)?, batch.pairs),
     })
 }

@@ -1,5 +1,5 @@
-//! What a reader answers by calls: at a source that fails at each of its calls in turn, after a
-//! refusal and after the end. What it answers to streams is in `cases/`.
+//! What a reader answers by calls: at a source that fails at each of its calls in turn, after that
+//! and after the end. What it answers to streams is in `cases/`.
 
 use crate::pieces::{STREAM, nullable_stream};
 use crate::tables::{Column, NUMBERS};
@@ -96,20 +96,6 @@ fn first_difference(alloc: Global, bytes: &[u8]) -> Result<Option<u64>, AllocErr
     Ok(None)
 }
 
-// A schema's message, that message again, and the end mark: a second schema is refused, and after
-// that every call, without taking a byte.
-fn stays_refused(alloc: Global) -> Result<bool, AllocError> {
-    let mut bytes = Vec::from_slice(alloc, &STREAM[..120])?;
-    bytes.extend_from_slice(&STREAM[..120])?;
-    bytes.extend_from_slice(&STREAM[280..])?;
-    let said = [
-        Err(Fault::SecondSchema),
-        Err(Fault::Failed),
-        Err(Fault::Failed),
-    ];
-    Ok(reader_results(alloc, bytes, u64::MAX) == Ok((said, None, 240, 1, 240)))
-}
-
 // Whether the stream's table is read from a source that gives at most `step` bytes in each call.
 fn is_read(alloc: Global, step: usize, table: &Table) -> Result<bool, Fault> {
     let memory = Memory::new(Vec::from_slice(alloc, &STREAM)?);
@@ -133,7 +119,6 @@ fn sources_that_fail_or_give_few_bytes(rt: HostRuntime) -> Result<(), Fail> {
     let bytes = nullable_stream(rt.alloc())?;
     let table = Column::Numbers.table(rt.alloc(), NUMBERS, false)?;
     assert!(rt; first_difference(rt.alloc(), &bytes)? == None);
-    assert!(rt; stays_refused(rt.alloc())?);
     assert!(rt; read_otherwise(rt.alloc(), &table)? == None);
     Ok(())
 }

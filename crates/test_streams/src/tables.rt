@@ -26,8 +26,6 @@ pub enum Column {
     /// Two columns of letters. A number has the second letter in its lowest byte, and the first in
     /// the next one.
     LetterPairs,
-    /// Lists of two letters, which a number has as above.
-    LetterLists,
 }
 
 /// The numbers of rows; None is null.
@@ -68,13 +66,6 @@ fn letters(alloc: Global) -> Result<Field, AllocError> {
     Ok(field.with_dictionary(LETTERS))
 }
 
-fn letter_lists(alloc: Global) -> Result<Field, AllocError> {
-    let mut children = Vec::new(alloc);
-    children.push(letters(alloc)?)?;
-    let field = Field::new(alloc, "a", DataType::List)?.nullable();
-    Ok(field.with_children(children))
-}
-
 // The text of one letter.
 fn letter(alloc: Global, letter: u8) -> Result<Value, AllocError> {
     let mut text = String::new(alloc);
@@ -107,7 +98,6 @@ impl Column {
             Column::Absent | Column::Numbers => int(IntBits::B64, true),
             Column::Days => DataType::Date(DateUnit::Millisecond),
             Column::Letters | Column::LetterPairs => return letters(alloc),
-            Column::LetterLists => return letter_lists(alloc),
         };
         Field::new(alloc, "a", kind)
     }
@@ -125,7 +115,6 @@ impl Column {
         Ok(match self {
             Column::UnsignedBytes => Value::UInt(number.unsigned_abs()),
             Column::Letters => letter(alloc, number.to_le_bytes()[0])?,
-            Column::LetterLists => Value::List(letter_pair(alloc, number)?),
             _ => Value::Int(number),
         })
     }

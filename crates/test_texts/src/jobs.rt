@@ -10,7 +10,7 @@ use std::alloc::{AllocError, Global};
 use std::test::Fail;
 
 // The stream of samples/int32.arrows: a schema of 120 bytes, a batch of 160, and the end mark.
-pub(crate) const STREAM: [u8; 288] = [
+const STREAM: [u8; 288] = [
     255, 255, 255, 255, 112, 0, 0, 0, 16, 0, 0, 0, 10, 0, 12, 0, 8, 0, 10, 0, 4, 0, 0, 0, 12, 0, 0,
     0, 16, 0, 0, 0, 4, 0, 1, 0, 8, 0, 8, 0, 0, 0, 4, 0, 8, 0, 0, 0, 4, 0, 0, 0, 1, 0, 0, 0, 16, 0,
     0, 0, 12, 0, 16, 0, 4, 0, 12, 0, 13, 0, 8, 0, 12, 0, 0, 0, 12, 0, 0, 0, 24, 0, 0, 0, 1, 2, 0,
@@ -21,14 +21,6 @@ pub(crate) const STREAM: [u8; 288] = [
     0, 0, 0, 1, 0, 0, 0, 0, 0, 0, 0, 0, 0, 0, 0, 2, 0, 0, 0, 0, 0, 0, 0, 0, 0, 0, 0, 1, 0, 0, 0, 0,
     0, 0, 0, 8, 0, 0, 0, 0, 0, 0, 0, 12, 0, 0, 0, 0, 0, 0, 0, 5, 0, 0, 0, 0, 0, 0, 0, 1, 0, 0, 0,
     0, 0, 0, 0, 3, 0, 0, 0, 0, 0, 0, 0, 255, 255, 255, 255, 0, 0, 0, 0,
-];
-
-// A schema without fields, in 48 bytes, and a batch. The number of its rows begins at byte 104.
-pub(crate) const EMPTY_ROWS: [u8; 112] = [
-    255, 255, 255, 255, 40, 0, 0, 0, 16, 0, 0, 0, 10, 0, 12, 0, 8, 0, 10, 0, 4, 0, 0, 0, 12, 0, 0,
-    0, 12, 0, 0, 0, 4, 0, 1, 0, 4, 0, 4, 0, 4, 0, 0, 0, 0, 0, 0, 0, 255, 255, 255, 255, 56, 0, 0,
-    0, 16, 0, 0, 0, 10, 0, 12, 0, 8, 0, 10, 0, 4, 0, 0, 0, 12, 0, 0, 0, 20, 0, 0, 0, 4, 0, 3, 0, 6,
-    0, 16, 0, 8, 0, 0, 0, 0, 0, 0, 0, 12, 0, 0, 0, 0, 0, 0, 0, 3, 0, 0, 0, 0, 0, 0, 0,
 ];
 
 const SCHEMA: &str = "{\"fields\":[{\"children\":0,\"dictionary\":null,\"metadata\":[],\
@@ -230,24 +222,10 @@ fn stops(alloc: Global, case: Case) -> Result<bool, AllocError> {
     Ok(is_flushed && is_wanted && is_read)
 }
 
-// What `check` prints of batches without columns, of 3, 0 and 2 rows.
-fn checked(alloc: Global) -> Result<Vec<u8>, AllocError> {
-    let mut stream = Vec::from_slice(alloc, &EMPTY_ROWS[..48])?;
-    for rows in [3, 0, 2] {
-        stream.extend_from_slice(&EMPTY_ROWS[48..104])?;
-        stream.push(rows)?;
-        stream.extend_from_slice(&EMPTY_ROWS[105..])?;
-    }
-    stream.extend_from_slice(&STREAM[280..])?;
-    Ok(done(alloc, JobKind::Check, &stream, (u64::MAX, u64::MAX))?.1)
-}
-
 #[test]
 fn jobs(rt: HostRuntime) -> Result<(), Fail> {
     for (number, case) in CASES.iter().enumerate() {
         assert!(rt; stops(rt.alloc(), *case)?, "job {number}");
     }
-    let wanted = "{\"fields\":[],\"metadata\":[]}\nmark 248 bytes 3 batches 5 rows\n";
-    assert!(rt; checked(rt.alloc())?.as_slice() == wanted.as_bytes());
     Ok(())
 }

@@ -4,10 +4,6 @@
 #[cfg(test)]
 mod explained;
 #[cfg(test)]
-mod first_rows;
-#[cfg(test)]
 mod jobs;
-#[cfg(test)]
-mod schemas;
 #[cfg(test)]
 mod texts;

@@ -1,10 +1,9 @@
 //! Texts that are compared with the wanted ones.
 use csv::ByteRecord;
-use ipc_model::{DateUnit, Items, Row, Schema, Text, TimeUnit, Value};
+use ipc_model::{Items, Row, Schema, Text, Value};
 use ipc_text::{
-    Dialect, RowShape, ShortText, TextFault, check_header, csv_header, csv_record, date_text,
-    fill_row_from_csv, pairs_json, read_date, read_time, read_timestamp, row_from_csv, row_json,
-    schema_from_json, schema_json, time_text, timestamp_text,
+    Dialect, RowShape, TextFault, check_header, csv_header, csv_record, fill_row_from_csv,
+    pairs_json, row_from_csv, row_json, schema_from_json, schema_json,
 };
 use std::alloc::{AllocError, Global};
 use std::test::Fail;
@@ -313,87 +312,5 @@ fn objects(rt: HostRuntime) -> Result<(), Fail> {
     let wanted =
         "{\"l\":[{\"t\":\"12:34:56.000000007\",\"d\":-5},{\"t\":null,\"d\":null}],\"\":\"x\"}";
     assert!(rt; text.as_str() == wanted);
-    let schema = schema_from_json(alloc, "{\"fields\":[],\"metadata\":[]}")?;
-    let text = row_json(alloc, RowShape::Object, &schema, &[])?;
-    assert!(rt; text.as_str() == "{}");
     Ok(())
-}
-
-// What has a text that names a day, a time of day or a point in time.
-#[derive(Clone, Copy)]
-enum Moment {
-    Date(DateUnit),
-    Time(TimeUnit),
-    Point(TimeUnit, Option<&'static str>),
-}
-
-fn moment_text(moment: Moment, number: i64) -> Option<ShortText> {
-    match moment {
-        Moment::Date(unit) => date_text(unit, number),
-        Moment::Time(unit) => time_text(unit, number),
-        Moment::Point(unit, zone) => timestamp_text(unit, zone, number),
-    }
-}
-
-fn read_moment(moment: Moment, text: &[u8]) -> Option<i64> {
-    match moment {
-        Moment::Date(unit) => read_date(unit, text),
-        Moment::Time(unit) => read_time(unit, text),
-        Moment::Point(unit, zone) => read_timestamp(unit, zone, text),
-    }
-}
-
-// Whether a number has this text, which is read back as the number; or has none.
-fn is_told(moment: Moment, number: i64, wanted: Option<&str>) -> bool {
-    let text = moment_text(moment, number);
-    match (&text, wanted) {
-        (Some(text), Some(wanted)) => {
-            text.as_str() == wanted && read_moment(moment, wanted.as_bytes()) == Some(number)
-        }
-        (None, None) => true,
-        _ => false,
-    }
-}
-
-const MOMENTS: [(Moment, i64, Option<&str>); 13] = [
-    (Moment::Date(DateUnit::Day), -719_162, Some("0001-01-01")),
-    (Moment::Date(DateUnit::Day), 2_932_896, Some("9999-12-31")),
-    (Moment::Date(DateUnit::Day), 11_016, Some("2000-02-29")),
-    (Moment::Date(DateUnit::Day), 47_541, Some("2100-03-01")),
-    (Moment::Date(DateUnit::Day), -719_163, None),
-    (Moment::Date(DateUnit::Millisecond), 1, None),
-    (
-        Moment::Time(TimeUnit::Nanosecond),
-        45_296_000_000_007,
-        Some("12:34:56.000000007"),
-    ),
-    (Moment::Time(TimeUnit::Second), 86_400, None),
-    (
-        Moment::Time(TimeUnit::Millisecond),
-        86_399_999,
-        Some("23:59:59.999"),
-    ),
-    (
-        Moment::Point(TimeUnit::Second, None),
-        253_402_300_799,
-        Some("9999-12-31T23:59:59"),
-    ),
-    (Moment::Point(TimeUnit::Second, None), 253_402_300_800, None),
-    (
-        Moment::Point(TimeUnit::Nanosecond, Some("+01:00")),
-        1_000_002_003,
-        Some("1970-01-01T00:00:01.000002003Z"),
-    ),
-    (
-        Moment::Point(TimeUnit::Nanosecond, Some("")),
-        i64::MIN,
-        Some("1677-09-21T00:12:43.145224192"),
-    ),
-];
-
-#[test]
-fn days_and_times(rt: HostRuntime) {
-    for (number, (moment, count, wanted)) in MOMENTS.iter().enumerate() {
-        assert!(rt; is_told(*moment, *count, *wanted), "moment {number}");
-    }
 }

@@ -1,6 +1,6 @@
 //! The program `workbench`. Its first argument is the job:
 //!
-//!     workbench push-rows i64|mixed|dictionary|nested|flat BATCHES ROWS > STREAM
+//!     workbench push-rows i64|mixed|dictionary|nested BATCHES ROWS > STREAM
 //!     workbench pull < STREAM
 //!     workbench answer|read < LINES
 //!
@@ -44,7 +44,7 @@ use std::process::ExitCode;
 use std::{env, io};
 
 const USAGE: &str = "\
-usage: workbench push-rows i64|mixed|dictionary|nested|flat BATCHES ROWS > STREAM
+usage: workbench push-rows i64|mixed|dictionary|nested BATCHES ROWS > STREAM
        workbench pull < STREAM
        workbench answer|read < LINES";
 

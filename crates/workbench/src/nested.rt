@@ -1,5 +1,4 @@
-//! Rows with a list and a struct, and rows with the same values in flat columns, to measure what
-//! nesting costs.
+//! Rows with a list and a struct, to measure what nesting costs.
 use crate::values::{signed, spread, word};
 use ipc_model::{DataType, Field, IntBits, Items, Row, Schema, Value};
 use std::alloc::{AllocError, Global};
@@ -27,29 +26,6 @@ fn struct_field(alloc: Global) -> Result<Field, AllocError> {
 /// A list of numbers, and a struct of a number and a text.
 pub fn nested_schema(alloc: Global) -> Result<Schema, AllocError> {
     Ok(Schema::new(vec![in alloc; list_field(alloc)?, struct_field(alloc)?]?))
-}
-
-// The names of the flat columns.
-const FLAT: [&str; 5] = ["x", "y", "z", "a", "b"];
-
-fn flat_type(place: usize) -> DataType {
-    match place {
-        3 => signed(IntBits::B32),
-        4 => DataType::Utf8,
-        _ => signed(IntBits::B64),
-    }
-}
-
-/// The same values in flat columns: a nullable column of numbers for each value that a list can
-/// have, a number and a text.
-pub fn flat_schema(alloc: Global) -> Result<Schema, AllocError> {
-    let mut fields = Vec::new(alloc);
-    for (place, name) in FLAT.iter().enumerate() {
-        let mut field = Field::new(alloc, name, flat_type(place))?;
-        field.nullable = place < usize::from(MOST);
-        fields.push(field)?;
-    }
-    Ok(Schema::new(fields))
 }
 
 // The number of a struct.
@@ -80,20 +56,4 @@ pub fn nested_row(alloc: Global, number: u16) -> Result<Row, AllocError> {
     row.push(list(alloc, number)?)?;
     row.push(pair(alloc, number)?)?;
     Ok(Row::from(row))
-}
-
-/// The same values side by side. Null is in place of a value that the list does not have.
-pub fn flat_row(alloc: Global, number: u16) -> Result<Row, AllocError> {
-    let mut values = Vec::with_capacity(alloc, usize::from(MOST) + 2)?;
-    for place in 0..MOST {
-        let value = if place < length(number) {
-            Value::Int(spread(number, place))
-        } else {
-            Value::Null
-        };
-        values.push(value)?;
-    }
-    values.push(count(number))?;
-    values.push(Value::text(alloc, word(number))?)?;
-    Ok(Row::from(values))
 }

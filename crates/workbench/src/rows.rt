@@ -1,6 +1,6 @@
 //! Schemas and their rows, to measure writing.
 use crate::cities::{row_of_city, schema_of_cities};
-use crate::nested::{flat_row, flat_schema, nested_row, nested_schema};
+use crate::nested::{nested_row, nested_schema};
 use crate::values::{signed, spread, word};
 use ipc_model::{DataType, Field, IntBits, Row, Schema, Text, TimeUnit, Value};
 use std::alloc::{AllocError, Global};
@@ -16,8 +16,6 @@ pub enum Data {
     Cities,
     /// A list of signed 64-bit integers, and a struct of a number and a text.
     Nested,
-    /// The values of `Nested`, each in a column of its own.
-    Flat,
 }
 
 impl Data {
@@ -28,7 +26,6 @@ impl Data {
             "mixed" => Some(Data::Mixed),
             "dictionary" => Some(Data::Cities),
             "nested" => Some(Data::Nested),
-            "flat" => Some(Data::Flat),
             _ => None,
         }
     }
@@ -40,7 +37,6 @@ impl Data {
             Data::Mixed => mixed_schema(alloc),
             Data::Cities => schema_of_cities(alloc),
             Data::Nested => nested_schema(alloc),
-            Data::Flat => flat_schema(alloc),
         }
     }
 
@@ -51,7 +47,6 @@ impl Data {
             Data::Mixed => mixed_row(alloc, number),
             Data::Cities => row_of_city(alloc, number),
             Data::Nested => nested_row(alloc, number),
-            Data::Flat => flat_row(alloc, number),
         }
     }
 }
