@@ -7,7 +7,7 @@ use Rattle.ipc_model.specs.declared.fault.Fault.{Fault}
 use Rattle.ipc_model.specs.declared.fault.Fault.TheVariants.{OutOfMemory}
 use Rattle.ipc_model.specs.Numbering.{fault_number}
 use Rattle.ipc_text_json.specs.SchemaJson.{pairs_text}
-use Rattle.ipc_stream_read.specs.Decoding.{Wants, schema_of}
+use Rattle.ipc_stream_read.specs.Decoding.{Wants, progress_at, schema_of}
 use Rattle.ipc_stream_read.specs.declared.end.End.{End}
 use Rattle.ipc_stream_session.specs.declared.arrival.Arrival.{Arrival}
 use Rattle.ipc_stream_session.specs.declared.batch.ReadBatch.{ReadBatch}
@@ -20,7 +20,7 @@ use Rattle.ipc_stream_session.specs.Copies.{Copies}
 use Rattle.ipc_stream_session.specs.Fields.{FindsFieldIn, FindsTextIn}
 use Rattle.ipc_stream_session.specs.Paths.{FindsBuffer, FindsColumn}
 use Rattle.ipc_stream_session.specs.Sessions as s
-use Rattle.arrowstream_c.specs.Handles.{Refuses}
+use Rattle.arrowstream_c.specs.Handles.{RefusesMisuse}
 use Rattle.arrowstream_c.specs.declared.answers.Column.{Column}
 use Rattle.arrowstream_c.specs.declared.answers.FieldNumbers.{FieldNumbers}
 use Rattle.arrowstream_c.specs.declared.answers.Progress.{Progress}
@@ -42,7 +42,7 @@ OpensReader asked (Some made) = (limits_size ≤ asked.size)
 pub record IsAt (reader : ReadSession) (taken event size : ℕ) (out : Progress) : Type 0 where
   pub size_is : out.size ≡ size
   pub taken_is : out.taken ≡ taken
-  pub wanted : Wants reader.decoder.limits reader.decoder.stage out.wanted
+  pub wanted : Wants reader.decoder.limits (progress_at reader.decoder.stage) out.wanted
   pub messages : out.messages ≡ reader.decoder.messages
   pub event_is : out.event ≡ event
 
@@ -59,7 +59,7 @@ TakesPiece was piece is size out status = (answer : Result (ℕ × Arrival) Faul
 -- the session takes the piece if the struct has room for the progress
 abbrev pub Feeds : ReadSession → List ℕ → ReadSession → Progress → Progress → ℕ → Type 0
 Feeds was piece is old new status = BySize old.size progress_size
-    (TakesPiece was piece is old.size new status) ((is ≡ was) × Refuses old new status)
+    (TakesPiece was piece is old.size new status) ((is ≡ was) × RefusesMisuse old new status)
 
 -- the status is 0 with the end, or the number of the refusal
 abbrev pub IsClosed : Result End Fault → ReadSession → ℕ → Progress → ℕ → Type 0
@@ -74,7 +74,7 @@ EndsInput was is size out status = (answer : Result End Fault)
 -- the session ends the input if the struct has room for the progress
 abbrev pub Closes : ReadSession → ReadSession → Progress → Progress → ℕ → Type 0
 Closes was is old new status = BySize old.size progress_size
-    (EndsInput was is old.size new status) ((is ≡ was) × Refuses old new status)
+    (EndsInput was is old.size new status) ((is ≡ was) × RefusesMisuse old new status)
 
 -- a text is copied; without a text nothing is copied
 abbrev pub GivesText : Result (Option (String Global)) Fault → List ℕ → List ℕ → ℕ → ℕ → Type 0
@@ -110,7 +110,7 @@ FillsField s path old new status = (answer : Option FieldFacts)
 abbrev pub DescribesField : ReadSession → List ℕ → ReadSession → FieldNumbers → FieldNumbers → ℕ
     → Type 0
 DescribesField was path is old new status = (is ≡ was)
-    × BySize old.size field_size (FillsField was path old new status) (Refuses old new status)
+    × BySize old.size field_size (FillsField was path old new status) (RefusesMisuse old new status)
 
 -- a text of the field to which the path leads is copied, if there is such a text
 abbrev pub GivesFieldText : ReadSession → List ℕ → Option FieldText → List ℕ → List ℕ → ℕ → ℕ
@@ -185,7 +185,8 @@ FillsColumn b path old new status = (answer : Option ColumnFacts)
 -- a column is described if the struct has room for it; the batch stays
 abbrev pub DescribesColumn : ReadBatch → List ℕ → ReadBatch → Column → Column → ℕ → Type 0
 DescribesColumn was path is old new status = (is ≡ was)
-    × BySize old.size column_size (FillsColumn was path old new status) (Refuses old new status)
+    × BySize old.size column_size (FillsColumn was path old new status)
+    (RefusesMisuse old new status)
 
 -- the number of bytes of the buffer that was found, if there is one
 abbrev pub IsBufferLength : Option ℕ → ℕ → ℕ → Type 0

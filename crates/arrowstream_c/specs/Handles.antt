@@ -37,8 +37,8 @@ abbrev pub misuse : ℕ
 misuse = 65
 
 -- the call is refused, and what it would fill does not change
-abbrev pub Refuses : {T : Type 0} → T → T → ℕ → Type 0
-Refuses old new status = (status ≡ misuse) × (new ≡ old)
+abbrev pub RefusesMisuse : {T : Type 0} → T → T → ℕ → Type 0
+RefusesMisuse old new status = (status ≡ misuse) × (new ≡ old)
 
 -- what a call does with the value at a handle, or what it answers at null
 abbrev pub OfHandle : {T : Type 0} → (T → T → Type 0) → Type 0 → Option T → Option T → Type 0

@@ -18,7 +18,7 @@ use Rattle.ipc_stream_session.specs.declared.column.ColumnFacts.{ColumnFacts}
 use Rattle.ipc_stream_session.specs.declared.field.FieldFacts.{FieldFacts}
 use Rattle.ipc_stream_session.specs.declared.field.FieldText.{FieldText}
 use Rattle.ipc_stream_session.specs.declared.field.FieldText.TheVariants as text
-use Rattle.arrowstream_c.specs.Handles.{Refuses}
+use Rattle.arrowstream_c.specs.Handles.{RefusesMisuse}
 use Rattle.arrowstream_c.specs.declared.answers.Column.{Column}
 use Rattle.arrowstream_c.specs.declared.answers.FieldNumbers.{FieldNumbers}
 use Rattle.arrowstream_c.specs.declared.answers.LayoutNumbers.{LayoutNumbers}
@@ -75,7 +75,7 @@ pub record AreStandard (out : ReadLimits) : Type 0 where
 -- the limits are the standard ones if the struct has room for them
 abbrev pub SetsStandard : ReadLimits → ReadLimits → ℕ → Type 0
 SetsStandard old new status = BySize old.size limits_size
-    ((status ≡ 0) × (new.size ≡ old.size) × AreStandard new) (Refuses old new status)
+    ((status ≡ 0) × (new.size ≡ old.size) × AreStandard new) (RefusesMisuse old new status)
 
 -- the number of what came
 abbrev pub arrival_number : Arrival → ℕ
@@ -144,7 +144,7 @@ pub record Shows (facts : ColumnFacts) (size : ℕ) (c : Column) : Type 0 where
   pub values : c.values ≡ facts.values
 
 -- the numbers of a dictionary's indices
-pub record HasIndices (n : FieldNumbers) (bits is_signed is_ordered : ℕ) (dictionary : ℤ) :
+pub record HasIndexNumbers (n : FieldNumbers) (bits is_signed is_ordered : ℕ) (dictionary : ℤ) :
     Type 0 where
   pub bits_are : n.index_bits ≡ bits
   pub is_signed_is : n.is_signed ≡ is_signed
@@ -153,9 +153,9 @@ pub record HasIndices (n : FieldNumbers) (bits is_signed is_ordered : ℕ) (dict
 
 -- the numbers of a field's dictionary, or zeros if it has none
 abbrev pub ShowsDictionary : Option Dictionary → FieldNumbers → Type 0
-ShowsDictionary None n = HasIndices n 0 0 0 (pos 0)
+ShowsDictionary None n = HasIndexNumbers n 0 0 0 (pos 0)
 ShowsDictionary (Some d) n =
-    HasIndices n (width d.index.bits) (bit_of d.index.signed) (bit_of d.ordered) d.id
+    HasIndexNumbers n (width d.index.bits) (bit_of d.index.signed) (bit_of d.ordered) d.id
 
 -- the numbers of a field are these facts, in a struct of this size
 pub record ShowsField (facts : FieldFacts) (size : ℕ) (n : FieldNumbers) : Type 0 where

@@ -21,72 +21,73 @@ OpensWriter asked (Some made) =
 
 -- the status is that of the session's call
 abbrev pub BeginsStream : WriteSession → List ℕ → WriteSession → ℕ → Type 0
-BeginsStream was text is status = s.Reports (s.Begins text) was is status
+BeginsStream was text is status = s.ReportsStatus (s.BeginsSession text) was is status
 
 -- a null cell is added
 abbrev pub AddsNull : WriteSession → WriteSession → ℕ → Type 0
-AddsNull was is status = s.Reports (s.Adds value.Null) was is status
+AddsNull was is status = s.ReportsStatus (s.Adds value.Null) was is status
 
 -- 0 is false, and each other number is true
 abbrev pub AddsBool : WriteSession → ℕ → WriteSession → ℕ → Type 0
-AddsBool was number is status = s.Reports (s.Adds (value.Bool (not (number == 0)))) was is status
+AddsBool was number is status =
+    s.ReportsStatus (s.Adds (value.Bool (not (number == 0)))) was is status
 
 -- a signed integer is added
 abbrev pub AddsInt : WriteSession → ℤ → WriteSession → ℕ → Type 0
-AddsInt was number is status = s.Reports (s.Adds (value.Int number)) was is status
+AddsInt was number is status = s.ReportsStatus (s.Adds (value.Int number)) was is status
 
 -- an unsigned integer is added
 abbrev pub AddsUInt : WriteSession → ℕ → WriteSession → ℕ → Type 0
-AddsUInt was number is status = s.Reports (s.Adds (value.UInt number)) was is status
+AddsUInt was number is status = s.ReportsStatus (s.Adds (value.UInt number)) was is status
 
 -- bytes are added as a cell
 abbrev pub AddsBytes : WriteSession → List ℕ → WriteSession → ℕ → Type 0
-AddsBytes was bytes is status = s.Reports (s.Adds (value.Bytes bytes)) was is status
+AddsBytes was bytes is status = s.ReportsStatus (s.Adds (value.Bytes bytes)) was is status
 
 -- a text is added as a cell
 abbrev pub AddsText : WriteSession → List ℕ → WriteSession → ℕ → Type 0
-AddsText was text is status = s.Reports (s.AddsText text) was is status
+AddsText was text is status = s.ReportsStatus (s.AddsText text) was is status
 
 -- a list is begun
 abbrev pub BeginsList : WriteSession → WriteSession → ℕ → Type 0
-BeginsList was is status = s.Reports (s.BeginsCell nesting.List) was is status
+BeginsList was is status = s.ReportsStatus (s.BeginsCell nesting.List) was is status
 
 -- a struct is begun
 abbrev pub BeginsStruct : WriteSession → WriteSession → ℕ → Type 0
-BeginsStruct was is status = s.Reports (s.BeginsCell nesting.Struct) was is status
+BeginsStruct was is status = s.ReportsStatus (s.BeginsCell nesting.Struct) was is status
 
 -- the list or struct that was begun last is ended
 abbrev pub EndsCell : WriteSession → WriteSession → ℕ → Type 0
-EndsCell was is status = s.Reports s.EndsCell was is status
+EndsCell was is status = s.ReportsStatus s.EndsCell was is status
 
 -- the row is ended
 abbrev pub EndsRow : WriteSession → WriteSession → ℕ → Type 0
-EndsRow was is status = s.Reports s.EndsRow was is status
+EndsRow was is status = s.ReportsStatus s.EndsRow was is status
 
 -- the row that has not ended is dropped
 abbrev pub DropsRow : WriteSession → WriteSession → ℕ → Type 0
-DropsRow was is status = s.Reports s.DropsRow was is status
+DropsRow was is status = s.ReportsStatus s.DropsRow was is status
 
 -- a pair is added to those that are sent with the pending rows
 abbrev pub AddsPair : WriteSession → List ℕ → List ℕ → WriteSession → ℕ → Type 0
-AddsPair was key value is status = s.Reports (s.AddsPair key value) was is status
+AddsPair was key value is status = s.ReportsStatus (s.AddsPair key value) was is status
 
 -- the pending rows and pairs are dropped, with the row that has not ended
 abbrev pub DropsBatch : WriteSession → WriteSession → ℕ → Type 0
-DropsBatch was is status = s.Reports s.DropsBatch was is status
+DropsBatch was is status = s.ReportsStatus s.DropsBatch was is status
 
 -- the pending rows are sent
 abbrev pub SendsRows : WriteSession → WriteSession → ℕ → Type 0
-SendsRows was is status = s.Reports s.SendsRows was is status
+SendsRows was is status = s.ReportsStatus s.SendsRows was is status
 
 -- the batch stays
 abbrev pub SendsColumns : WriteSession → ReadBatch → WriteSession → ReadBatch → ℕ → Type 0
 SendsColumns was batch is left status =
-    (left ≡ batch) × s.Reports (s.SendsColumns batch) was is status
+    (left ≡ batch) × s.ReportsStatus (s.SendsColumns batch) was is status
 
 -- the stream is ended
 abbrev pub Finishes : WriteSession → WriteSession → ℕ → Type 0
-Finishes was is status = s.Reports s.Finishes was is status
+Finishes was is status = s.ReportsStatus s.Finishes was is status
 
 -- the number of bytes that one call can take
 abbrev pub AreReady : WriteSession → WriteSession → ℕ → Type 0

@@ -1,6 +1,6 @@
 //! What calls at a null handle write through a pointer, beside the number that they return.
 ghost use Rattle.arrowstream_c.specs.AtNull.{IsNowhere, RefusesText, TakesNothing};
-ghost use Rattle.arrowstream_c.specs.Handles.{Refuses};
+ghost use Rattle.arrowstream_c.specs.Handles.{RefusesMisuse};
 
 use crate::answers::{Column, FieldNumbers, MISUSE, PROGRESS_SIZE, Progress};
 
@@ -15,7 +15,7 @@ pub(crate) fn no_text(text: &mut [u8], wanted: &mut usize) -> u32
 
 // Describes no column.
 pub(crate) fn no_column(out: &mut Column) -> u32
-    ensures { Refuses out.old out.new result }
+    ensures { RefusesMisuse out.old out.new result }
 {
     let _out = out;
     MISUSE
@@ -23,7 +23,7 @@ pub(crate) fn no_column(out: &mut Column) -> u32
 
 // Describes no field.
 pub(crate) fn no_field(out: &mut FieldNumbers) -> u32
-    ensures { Refuses out.old out.new result }
+    ensures { RefusesMisuse out.old out.new result }
 {
     let _out = out;
     MISUSE

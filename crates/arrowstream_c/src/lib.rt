@@ -16,8 +16,8 @@ ghost use Rattle.arrowstream_c.specs.Calls.{AreRows, AreColumns, ClonesBatch, Cl
 ghost use Rattle.arrowstream_c.specs.Calls.{CopiesFieldText, CopiesLine, CopiesPairs, CopiesSchema};
 ghost use Rattle.arrowstream_c.specs.Calls.{DescribesColumn, DescribesField, Feeds, OpensReader};
 ghost use Rattle.arrowstream_c.specs.Calls.{TakesBack, TakesBatch};
-ghost use Rattle.arrowstream_c.specs.Handles.{OfHandle, OfHandles, Refuses, batch_or_null, misuse};
-ghost use Rattle.arrowstream_c.specs.Handles.{reader_or_null, writer_or_null};
+ghost use Rattle.arrowstream_c.specs.Handles.{OfHandle, OfHandles, RefusesMisuse, batch_or_null};
+ghost use Rattle.arrowstream_c.specs.Handles.{misuse, reader_or_null, writer_or_null};
 ghost use Rattle.arrowstream_c.specs.Numbers.{SetsStandard};
 ghost use Rattle.arrowstream_c.specs.WriterCalls as w;
 
@@ -150,7 +150,7 @@ pub unsafe extern "C" fn arrowstream_reader_field(
     requires* { sem 𝓛 (reader_or_null reader was) }
     ensures* { ∃ₛ (λ (is : Option ReadSession). sem 𝓛 (reader_or_null reader is)
         ∗ ⌜ OfHandle (λ was is. DescribesField was path.now is out.old out.new result)
-        (Refuses out.old out.new result) was is ⌝) }
+        (RefusesMisuse out.old out.new result) was is ⌝) }
 {
     if reader.is_null() {
         return at_null::no_field(out);
@@ -356,7 +356,7 @@ pub unsafe extern "C" fn arrowstream_batch_column(
     requires* { sem 𝓛 (batch_or_null batch was) }
     ensures* { ∃ₛ (λ (is : Option ReadBatch). sem 𝓛 (batch_or_null batch is)
         ∗ ⌜ OfHandle (λ was is. DescribesColumn was path.now is out.old out.new result)
-        (Refuses out.old out.new result) was is ⌝) }
+        (RefusesMisuse out.old out.new result) was is ⌝) }
 {
     if batch.is_null() {
         return at_null::no_column(out);

@@ -33,7 +33,7 @@ use Rattle.ipc_column.specs.Dictionaries.{has_no_children, values_for}
 use Rattle.ipc_column.specs.Leaves.{leaf_column, leaf_values}
 use Rattle.ipc_column.specs.Lending.{AreAlone}
 use Rattle.ipc_column.specs.Lent.{HoldSlots, column_of_buffers, values_in}
-use Rattle.ipc_column.specs.Values.{first_of, is_valid, items, own_value, place_below, row, rows_of, value_at, value_of}
+use Rattle.ipc_column.specs.Values.{first_of, is_valid, values_from, own_value, place_below, row, rows_of, value_at, value_of}
 use Rattle.ipc_column.specs.Sharing.{contents_of}
 use Rattle.ipc_column.specs.Views.{part_columns, column_of, children_of}
 use Rattle.ipc_column.proofs.Cells.{items_more}
@@ -105,14 +105,14 @@ values_alone c cs i a =
     ap (λ (x : Value). cond (is_valid c.validity i) x v.Null)
     (value_alone c.layout [] c.dictionary (row none) (row cs) c.offsets c.values i a)
 
-items_same : (f g : ℕ → Value) (i n : ℕ) → ((k : ℕ) → f k ≡ g k) → items f i n ≡ items g i n
+items_same : (f g : ℕ → Value) (i n : ℕ) → ((k : ℕ) → f k ≡ g k) → values_from f i n ≡ values_from g i n
 items_same f g i zero e = refl
 items_same f g i (suc n) e = rw (e i, items_same f g (i + 1) n e) refl
 
 -- ---- the one column of some parts
 
 -- the values of one column, row by row
-firsts : (c : Column) (cs : Columns) (n : ℕ) → map first_of (rows_of (column c cs none) n) ≡ items (value_of (row cs) c) 0 n
+firsts : (c : Column) (cs : Columns) (n : ℕ) → map first_of (rows_of (column c cs none) n) ≡ values_from (value_of (row cs) c) 0 n
 firsts c cs zero = refl
 firsts c cs (suc n) =
     let f = value_of (row cs) c in
@@ -120,7 +120,7 @@ firsts c cs (suc n) =
     let z : 0 + n ≡ n = omega arith in
     map-append first_of (rows_of (column c cs none) n) (row (column c cs none) n ∷ [])
     ∙ (ap (λ (vs : List Value). vs ++ f n ∷ []) (firsts c cs n)
-    ∙ sym (ap (λ (k : ℕ). items f 0 k) e ∙ (items_more f 0 n ∙ ap (λ (k : ℕ). items f 0 n ++ f k ∷ []) z)))
+    ∙ sym (ap (λ (k : ℕ). values_from f 0 k) e ∙ (items_more f 0 n ∙ ap (λ (k : ℕ). values_from f 0 n ++ f k ∷ []) z)))
 
 one_part : (body : List ℕ) (ps : List ColumnRanges) (p : ColumnRanges) → AreAlone (part_columns body ps) → p ≡ get_or ps 0 p
     → (ps ≡ p ∷ []) × (has_no_children (column_of body p).layout ≡ true)
@@ -178,7 +178,7 @@ module _ (body : List ℕ) (ps : List ColumnRanges) (n : ℕ) (p : ColumnRanges)
       subst (λ (c : Column). values_in (alone_of c) none ≡ map first_of (rows_of (part_columns body ps) n)) (column_is body p)
       (items_same (value_of (row none) (alone_of (column_of body p))) (value_of (row (children_of body p)) (column_of body p)) 0
       (column_of body p).slots (λ i. values_alone (column_of body p) (children_of body p) i (one_part body ps p alone is).1)
-      ∙ (ap (λ (k : ℕ). items (value_of (row (children_of body p)) (column_of body p)) 0 k)
+      ∙ (ap (λ (k : ℕ). values_from (value_of (row (children_of body p)) (column_of body p)) 0 k)
       (column_slots body ps n 0 p (some_part body ps alone) is holds)
       ∙ (sym (firsts (column_of body p) (children_of body p) n)
       ∙ sym (ap (λ (qs : List ColumnRanges). map first_of (rows_of (part_columns body qs) n)) (one_part body ps p alone is).0))))

@@ -8,7 +8,7 @@ use Rattle.std.proofs.lemmas.Option.{get_or_from_slice_get}
 use Rattle.ipc_model.specs.declared.value.Value.{Value}
 use Rattle.ipc_column.specs.declared.ranges.ColumnRanges.{ColumnRanges}
 use Rattle.ipc_column.specs.Columns.{Columns}
-use Rattle.ipc_column.specs.Values.{row, rows_of, value_of, items}
+use Rattle.ipc_column.specs.Values.{row, rows_of, value_of, values_from}
 use Rattle.ipc_column.specs.Views.{part_columns, column_of, children_of}
 use Rattle.std.proofs.Math.ListN.{get_or-append}
 use Rattle.std.proofs.Math.Seq.{get_or-append_seam}
@@ -64,9 +64,9 @@ pub row_is : (cs : Columns) (n i : ℕ) (rs : List (List Value)) → rows_of cs 
 row_is cs n i rs e h = subst (λ (x : List (List Value)). slice_index_or x i [] ≡ row cs i) e (rows_at cs n i [] (row_in cs n i rs e h))
 
 -- one value more of those of a range of slots
-pub items_more : (f : ℕ → Value) (i n : ℕ) → items f i (n + 1) ≡ items f i n ++ f (i + n) ∷ []
+pub items_more : (f : ℕ → Value) (i n : ℕ) → values_from f i (n + 1) ≡ values_from f i n ++ f (i + n) ∷ []
 items_more f i zero = let e : i + 0 ≡ i = omega arith in rw e refl
 items_more f i (suc n) =
     let e : i + 1 + n ≡ i + suc n = omega arith in
     let m : suc n + 1 ≡ suc (n + 1) = omega arith in
-    rw m (ap (λ (vs : List Value). f i ∷ vs) (items_more f (i + 1) n ∙ ap (λ (k : ℕ). items f (i + 1) n ++ f k ∷ []) e))
+    rw m (ap (λ (vs : List Value). f i ∷ vs) (items_more f (i + 1) n ∙ ap (λ (k : ℕ). values_from f (i + 1) n ++ f k ∷ []) e))

@@ -4,10 +4,10 @@ use Rattle.ipc_model.specs.Entries.{Entry, Listing, preorder, preorder_step, all
 use Rattle.ipc_model.specs.declared.schema.Field.{Field, roll-Field, ind-Field, fold-roll-Field, map-Field}
 use Rattle.ipc_model.specs.declared.schema.Field.TheOpen.{Field-F}
 use Rattle.ipc_model.specs.declared.layout.Layout.{Layout}
-use Rattle.ipc_column.specs.Shapes.{Shape, shape_of, field_step, field_children, node_count}
+use Rattle.ipc_column.specs.Shapes.{Shape, shape_of, shape_step, child_shape, node_count}
 
 abbrev IsCounted : Field → Type 0
-IsCounted f = (d : ℕ) → 1 + node_count (field_children f) ≡ length (preorder f d)
+IsCounted f = (d : ℕ) → 1 + node_count (child_shape f) ≡ length (preorder f d)
 
 abbrev Counted : Type 0
 Counted = (f : Field) × IsCounted f
@@ -26,8 +26,8 @@ counted_step y = λ d.
     let z : Field-F Field = map-Field Counted Field (λ c. c.0) y in
     let list : preorder (roll-Field z) d ≡ preorder_step (map-Field Field Listing preorder z) d =
     subst (λ (l : Listing). preorder (roll-Field z) d ≡ l d) (fold-roll-Field Listing preorder_step z) refl in
-    let shape : field_children (roll-Field z) ≡ shape_of z.children =
-    ap (λ (s : Layout × Shape). s.1) (fold-roll-Field (Layout × Shape) field_step z) in
+    let shape : child_shape (roll-Field z) ≡ shape_of z.children =
+    ap (λ (s : Layout × Shape). s.1) (fold-roll-Field (Layout × Shape) shape_step z) in
     omega (arith, ap node_count shape, ap (λ (l : List Entry). length l) list, all_counted y.children (d + 1))
 
 counted : (f : Field) → IsCounted f

@@ -11,7 +11,7 @@ use Rattle.ipc_model.specs.Layouts.{own_buffers}
 use Rattle.ipc_column.specs.Columns.{Columns, none, column, body_range}
 use Rattle.ipc_column.specs.Dictionaries.{Dictionaries}
 use Rattle.ipc_column.specs.Views.{part_columns, column_of, children_of}
-use Rattle.ipc_column.specs.Shapes.{Shape, bare, field, shape_of, field_step, field_layout, field_children, node_count, buffer_count}
+use Rattle.ipc_column.specs.Shapes.{Shape, bare, field, shape_of, shape_step, field_layout, child_shape, node_count, buffer_count}
 use Rattle.ipc_column.specs.Shapes.{assigned_columns}
 use Rattle.ipc_column.specs.Shapes.{column_at}
 
@@ -21,24 +21,24 @@ beside none after = after
 beside (column c children rest) after = column c children (beside rest after)
 
 -- the shape below a field is that of its children
-pub children_out : (f : Field) → field_children f ≡ shape_of (out-Field f).children
-children_out f = ap (λ (v : Layout × Shape). v.1) (fold_out-Field (Layout × Shape) field_step f)
+pub children_out : (f : Field) → child_shape f ≡ shape_of (out-Field f).children
+children_out f = ap (λ (v : Layout × Shape). v.1) (fold_out-Field (Layout × Shape) shape_step f)
 
 -- the fields from one on
 pub shape_from : (fs : List Field) (i : ℕ) (f : Field) → i < length fs → f ≡ get_or fs i f
-    → shape_of (drop i fs) ≡ field (field_layout f) (field_children f) (shape_of (drop (i + 1) fs))
+    → shape_of (drop i fs) ≡ field (field_layout f) (child_shape f) (shape_of (drop (i + 1) fs))
 shape_from fs i f h e = rw (drop-cons fs i f) (rw (← e, add-one) refl)
 
 -- the nodes of the fields from one on are its own, those below it and those of the fields behind it
 pub nodes_from : (fs : List Field) (i : ℕ) (f : Field) → i < length fs → f ≡ get_or fs i f
-    → node_count (shape_of (drop i fs)) ≡ 1 + node_count (field_children f) + node_count (shape_of (drop (i + 1) fs))
+    → node_count (shape_of (drop i fs)) ≡ 1 + node_count (child_shape f) + node_count (shape_of (drop (i + 1) fs))
 unfolding node_count
 nodes_from fs i f h e = rw (shape_from fs i f h e) refl
 
 -- the buffers of the fields from one on are its own, those below it and those of the fields behind it
 pub buffers_from : (fs : List Field) (i : ℕ) (f : Field) → i < length fs → f ≡ get_or fs i f
     → buffer_count (shape_of (drop i fs))
-    ≡ own_buffers (field_layout f) + buffer_count (field_children f) + buffer_count (shape_of (drop (i + 1) fs))
+    ≡ own_buffers (field_layout f) + buffer_count (child_shape f) + buffer_count (shape_of (drop (i + 1) fs))
 unfolding buffer_count
 buffers_from fs i f h e = rw (shape_from fs i f h e) refl
 
@@ -72,9 +72,9 @@ beside_none (column c children rest) = ap (λ (ds : Columns). column c children 
 pub cut_from : (m : Dictionaries) (fs : List Field) (i : ℕ) (f : Field) (h : BatchHead) (body : List ℕ) (n b : ℕ) → i < length fs
     → f ≡ get_or fs i f
     → assigned_columns m (shape_of (drop i fs)) h body n b ≡ column (column_at m (field_layout f) h body n b)
-    (assigned_columns m (field_children f) h body (n + 1) (b + own_buffers (field_layout f)))
-    (assigned_columns m (shape_of (drop (i + 1) fs)) h body (n + 1 + node_count (field_children f))
-    (b + own_buffers (field_layout f) + buffer_count (field_children f)))
+    (assigned_columns m (child_shape f) h body (n + 1) (b + own_buffers (field_layout f)))
+    (assigned_columns m (shape_of (drop (i + 1) fs)) h body (n + 1 + node_count (child_shape f))
+    (b + own_buffers (field_layout f) + buffer_count (child_shape f)))
 unfolding assigned_columns
 cut_from m fs i f h body n b l e = rw (shape_from fs i f l e) refl
 
@@ -88,8 +88,8 @@ cut_done m fs i h body n b l = rw (drop_all i fs l) refl
 pub cut_step : (d : Dictionaries) (fs : List Field) (i : ℕ) (f : Field) (h : BatchHead) (body : List ℕ) (ps : List ColumnRanges)
     (p : ColumnRanges) (n b m k : ℕ) (all : Columns) → i < length fs → f ≡ get_or fs i f
     → column_of body p ≡ column_at d (field_layout f) h body n b
-    → children_of body p ≡ assigned_columns d (field_children f) h body (n + 1) (b + own_buffers (field_layout f))
-    → m ≡ n + 1 + node_count (field_children f) → k ≡ b + own_buffers (field_layout f) + buffer_count (field_children f)
+    → children_of body p ≡ assigned_columns d (child_shape f) h body (n + 1) (b + own_buffers (field_layout f))
+    → m ≡ n + 1 + node_count (child_shape f) → k ≡ b + own_buffers (field_layout f) + buffer_count (child_shape f)
     → beside (part_columns body ps) (assigned_columns d (shape_of (drop i fs)) h body n b) ≡ all
     → beside (part_columns body (ps ++ p ∷ [])) (assigned_columns d (shape_of (drop (i + 1) fs)) h body m k) ≡ all
 cut_step d fs i f h body ps p n b m k all l e ec ek em ed before =

@@ -9,7 +9,7 @@ use Rattle.ipc_column.specs.declared.ranges.ColumnRanges.TheViews.{out-ColumnRan
 use Rattle.ipc_column.specs.Columns.{Column, Columns}
 use Rattle.ipc_column.specs.checks.Checks.{passes, top_passes, PassTests}
 use Rattle.ipc_column.specs.Lent.{HoldSlots, AreOfColumn, column_of_buffers, without_null_count, values_in}
-use Rattle.ipc_column.specs.Values.{row, rows_of, value_of, items}
+use Rattle.ipc_column.specs.Values.{row, rows_of, value_of, values_from}
 use Rattle.ipc_column.specs.Views.{part_columns, column_of, children_of}
 use Rattle.ipc_column.specs.Spans.{span_bytes}
 use Rattle.ipc_column.proofs.Cells.{row_cell, rows_at, rows_length}
@@ -20,7 +20,7 @@ from_zero : (i : ℕ) → 0 + i ≡ i
 from_zero i = omega arith
 
 -- the values of slots from the first on
-pub items_first : (f : ℕ → Value) (n k : ℕ) → k < n → slice_get (items f 0 n) k ≡ Some (f k)
+pub items_first : (f : ℕ → Value) (n k : ℕ) → k < n → slice_get (values_from f 0 n) k ≡ Some (f k)
 items_first f n k l = items_at f 0 n k l ∙ ap (λ (j : ℕ). Some (f j)) (from_zero k)
 
 -- a column of parts that give n rows has n slots

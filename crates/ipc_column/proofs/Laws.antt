@@ -21,6 +21,7 @@ use Rattle.ipc_column.specs.Rows.{Rows, RefusesParts, IsOneList, HasCounts, HasP
 use Rattle.ipc_column.specs.Dictionaries.{Dictionaries}
 use Rattle.ipc_column.proofs.Cells.{rows_length, rows_at}
 use Rattle.ipc_column.proofs.Rules.{decides, length_is, of_nodes, of_ranges, of_slot_count, every_top_true, nothing_asked}
+use Rattle.ipc_column.proofs.Rules.{counts_long, counts_whole, order_long, order_whole}
 use Rattle.ipc_model.specs.declared.limits.Limits.{Limits}
 
 -- the rows of columns, by index
@@ -36,14 +37,16 @@ pub rows_from : {limits : Limits} → (m : Dictionaries) (fields : List Field) (
     → Passing limits m (shape_of fields) head body rows → Rows limits m fields head body rows
 rows_from {limits} m fields head body rows p =
     let lengths = (decides limits fault.BadNode m fields head body).0 (p.sound fault.BadNode) in
+    let bytes = (decides limits fault.BufferTooShort m fields head body).0 (p.sound fault.BufferTooShort) in
+    let cs = field_columns m fields head body in
     record {
       nodes = (decides limits fault.WrongNodeCount m fields head body).0 (p.sound fault.WrongNodeCount);
       buffers = (decides limits fault.WrongBufferCount m fields head body).0 (p.sound fault.WrongBufferCount);
       lengths = lengths;
       ranges = (decides limits fault.BufferOutOfBody m fields head body).0 (p.sound fault.BufferOutOfBody);
-      bytes = (decides limits fault.BufferTooShort m fields head body).0 (p.sound fault.BufferTooShort);
-      null_counts = (decides limits fault.BadNullCount m fields head body).0 (p.sound fault.BadNullCount);
-      order = (decides limits fault.BadOffsets m fields head body).0 (p.sound fault.BadOffsets);
+      bytes = bytes;
+      null_counts = counts_long cs bytes ((decides limits fault.BadNullCount m fields head body).0 (p.sound fault.BadNullCount));
+      order = order_long cs bytes ((decides limits fault.BadOffsets m fields head body).0 (p.sound fault.BadOffsets));
       texts = (decides limits fault.ValueNotUtf8 m fields head body).0 (p.sound fault.ValueNotUtf8);
       indices = (decides limits fault.BadIndex m fields head body).0 (p.sound fault.BadIndex);
       count = length_is head.length lengths.batch
@@ -105,22 +108,24 @@ refuses_from limits fault.BadNullCount m fields head body r =
     (has_parts fields head body r.0, not_from_Decides _ (decides limits fault.BadNullCount m fields head body) r.1)
 refuses_from limits fault.BadOffsets m fields head body r =
     (has_parts fields head body r.0, not_from_Decides _ (decides limits fault.BadOffsets m fields head body) r.1)
-refuses_from limits fault.ValueNotUtf8 m fields head body r = (
-  has_parts fields head body r.0,
-  (
-    (decides limits fault.BufferTooShort m fields head body).0 r.1.0,
-    (decides limits fault.BadOffsets m fields head body).0 r.1.1,
-    not_from_Decides _ (decides limits fault.ValueNotUtf8 m fields head body) r.1.2,
-  ),
-)
-refuses_from limits fault.BadIndex m fields head body r = (
-  has_parts fields head body r.0,
-  (
-    (decides limits fault.BufferTooShort m fields head body).0 r.1.0,
-    (decides limits fault.BadOffsets m fields head body).0 r.1.1,
-    not_from_Decides _ (decides limits fault.BadIndex m fields head body) r.1.2,
-  ),
-)
+refuses_from limits fault.ValueNotUtf8 m fields head body r =
+    let bytes = (decides limits fault.BufferTooShort m fields head body).0 r.1.0 in (
+      has_parts fields head body r.0,
+      (
+        bytes,
+        order_long (field_columns m fields head body) bytes ((decides limits fault.BadOffsets m fields head body).0 r.1.1),
+        not_from_Decides _ (decides limits fault.ValueNotUtf8 m fields head body) r.1.2,
+      ),
+    )
+refuses_from limits fault.BadIndex m fields head body r =
+    let bytes = (decides limits fault.BufferTooShort m fields head body).0 r.1.0 in (
+      has_parts fields head body r.0,
+      (
+        bytes,
+        order_long (field_columns m fields head body) bytes ((decides limits fault.BadOffsets m fields head body).0 r.1.1),
+        not_from_Decides _ (decides limits fault.BadIndex m fields head body) r.1.2,
+      ),
+    )
 refuses_from limits fault.OutOfMemory m fields head body r = tt
 refuses_from limits _ m fields head body r = absurd r
 
@@ -134,8 +139,8 @@ no_rows fault.WrongBufferCount m fields head body rows r w = absurd (r w.buffers
 no_rows fault.BadNode m fields head body rows r w = absurd (r.1 w.lengths)
 no_rows fault.BufferOutOfBody m fields head body rows r w = absurd (r.1 w.ranges)
 no_rows fault.BufferTooShort m fields head body rows r w = absurd (r.1 w.bytes)
-no_rows fault.BadNullCount m fields head body rows r w = absurd (r.1 w.null_counts)
-no_rows fault.BadOffsets m fields head body rows r w = absurd (r.1 w.order)
+no_rows fault.BadNullCount m fields head body rows r w = absurd (r.1 (counts_whole (field_columns m fields head body) w.null_counts))
+no_rows fault.BadOffsets m fields head body rows r w = absurd (r.1 (order_whole (field_columns m fields head body) w.order))
 no_rows fault.ValueNotUtf8 m fields head body rows r w = absurd (r.1.2 w.texts)
 no_rows fault.BadIndex m fields head body rows r w = absurd (r.1.2 w.indices)
 no_rows _ m fields head body rows r w = absurd r

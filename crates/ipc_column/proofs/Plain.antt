@@ -20,7 +20,7 @@ use Rattle.ipc_column.specs.checks.Checks.{holds_values}
 use Rattle.ipc_column.specs.Lent.{values_in}
 use Rattle.ipc_column.specs.Nested.{child_columns}
 use Rattle.ipc_column.specs.checks.Plain.{IsShownBy}
-use Rattle.ipc_column.specs.Values.{is_valid, items, own_value, row, signed_at, value_of}
+use Rattle.ipc_column.specs.Values.{is_valid, values_from, own_value, row, signed_at, value_of}
 use Rattle.ipc_column.proofs.lending.Widths.{slot_inside}
 
 -- ---- numbers
@@ -119,7 +119,7 @@ null_shown (l.Indices bits signed id) = tt
 
 -- a fact of each of several slots
 pub items_each : (P : Value → Type 0) (f : ℕ → Value) (i n : ℕ) → ((k : ℕ) → i ≤ k → k < i + n → P (f k))
-    → AllByRecursion P (items f i n)
+    → AllByRecursion P (values_from f i n)
 items_each P f i zero h = tt
 items_each P f i (suc n) h =
     (h i (omega arith) (omega arith), items_each P f (i + 1) n (λ k from to. h k (omega (arith, from)) (omega (arith, to))))

@@ -16,10 +16,9 @@ use Rattle.ipc_model.specs.declared.fault.Fault.{Fault}
 use Rattle.ipc_model.specs.declared.fault.Fault.TheVariants as fault
 use Rattle.ipc_column.specs.Columns.{Column, Columns, none, column, Each, EachTop, every, every_top}
 use Rattle.ipc_column.specs.Shapes.{shape_of, field_columns}
-use Rattle.ipc_column.specs.checks.Rules.{HasNodes, HasBuffers, HasLengths, HasRanges, HasBytes, HasNullCounts, HasOrder, HasTexts}
-use Rattle.ipc_column.specs.checks.Rules.{IsSlotCount}
+use Rattle.ipc_column.specs.checks.Rules.{HasNodes, HasBuffers, HasLengths, HasRanges, HasBytes, HasTexts, IsSlotCount}
 use Rattle.ipc_column.specs.checks.Rules.{IsFieldNode, IsWithinBody, HoldValues, HoldOffsets, IsLongEnough, CountsNulls, AreOffsets}
-use Rattle.ipc_column.specs.checks.Rules.{HasOffsets}
+use Rattle.ipc_column.specs.checks.Rules.{HasOffsets, HasWholeBitmap}
 use Rattle.ipc_column.specs.checks.Rules.{HasUtf8Texts, HasLongChildren, HoldsIndices, HasIndices}
 use Rattle.ipc_column.specs.Dictionaries.{Dictionaries}
 use Rattle.ipc_column.specs.checks.Checks.{is_slot_count, is_node, is_within_body, all, all_below, holds_values, holds_offsets}
@@ -126,10 +125,18 @@ of_nulls nulls (suc bytes) least clear =
     (Decides-like _ (λ f. (λ l m. f m, λ z. absurd (omega arith))) (λ h. h.0 (omega arith))
     (of_when _ _ (of_bound least (suc bytes)) (Decides-eqb nulls clear)))
 
-of_null_count : (c : Column) (children : Columns) → Decides (passes fault.BadNullCount c children) (CountsNulls c)
+-- the null count of a column whose bitmap is whole
+abbrev pub CountsIfWhole : Column → Columns → Type 0
+CountsIfWhole c children = HasWholeBitmap c → CountsNulls c
+
+of_null_count : (c : Column) (children : Columns) → Decides (passes fault.BadNullCount c children) (CountsIfWhole c children)
 of_null_count c children =
-    Decides-like (passes fault.BadNullCount c children) (λ f. record { with_bitmap = λ v. (f v).0; without_bitmap = λ v. (f v).1 })
-    (λ h v. (h.with_bitmap v, h.without_bitmap v))
+    Decides-like (passes fault.BadNullCount c children)
+    (λ f whole. record { with_bitmap = λ v some. (f v).0 some (whole some); without_bitmap = λ v. (f v).1 })
+    (λ h v. (
+      (λ some long. (h (λ _. long)).with_bitmap v some),
+      λ none. (h (λ some. absurd (omega (arith, some, none)))).without_bitmap v none,
+    ))
     (of_when (has_validity c.layout) _ (λ e. e, λ e. e) (of_nulls c.nulls (length c.validity) _ _))
 
 -- a number that isn't negative is its absolute value
@@ -200,10 +207,18 @@ of_lists o n cs = (
         of_each_top (λ c. nat_le (offset_position o n) c.slots) (λ c. offset o n ≤ℤ pos c.slots)
         (λ c. of_last (offset o n) c.slots (above o n n p.0 q.0 (omega arith))) cs
 
-pub of_order : (l : Layout) (n : ℕ) (o : List ℕ) (size : ℕ) (cs : Columns) → Decides (in_order l n o size cs) (HasOffsets l n o size cs)
-of_order (l.VariableBytes utf8) n o size cs = of_some n _ (of_when _ _ (of_bound (4 * (n + 1)) (length o)) (of_ascending o n size))
-of_order l.Lists n o size cs = of_some n _ (of_when _ _ (of_bound (4 * (n + 1)) (length o)) (of_lists o n cs))
-of_order _ n o size cs = (λ e. tt, λ h. refl)
+pub of_order : (l : Layout) (n : ℕ) (o : List ℕ) (size : ℕ) (cs : Columns)
+    → Decides (in_order l n o size cs) (HoldOffsets l n (length o) → HasOffsets l n o size cs)
+of_order (l.VariableBytes utf8) n o size cs = Decides-like _ (λ f whole some. f some (whole some)) (λ h some long. h (λ _. long) some)
+    (of_some n _ (of_when _ _ (of_bound (4 * (n + 1)) (length o)) (of_ascending o n size)))
+of_order l.Lists n o size cs = Decides-like _ (λ f whole some. f some (whole some)) (λ h some long. h (λ _. long) some)
+    (of_some n _ (of_when _ _ (of_bound (4 * (n + 1)) (length o)) (of_lists o n cs)))
+of_order _ n o size cs = (λ e whole. tt, λ h. refl)
+
+-- the offsets of a column that has all of them
+abbrev pub OrderIfWhole : Column → Columns → Type 0
+OrderIfWhole c children = HoldOffsets c.layout c.slots (length c.offsets)
+    → HasOffsets c.layout c.slots c.offsets (length c.values) children
 
 pub of_long : (l : Layout) (n : ℕ) (cs : Columns) → Decides (children_have_slots l n cs) (HasLongChildren l n cs)
 of_long l.Structs n cs = of_have_slots n cs
@@ -216,6 +231,30 @@ of_each : (test : Column → Columns → Bool) (P : Column → Columns → Type 
 of_each test P d none = (λ e. tt, λ h. refl)
 of_each test P d (column c children rest) = Decides-and _ _ (d c children) (Decides-and _ _ (of_each test P d children)
     (of_each test P d rest))
+
+-- what follows of each column, at every level
+each_from : (P Q R : Column → Columns → Type 0) → ((c : Column) (children : Columns) → P c children → Q c children → R c children)
+    → (cs : Columns) → Each P cs → Each Q cs → Each R cs
+each_from P Q R f none p q = tt
+each_from P Q R f (column c children rest) p q =
+    (f c children p.0 q.0, (each_from P Q R f children p.1.0 q.1.0, each_from P Q R f rest p.1.1 q.1.1))
+
+-- null counts and offsets are right where the buffers are long enough
+module _ (cs : Columns) where
+  pub counts_long : Each (λ c children. IsLongEnough c) cs → Each CountsIfWhole cs → Each (λ c children. CountsNulls c) cs
+  counts_long = each_from (λ c children. IsLongEnough c) CountsIfWhole (λ c children. CountsNulls c) (λ c children long h. h long.bitmap) cs
+
+  pub order_long : Each (λ c children. IsLongEnough c) cs → Each OrderIfWhole cs
+      → Each (λ c children. HasOffsets c.layout c.slots c.offsets (length c.values) children) cs
+  order_long = each_from (λ c children. IsLongEnough c) OrderIfWhole
+      (λ c children. HasOffsets c.layout c.slots c.offsets (length c.values) children) (λ c children long h. h long.offsets) cs
+
+  pub counts_whole : Each (λ c children. CountsNulls c) cs → Each CountsIfWhole cs
+  counts_whole h = each_from (λ c children. CountsNulls c) (λ c children. CountsNulls c) CountsIfWhole (λ c children h g whole. h) cs h h
+
+  pub order_whole : Each (λ c children. HasOffsets c.layout c.slots c.offsets (length c.values) children) cs → Each OrderIfWhole cs
+  order_whole h = each_from (λ c children. HasOffsets c.layout c.slots c.offsets (length c.values) children)
+      (λ c children. HasOffsets c.layout c.slots c.offsets (length c.values) children) OrderIfWhole (λ c children h g whole. h) cs h h
 
 -- ---- the parts
 
@@ -240,8 +279,8 @@ Asked limits fault.WrongBufferCount m fields head body = HasBuffers fields head
 Asked limits fault.BadNode m fields head body = HasLengths limits m fields head body
 Asked limits fault.BufferOutOfBody m fields head body = HasRanges head body
 Asked limits fault.BufferTooShort m fields head body = HasBytes m fields head body
-Asked limits fault.BadNullCount m fields head body = HasNullCounts m fields head body
-Asked limits fault.BadOffsets m fields head body = HasOrder m fields head body
+Asked limits fault.BadNullCount m fields head body = Each CountsIfWhole (field_columns m fields head body)
+Asked limits fault.BadOffsets m fields head body = Each OrderIfWhole (field_columns m fields head body)
 Asked limits fault.ValueNotUtf8 m fields head body = HasTexts m fields head body
 Asked limits fault.BadIndex m fields head body = HasIndices m fields head body
 Asked limits _ m fields head body = ⊤

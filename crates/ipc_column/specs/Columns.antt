@@ -46,7 +46,8 @@ abbrev pub forest : List (Column × Columns) → Columns
 forest [] = none
 forest (c ∷ cs) = column c.0 c.1 (forest cs)
 
--- `len` bytes of the body from a place on, or none if they pass its end
+-- the `len` bytes of the body from place `start` on. An impossible range, which passes the end, has
+-- no bytes; no batch has one, unless it is empty (`HasRanges`)
 unfoldable pub body_range : List ℕ → ℕ → ℕ → List ℕ
 body_range body start len = if nat_le (start + len) (length body) then slice_range body start
     (start + len) else []

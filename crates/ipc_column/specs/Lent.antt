@@ -9,7 +9,7 @@ use Rattle.ipc_column.specs.Columns.{Column, Columns, every}
 use Rattle.ipc_column.specs.checks.Checks.{passes, have_slots, good, good_slot}
 use Rattle.ipc_column.specs.checks.Checks.{has_bitmap, holds_values, holds_offsets, in_order}
 use Rattle.ipc_column.specs.checks.Checks.{children_have_slots}
-use Rattle.ipc_column.specs.Values.{Cells, items, value_of, row}
+use Rattle.ipc_column.specs.Values.{Cells, values_from, value_of, row}
 
 -- each column has the slots from `from` up to `to`, and its buffers have what its slots need
 pub record AreSlots (cs : Columns) (from to : ℕ) : Type 0 where
@@ -73,7 +73,7 @@ without_null_count c = column_of_buffers c.layout c.slots c.validity c.offsets c
 
 -- the values of all slots of a column with these children
 abbrev pub values_in : Column → Columns → Cells
-values_in c children = items (value_of (row children) c) 0 c.slots
+values_in c children = values_from (value_of (row children) c) 0 c.slots
 
 -- these are the values of one column of the rows, row by row
 pub record AreOfColumn (rows : List (List Value)) (column : ℕ) (values : List Value) : Type 0 where

@@ -22,12 +22,12 @@ shapes [] = bare
 shapes (f ∷ fs) = field f.0 f.1 (shapes fs)
 
 -- one field's layout and the shape of its children, given those of the children
-abbrev pub field_step : Field-F (Layout × Shape) → Layout × Shape
-field_step f = (layout f.kind f.dictionary, shapes f.children)
+abbrev pub shape_step : Field-F (Layout × Shape) → Layout × Shape
+shape_step f = (layout f.kind f.dictionary, shapes f.children)
 
 -- a field's layout, and the shape of its children
 abbrev pub field_shape : Field → Layout × Shape
-field_shape = fold-Field (Layout × Shape) field_step
+field_shape = fold-Field (Layout × Shape) shape_step
 
 -- the shape of these fields, children included
 abbrev pub shape_of : List Field → Shape
@@ -91,16 +91,16 @@ values_at l.Structs head body b = []
 
 -- the values into which a field's slots are indices: those in force for its dictionary's id; none
 -- for other layouts
-abbrev pub dictionary_at : Dictionaries → Layout → List Value
-dictionary_at m (l.Indices bits signed id) = values_for m id
-dictionary_at m l.Null = []
-dictionary_at m l.Bits = []
-dictionary_at m (l.Numbers bits signed) = []
-dictionary_at m (l.FixedBytes width) = []
-dictionary_at m (l.VariableBytes utf8) = []
-dictionary_at m l.Lists = []
-dictionary_at m (l.FixedLists size) = []
-dictionary_at m l.Structs = []
+abbrev pub dictionary_of : Dictionaries → Layout → List Value
+dictionary_of m (l.Indices bits signed id) = values_for m id
+dictionary_of m l.Null = []
+dictionary_of m l.Bits = []
+dictionary_of m (l.Numbers bits signed) = []
+dictionary_of m (l.FixedBytes width) = []
+dictionary_of m (l.VariableBytes utf8) = []
+dictionary_of m l.Lists = []
+dictionary_of m (l.FixedLists size) = []
+dictionary_of m l.Structs = []
 
 -- the column of a field whose node is n and whose first buffer is b
 abbrev pub column_at : Dictionaries → Layout → BatchHead → List ℕ → ℕ → ℕ → Column
@@ -111,7 +111,7 @@ column_at m l head body n b = record {
   validity = validity_at l head body b;
   offsets = offsets_at l head body b;
   values = values_at l head body b;
-  dictionary = dictionary_at m l;
+  dictionary = dictionary_of m l;
 }
 
 -- the columns of adjacent fields, in this order: a field's own node and buffers, then those of its
@@ -133,5 +133,5 @@ abbrev pub field_layout : Field → Layout
 field_layout f = (field_shape f).0
 
 -- the shape of a field's children
-abbrev pub field_children : Field → Shape
-field_children f = (field_shape f).1
+abbrev pub child_shape : Field → Shape
+child_shape f = (field_shape f).1

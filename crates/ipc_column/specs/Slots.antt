@@ -12,7 +12,7 @@ use Rattle.ipc_column.specs.declared.slot_view.Slot.TheVariants as slot
 use Rattle.ipc_column.specs.Columns.{Columns, EachTop}
 use Rattle.ipc_column.specs.Lent.{HaveValues, without_null_count}
 use Rattle.ipc_column.specs.Nested.{Nested}
-use Rattle.ipc_column.specs.Values.{items, first_of}
+use Rattle.ipc_column.specs.Values.{values_from, first_of}
 use Rattle.ipc_column.specs.Views.{column_of}
 
 -- the value of slot i, given `below`, the values of the children's slots: a list has those of its
@@ -24,7 +24,7 @@ value_in_slot below i (slot.Int number) = v.Int number
 value_in_slot below i (slot.UInt number) = v.UInt number
 value_in_slot below i (slot.Bytes bytes) = v.Bytes bytes.now
 value_in_slot below i (slot.Text bytes) = v.Text bytes.now
-value_in_slot below i (slot.List from to) = v.List (items (λ j. first_of (below j)) from
+value_in_slot below i (slot.List from to) = v.List (values_from (λ j. first_of (below j)) from
     (to - from))
 value_in_slot below i slot.Struct = v.Struct (below i)
 
@@ -62,15 +62,15 @@ RefersToValues children i (slot.Bytes bytes) = ⊤
 RefersToValues children i (slot.Text bytes) = is_utf8 bytes.now ≡ true
 
 -- the slot refers to no slot of a child, and its text is UTF-8
-abbrev pub IsLeaf : Slot → Type 0
-IsLeaf (slot.List from to) = ⊥
-IsLeaf slot.Struct = ⊥
-IsLeaf slot.Null = ⊤
-IsLeaf (slot.Bool truth) = ⊤
-IsLeaf (slot.Int number) = ⊤
-IsLeaf (slot.UInt number) = ⊤
-IsLeaf (slot.Bytes bytes) = ⊤
-IsLeaf (slot.Text bytes) = is_utf8 bytes.now ≡ true
+abbrev pub IsLeafSlot : Slot → Type 0
+IsLeafSlot (slot.List from to) = ⊥
+IsLeafSlot slot.Struct = ⊥
+IsLeafSlot slot.Null = ⊤
+IsLeafSlot (slot.Bool truth) = ⊤
+IsLeafSlot (slot.Int number) = ⊤
+IsLeafSlot (slot.UInt number) = ⊤
+IsLeafSlot (slot.Bytes bytes) = ⊤
+IsLeafSlot (slot.Text bytes) = is_utf8 bytes.now ≡ true
 
 -- the column of a part, over the body, with its children
 abbrev pub nested : List ℕ → ColumnRanges → Nested

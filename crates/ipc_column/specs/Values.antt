@@ -78,9 +78,9 @@ first_of [] = v.Null
 first_of (value ∷ values) = value
 
 -- the values of n slots from slot i on
-abbrev pub items : (ℕ → Value) → ℕ → ℕ → List Value
-items value i zero = []
-items value i (suc n) = value i ∷ items value (i + 1) n
+abbrev pub values_from : (ℕ → Value) → ℕ → ℕ → List Value
+values_from value i zero = []
+values_from value i (suc n) = value i ∷ values_from value (i + 1) n
 
 -- the value in valid slot i, given `below`, the values of the children's slots
 -- (Arrow Columnar Format, "Null Layout", "Fixed-size Primitive Layout", "Variable-size Binary
@@ -100,10 +100,10 @@ own_value (l.VariableBytes true) dictionary below offsets values i =
 own_value (l.VariableBytes false) dictionary below offsets values i =
     v.Bytes (between offsets values i)
 own_value l.Lists dictionary below offsets values i =
-    v.List (items (λ j. first_of (below j)) (offset_position offsets i)
+    v.List (values_from (λ j. first_of (below j)) (offset_position offsets i)
     (offset_position offsets (i + 1) - offset_position offsets i))
 own_value (l.FixedLists size) dictionary below offsets values i =
-    v.List (items (λ j. first_of (below j)) (size * i) size)
+    v.List (values_from (λ j. first_of (below j)) (size * i) size)
 own_value l.Structs dictionary below offsets values i = v.Struct (below i)
 own_value (l.Indices bits signed id) dictionary below offsets values i =
     value_at dictionary (number_in bits signed values i)

@@ -24,20 +24,20 @@ part_step body p = (
 )
 
 -- a part's column, and those of its children
-abbrev pub view : List ℕ → ColumnRanges → Column × Columns
-view body = fold-ColumnRanges (Column × Columns) (part_step body)
+abbrev pub part_view : List ℕ → ColumnRanges → Column × Columns
+part_view body = fold-ColumnRanges (Column × Columns) (part_step body)
 
 -- the columns of parts
 abbrev pub part_columns : List ℕ → List ColumnRanges → Columns
-part_columns body ps = forest (map (view body) ps)
+part_columns body ps = forest (map (part_view body) ps)
 
 -- the column of a part, without its children
 abbrev pub column_of : List ℕ → ColumnRanges → Column
-column_of body p = (view body p).0
+column_of body p = (part_view body p).0
 
 -- the columns of a part's children
 abbrev pub children_of : List ℕ → ColumnRanges → Columns
-children_of body p = (view body p).1
+children_of body p = (part_view body p).1
 
 -- the column of a part with its children, as the only one of a list
 abbrev pub one : List ℕ → ColumnRanges → Columns

@@ -1,8 +1,8 @@
 ghost use Rattle.std.specs.Prelude.{◌≡◌, ◌≤◌, ◌<◌, ◌+◌, ◌^◌, ℕ, List, length, IfOk};
 ghost use Rattle.ipc_model.specs.Layouts.{own_buffers};
-ghost use Rattle.ipc_column.specs.Shapes.{assigned_columns, shape_of, field_layout, field_children};
+ghost use Rattle.ipc_column.specs.Shapes.{assigned_columns, shape_of, field_layout, child_shape};
 ghost use Rattle.ipc_column.specs.Shapes.{node_count, buffer_count, column_at, buffer_at};
-ghost use Rattle.ipc_column.specs.Shapes.{validity_at, dictionary_at, offsets_at, values_at};
+ghost use Rattle.ipc_column.specs.Shapes.{validity_at, dictionary_of, offsets_at, values_at};
 ghost use Rattle.ipc_column.specs.DictionaryBatches.{AreDictionaries, dictionaries_in};
 ghost use Rattle.ipc_column.specs.Dictionaries.{values_for};
 ghost use Rattle.ipc_column.specs.Views.{part_columns, column_of, children_of};
@@ -29,13 +29,13 @@ pub struct Cursor {
 // What a field needs, children included, beside what others need before it.
 #[cycle(count)]
 fn count_field(field: &Field, before: Cursor) -> Cursor
-    requires nodes { before.node + (1 + node_count (field_children field.now)) < 2 ^ 60 }
+    requires nodes { before.node + (1 + node_count (child_shape field.now)) < 2 ^ 60 }
     requires buffers { before.buffer
-        + (own_buffers (field_layout field.now) + buffer_count (field_children field.now))
+        + (own_buffers (field_layout field.now) + buffer_count (child_shape field.now))
         < 2 ^ 60 }
-    ensures nodes { result.node ≡ before.node + 1 + node_count (field_children field.now) }
+    ensures nodes { result.node ≡ before.node + 1 + node_count (child_shape field.now) }
     ensures buffers { result.buffer ≡ before.buffer + own_buffers (field_layout field.now)
-        + buffer_count (field_children field.now) }
+        + buffer_count (child_shape field.now) }
 {
     let below = Cursor {
         node: before.node + 1,
@@ -117,7 +117,7 @@ fn dictionary_of(
 ) -> Result<DictionaryValues, AllocError>
     requires { AreDictionaries dictionaries.now }
     ensures { IfOk result (λ values. values
-        ≡ dictionary_at (dictionaries_in dictionaries.now) layout) }
+        ≡ dictionary_of (dictionaries_in dictionaries.now) layout) }
 {
     match layout {
         Layout::Indices { id, .. } => values_for(id, dictionaries),
@@ -149,9 +149,9 @@ fn assign_field(
     at: Cursor,
 ) -> Result<(ColumnRanges, Cursor), AllocError>
     requires dictionaries { AreDictionaries dictionaries.now }
-    requires nodes { at.node + (1 + node_count (field_children field.now)) ≤ length head.now.nodes }
+    requires nodes { at.node + (1 + node_count (child_shape field.now)) ≤ length head.now.nodes }
     requires buffers { at.buffer + (own_buffers (field_layout field.now)
-        + buffer_count (field_children field.now)) ≤ length head.now.buffers }
+        + buffer_count (child_shape field.now)) ≤ length head.now.buffers }
     requires few_nodes { length head.now.nodes < 2 ^ 60 }
     requires few_buffers { length head.now.buffers < 2 ^ 60 }
     ensures column { IfOk result (λ r. (body : List ℕ)
@@ -159,14 +159,14 @@ fn assign_field(
         head.now body at.node at.buffer) }
     ensures children { IfOk result (λ r. (body : List ℕ)
         → children_of body r.0 ≡ assigned_columns (dictionaries_in dictionaries.now)
-        (field_children field.now)
+        (child_shape field.now)
         head.now body (at.node + 1)
         (at.buffer + own_buffers (field_layout field.now))) }
     ensures node { IfOk result (λ r. r.1.node ≡ at.node + 1
-        + node_count (field_children field.now)) }
+        + node_count (child_shape field.now)) }
     ensures buffer { IfOk result (λ r. r.1.buffer
         ≡ at.buffer + own_buffers (field_layout field.now)
-        + buffer_count (field_children field.now)) }
+        + buffer_count (child_shape field.now)) }
 {
     let layout = layout_of(&field.kind, field.dictionary);
     let (slots, nulls) = head.nodes.as_slice()[at.node];

@@ -5,14 +5,12 @@ ghost use Rattle.ipc_model.specs.declared.value.Value.{Value};
 ghost use Rattle.ipc_model.specs.Entries.{entries};
 ghost use Rattle.ipc_column.specs.Contents.{layouts};
 ghost use Rattle.ipc_column.specs.Nested.{only_column, found_columns, slot_values, with_children};
-ghost use Rattle.ipc_column.specs.checks.Rules.{HasUtf8Texts, visits_in, slots_in};
-ghost use Rattle.ipc_column.specs.Shapes.{shape_of, node_count, field_columns, assigned_columns};
-ghost use Rattle.ipc_column.specs.Shapes.{field_layout};
+ghost use Rattle.ipc_column.specs.checks.Rules.{HasUtf8Texts, visits_in, total_slots};
+ghost use Rattle.ipc_column.specs.Shapes.{field_columns, field_layout};
 ghost use Rattle.ipc_column.specs.Rows.{Rows, RefusesParts, IsOneList};
 ghost use Rattle.ipc_column.specs.DictionaryBatches.{AreDictionaries, IsDictionary};
 ghost use Rattle.ipc_column.specs.DictionaryBatches.{dictionaries_in, dictionary_values};
 ghost use Rattle.ipc_column.specs.Sharing.{contents_of, HasRows};
-ghost use Rattle.ipc_column.specs.checks.Checks.{Passing, Failing};
 ghost use Rattle.ipc_column.specs.Lent.{AreOfColumn};
 ghost use Rattle.ipc_column.specs.Cells.{cell_value};
 
@@ -148,7 +146,7 @@ impl Batch {
         ensures visits { IfOk result
             (λ batch. batch.tests ≤ visits_in (field_columns (dictionaries_in dictionaries.now)
             fields.now head body.items)) }
-        ensures tests { IfOk result (λ batch. batch.tests ≤ slots_in head.nodes) }
+        ensures tests { IfOk result (λ batch. batch.tests ≤ total_slots head.nodes) }
     {
         check_head(limits, fields, &head, body.len())?;
         let start = Cursor { node: 0, buffer: 0 };

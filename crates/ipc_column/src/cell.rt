@@ -4,7 +4,7 @@ ghost use Rattle.ipc_column.specs.Cells.{cell_value};
 ghost use Rattle.ipc_column.specs.checks.Checks.{PassTests};
 ghost use Rattle.ipc_column.specs.Lent.{HaveValues, HasValue};
 ghost use Rattle.ipc_column.specs.Slots.{RefersToValues, value_in_slot};
-ghost use Rattle.ipc_column.specs.Values.{value_of, row, items, first_at};
+ghost use Rattle.ipc_column.specs.Values.{value_of, row, values_from, first_at};
 ghost use Rattle.ipc_column.specs.Views.{part_columns, column_of, children_of};
 
 use crate::cell_iter::{ListIter, StructIter, list_iter, struct_iter};
@@ -54,10 +54,10 @@ impl<'a> Model for ListCell<'a> {
     ghost coded = { Prim.hlevel (codes, value.the_row.coded) };
 
     ghost use Rattle.ipc_column.specs.Lent.{HaveValues};
-    ghost use Rattle.ipc_column.specs.Values.{items, first_at};
+    ghost use Rattle.ipc_column.specs.Values.{values_from, first_at};
     ghost use Rattle.ipc_column.specs.Views.{part_columns};
 
-    ghost view = { λ s. items (first_at (part_columns s.body.now s.parts.now)) s.from
+    ghost view = { λ s. values_from (first_at (part_columns s.body.now s.parts.now)) s.from
         (s.to - s.from) };
 
     ghost invariant = { λ s. HaveValues (part_columns s.body.now s.parts.now) s.from s.to };
@@ -140,7 +140,7 @@ impl<'a> StructCell<'a> {
         requires { i < length self.now }
         ensures { slice_get self.now i ≡ Some (cell_value result) }
     {
-        value_at(self.body, self.parts, self.slot, i)
+        member_at(self.body, self.parts, self.slot, i)
     }
 
     /// Returns an iterator over the values, one for each child in order, each lent by the batch.
@@ -164,7 +164,7 @@ impl<'a> StructCell<'a> {
 // The values of a range of slots of the first of the parts.
 fn list_of<'a>(body: &'a [u8], parts: &'a [ColumnRanges], from: usize, to: usize) -> ListCell<'a>
     requires { HaveValues (part_columns body.now parts.now) from to }
-    ensures { result ≡ items (first_at (part_columns body.now parts.now)) from (to - from) }
+    ensures { result ≡ values_from (first_at (part_columns body.now parts.now)) from (to - from) }
 {
     ListCell {
         body,
@@ -237,8 +237,8 @@ pub(crate) fn item_at<'a>(
 ) -> Cell<'a>
     requires range { HaveValues (part_columns body.now parts.now) from to }
     requires inside { i < to - from }
-    ensures { slice_get (items (first_at (part_columns body.now parts.now)) from (to - from)) i
-        ≡ Some (cell_value result) }
+    ensures { slice_get (values_from (first_at (part_columns body.now parts.now)) from (to - from))
+        i ≡ Some (cell_value result) }
 {
     if parts.is_empty() {
         Cell::Null
@@ -247,9 +247,9 @@ pub(crate) fn item_at<'a>(
     }
 }
 
-// What a slot of part `i` holds.
+// The value in a slot of part `i`.
 #[inline(always)]
-fn value_at<'a>(body: &'a [u8], parts: &'a [ColumnRanges], slot: usize, i: usize) -> Cell<'a>
+fn member_at<'a>(body: &'a [u8], parts: &'a [ColumnRanges], slot: usize, i: usize) -> Cell<'a>
     requires values { HaveValues (part_columns body.now parts.now) slot (slot + 1) }
     requires inside { i < length parts.now }
     ensures { slice_get (row (part_columns body.now parts.now) slot) i ≡ Some (cell_value result) }
@@ -272,5 +272,5 @@ pub(crate) fn cell_in<'a>(
     ensures { slice_get (row (part_columns body.now parts.now) at) column
         ≡ Some (cell_value result) }
 {
-    value_at(body, parts, at, column)
+    member_at(body, parts, at, column)
 }

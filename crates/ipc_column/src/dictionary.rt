@@ -3,7 +3,7 @@ ghost use Rattle.std.specs.Prelude.{◌≡◌, ◌<◌, ◌≤◌, ◌+◌, ◌*
 ghost use Rattle.std.specs.Prelude.{IsTrue, Some, slice_get, IfSome, IfNone};
 ghost use Rattle.ipc_model.specs.Layouts.{number_bytes};
 ghost use Rattle.ipc_model.specs.declared.value.Value.{Value};
-ghost use Rattle.ipc_column.specs.Slots.{IsLeaf, value_in_slot};
+ghost use Rattle.ipc_column.specs.Slots.{IsLeafSlot, value_in_slot};
 ghost use Rattle.ipc_column.specs.checks.Checks.{PassTests};
 ghost use Rattle.ipc_column.specs.Columns.{none};
 ghost use Rattle.ipc_column.specs.Dictionaries.{has_no_children};
@@ -82,7 +82,7 @@ impl DictionaryValues {
         ensures none { IfNone result (self.now ≡ []) }
     {
         match &self.leaf {
-            Some(leaf) => Some(slots_of(leaf)),
+            Some(leaf) => Some(leaf_view(leaf)),
             None => None,
         }
     }
@@ -92,17 +92,17 @@ impl DictionaryValues {
         requires { i < length self.now }
         ensures value { (below : ℕ → List Value) (k : ℕ)
             → slice_get self.now i ≡ Some (value_in_slot below k result) }
-        ensures leaf { IsLeaf result }
+        ensures leaf { IsLeafSlot result }
     {
         match &self.leaf {
             Some(leaf) => slot_in(leaf, i),
-            None => Slot::Null,
+            None => unreachable!(),
         }
     }
 }
 
 // The slots of a column without children or dictionary.
-fn slots_of(leaf: &Leaf) -> SlotView<'_>
+fn leaf_view(leaf: &Leaf) -> SlotView<'_>
     requires { IsLeafColumn leaf.now }
     ensures values { slot_values result ≡ values_in (leaf_column leaf.now) none }
     ensures alone { result.column.dictionary ≡ [] }
@@ -123,7 +123,7 @@ fn slot_in(leaf: &Leaf, slot: usize) -> Slot<'_>
     requires slot { slot < leaf.now.slots }
     ensures value { (below : ℕ → List Value) (k : ℕ)
         → value_in_slot below k result ≡ value_of (row none) (leaf_column leaf.now) slot }
-    ensures leaf { IsLeaf result }
+    ensures leaf { IsLeafSlot result }
 {
     let body = leaf.body.as_slice();
     if !is_valid(bytes_at(body, leaf.validity), slot) {
@@ -161,7 +161,7 @@ pub(crate) fn indexed_slot<'a>(
     requires { number_bytes bits * (slot + 1) ≤ length indices.now }
     ensures value { (below : ℕ → List Value) (k : ℕ) → value_in_slot below k result
         ≡ value_at (values_or_none dictionary.entry) (number_in bits signed indices.now slot) }
-    ensures leaf { IsLeaf result }
+    ensures leaf { IsLeafSlot result }
 {
     let Some(dictionary) = dictionary else {
         return Slot::Null;

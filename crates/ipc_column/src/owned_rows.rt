@@ -1,7 +1,7 @@
 ghost use Rattle.std.specs.Prelude.{◌≡◌, ◌<◌, ◌+◌, ◌-◌, length, IfOk, OnOk, Some, slice_get};
 ghost use Rattle.ipc_column.specs.checks.Checks.{PassTests};
 ghost use Rattle.ipc_column.specs.Lent.{HaveValues, HasValue};
-ghost use Rattle.ipc_column.specs.Values.{row, rows_of, value_of, items, first_at};
+ghost use Rattle.ipc_column.specs.Values.{row, rows_of, value_of, values_from, first_at};
 ghost use Rattle.ipc_column.specs.Views.{part_columns, column_of, children_of};
 
 use crate::cell::held_at;
@@ -70,8 +70,8 @@ fn read_items(
     to: usize,
 ) -> Result<Items<Value>, AllocError>
     requires { HaveValues (part_columns body.now parts.now) from to }
-    ensures { IfOk result
-        (λ values. values ≡ items (first_at (part_columns body.now parts.now)) from (to - from)) }
+    ensures { IfOk result (λ values. values
+        ≡ values_from (first_at (part_columns body.now parts.now)) from (to - from)) }
 {
     let mut values = Vec::with_capacity(alloc, to - from)?;
     for at in 0..to - from {

@@ -20,7 +20,7 @@ ghost use Rattle.ipc_column.specs.Lending.{are_numbers};
 ghost use Rattle.ipc_column.specs.Leaves.{values_or_none};
 ghost use Rattle.ipc_column.specs.Lent.{AreFound, AreOfColumn, column_of_buffers, values_in};
 ghost use Rattle.ipc_column.specs.Slots.{HasChildSlots, is_null, nested, nested_in, value_in_slot};
-ghost use Rattle.ipc_column.specs.Slots.{IsLeaf, RefersToValues, text_prefix};
+ghost use Rattle.ipc_column.specs.Slots.{IsLeafSlot, RefersToValues, text_prefix};
 ghost use Rattle.ipc_column.specs.Nested.{Nested, only_column, child_columns, slot_values};
 ghost use Rattle.ipc_column.specs.checks.Plain.{IsShownBy};
 ghost use Rattle.ipc_column.specs.checks.Rules.{HasUtf8Texts};
@@ -373,7 +373,7 @@ pub(crate) fn leaf_slot<'a>(
         → value_in_slot below i result
         ≡ own_value layout [] (row none) offsets.now values.now slot }
     ensures leaf { good_below Fault.ValueNotUtf8 layout [] (good Fault.ValueNotUtf8 none)
-        offsets.now values.now slot ≡ true → IsLeaf result }
+        offsets.now values.now slot ≡ true → IsLeafSlot result }
     ensures inside { (children : Columns) (i : ℕ) → HasChildSlots children i result }
 {
     match layout {

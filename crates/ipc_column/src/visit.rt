@@ -7,7 +7,7 @@ ghost use Rattle.ipc_column.specs.checks.Rules.{has_slot_visits};
 ghost use Rattle.ipc_model.specs.Layouts.{needs_slot_checks, is_texts};
 ghost use Rattle.ipc_column.specs.Values.{is_valid};
 ghost use Rattle.ipc_column.specs.Views.{part_columns, column_of, children_of, one};
-ghost use Rattle.ipc_column.specs.checks.Weights.{weight, weight_below};
+ghost use Rattle.ipc_column.specs.checks.Weights.{visits, visits_below};
 
 use crate::bitmaps::is_valid;
 use crate::indices::are_null_or_indices;
@@ -41,14 +41,14 @@ fn check_children(
 ) -> Result<(), Fault>
     requires some { from < to }
     requires slots { AreSlots (one body.now part.now) from to }
-    requires room { tests.old + weight_below (column_of body.now part.now).layout
-        (weight (children_of body.now part.now)) (column_of body.now part.now).offsets from to
+    requires room { tests.old + visits_below (column_of body.now part.now).layout
+        (visits (children_of body.now part.now)) (column_of body.now part.now).offsets from to
         < 2 ^ 64 }
     requires marks { IsMarked body.now part.now }
     ensures judged { Judges result (λ why. range_good (column_of body.now part.now).layout
         (good why (children_of body.now part.now)) (column_of body.now part.now).offsets from to) }
-    ensures cost { tests.new ≤ tests.old + weight_below (column_of body.now part.now).layout
-        (weight (children_of body.now part.now)) (column_of body.now part.now).offsets from to }
+    ensures cost { tests.new ≤ tests.old + visits_below (column_of body.now part.now).layout
+        (visits (children_of body.now part.now)) (column_of body.now part.now).offsets from to }
 {
     match part.layout {
         Layout::Lists => {
@@ -75,12 +75,12 @@ fn check_slot(body: &[u8], part: &ColumnRanges, slot: usize, tests: &mut u64) ->
     requires below { needs_slot_checks (column_of body.now part.now).layout ≡ false }
     requires visited { has_slot_visits (column_of body.now part.now) (children_of body.now part.now)
         ≡ true }
-    requires room { tests.old + weight (one body.now part.now) slot (slot + 1) < 2 ^ 64 }
+    requires room { tests.old + visits (one body.now part.now) slot (slot + 1) < 2 ^ 64 }
     requires small { slot + 1 < 2 ^ 64 }
     requires marks { IsMarked body.now part.now }
     ensures judged { Judges result (λ why. good_slot why (good why (children_of body.now part.now))
         (column_of body.now part.now) slot) }
-    ensures cost { tests.new ≤ tests.old + weight (one body.now part.now) slot (slot + 1) }
+    ensures cost { tests.new ≤ tests.old + visits (one body.now part.now) slot (slot + 1) }
 {
     if !visit(bytes_at(body, part.validity), slot, tests) {
         return Ok(());
@@ -101,10 +101,10 @@ fn check_slots(
     requires below { needs_slot_checks (column_of body.now part.now).layout ≡ false }
     requires visited { has_slot_visits (column_of body.now part.now) (children_of body.now part.now)
         ≡ true }
-    requires room { tests.old + weight (one body.now part.now) from to < 2 ^ 64 }
+    requires room { tests.old + visits (one body.now part.now) from to < 2 ^ 64 }
     requires marks { IsMarked body.now part.now }
     ensures judged { Judges result (λ why. good why (one body.now part.now) from to) }
-    ensures cost { tests.new ≤ tests.old + weight (one body.now part.now) from to }
+    ensures cost { tests.new ≤ tests.old + visits (one body.now part.now) from to }
 {
     for slot in from..to {
         check_slot(body, part, slot, tests)?;
@@ -123,9 +123,9 @@ fn check_utf8(
     requires some { from < to }
     requires texts { is_texts (column_of body.now part.now).layout ≡ true }
     requires slots { AreSlots (one body.now part.now) from to }
-    requires room { tests.old + weight (one body.now part.now) from to < 2 ^ 64 }
+    requires room { tests.old + visits (one body.now part.now) from to < 2 ^ 64 }
     ensures judged { Judges result (λ why. good why (one body.now part.now) from to) }
-    ensures cost { tests.new ≤ tests.old + weight (one body.now part.now) from to }
+    ensures cost { tests.new ≤ tests.old + visits (one body.now part.now) from to }
 {
     let validity = bytes_at(body, part.validity);
     let offsets = bytes_at(body, part.offsets);
@@ -151,9 +151,9 @@ fn check_indices(
     requires some { from < to }
     requires indices { IsIndexed (column_of body.now part.now).layout bits signed }
     requires slots { AreSlots (one body.now part.now) from to }
-    requires room { tests.old + weight (one body.now part.now) from to < 2 ^ 64 }
+    requires room { tests.old + visits (one body.now part.now) from to < 2 ^ 64 }
     ensures judged { Judges result (λ why. good why (one body.now part.now) from to) }
-    ensures cost { tests.new ≤ tests.old + weight (one body.now part.now) from to }
+    ensures cost { tests.new ≤ tests.old + visits (one body.now part.now) from to }
 {
     let validity = bytes_at(body, part.validity);
     let indices = bytes_at(body, part.values);
@@ -177,10 +177,10 @@ fn check_values(
     tests: &mut u64,
 ) -> Result<(), Fault>
     requires slots { AreSlots (one body.now part.now) from to }
-    requires room { tests.old + weight (one body.now part.now) from to < 2 ^ 64 }
+    requires room { tests.old + visits (one body.now part.now) from to < 2 ^ 64 }
     requires marks { IsMarked body.now part.now }
     ensures judged { Judges result (λ why. good why (one body.now part.now) from to) }
-    ensures cost { tests.new ≤ tests.old + weight (one body.now part.now) from to }
+    ensures cost { tests.new ≤ tests.old + visits (one body.now part.now) from to }
 {
     if from == to {
         return Ok(());
@@ -211,10 +211,10 @@ pub(crate) fn check_all_values(
     tests: &mut u64,
 ) -> Result<(), Fault>
     requires slots { AreSlots (part_columns body.now parts.now) from to }
-    requires room { tests.old + weight (part_columns body.now parts.now) from to < 2 ^ 64 }
+    requires room { tests.old + visits (part_columns body.now parts.now) from to < 2 ^ 64 }
     requires marks { AreMarked body.now parts.now }
     ensures judged { Judges result (λ why. good why (part_columns body.now parts.now) from to) }
-    ensures cost { tests.new ≤ tests.old + weight (part_columns body.now parts.now) from to }
+    ensures cost { tests.new ≤ tests.old + visits (part_columns body.now parts.now) from to }
 {
     for part in parts {
         check_values(body, part, from, to, tests)?;

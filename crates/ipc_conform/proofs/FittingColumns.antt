@@ -39,7 +39,7 @@ use Rattle.ipc_column.specs.Columns.{EachTop}
 use Rattle.ipc_column.specs.Lending.{AreBuffers}
 use Rattle.ipc_column.specs.Nested.{Nested, child_columns, slot_values}
 use Rattle.ipc_column.specs.Slots.{is_null, nested_in}
-use Rattle.ipc_column.specs.Values.{is_valid, own_value, row, value_at, value_of, first_of, items, offset_position}
+use Rattle.ipc_column.specs.Values.{is_valid, own_value, row, value_at, value_of, first_of, values_from, offset_position}
 use Rattle.ipc_column.specs.checks.Plain.{IsShownBy}
 use Rattle.ipc_column.specs.declared.buffers.Buffers.{Buffers}
 use Rattle.ipc_conform.specs.Mismatches.{AreMismatches}
@@ -250,7 +250,7 @@ shown_slot f layout value shows none may h = own_slot f value none may (λ some.
 -- values of a list that are those of all slots of a child from one on
 inner_run : (fs : List Field) (all : List Value) (g : ℕ → Value) (i n : ℕ) → i + n ≤ length all
     → ((j : ℕ) → j < length all → get_or all j Null ≡ g j) → InnerFit Fits t.List fs (o.List all)
-    → InnerFit Fits t.List fs (o.List (items g i n))
+    → InnerFit Fits t.List fs (o.List (values_from g i n))
 inner_run [] all g i n room are h = tt
 inner_run (f ∷ fs) all g i n room are h =
     items_each (Fits f) g i n (λ k from to. let m : k < length all = omega (arith, to, room) in subst (Fits f) (are k m)
@@ -277,8 +277,8 @@ list_slot s child b f i h e kind is m may inner = either (is_valid s.column.vali
         (rw laid at (lent_offsets s b h)) (rw laid at (lent_order s b h)) in
         let most = first_slots s child (offset_position offsets (i + 1)) is leads.1 in
         let n = offset_position offsets (i + 1) - offset_position offsets i in
-        kind_fit f t.List (get_or (slot_values s) i Null) (o.List (items g (offset_position offsets i) n)) kind
-        (ap out-Value (slot_is s i m ∙ rw (valid, laid) refl) ∙ list_out (items g (offset_position offsets i) n)) tt
+        kind_fit f t.List (get_or (slot_values s) i Null) (o.List (values_from g (offset_position offsets i) n)) kind
+        (ap out-Value (slot_is s i m ∙ rw (valid, laid) refl) ∙ list_out (values_from g (offset_position offsets i) n)) tt
         (inner_run (out-Field f).children (slot_values child) g (offset_position offsets i) n (omega (arith, leads.0, most))
         (λ j k. slot_is child j k ∙ sym (first_value s child j is)) inner)
     either false valid = null_fits f (get_or (slot_values s) i Null) (slot_is s i m ∙ rw valid refl) may
@@ -308,9 +308,9 @@ fixed_slot s child b f size i h laid kind is m may inner = either (is_valid s.co
         let most = first_slots s child (size * s.column.slots) is long in
         let less = mul-le-mul_left size (let m' : i + 1 ≤ s.column.slots = omega (arith, m, slot_count s) in m') in
         let next : size * (i + 1) ≡ size * i + size = omega arith in
-        kind_fit f (t.FixedSizeList size) (get_or (slot_values s) i Null) (o.List (items g (size * i) size)) kind
-        (ap out-Value (slot_is s i m ∙ rw (valid, laid) refl) ∙ list_out (items g (size * i) size)) (items_length g (size * i) size)
-        (fixed_inner size (out-Field f).children (items g (size * i) size)
+        kind_fit f (t.FixedSizeList size) (get_or (slot_values s) i Null) (o.List (values_from g (size * i) size)) kind
+        (ap out-Value (slot_is s i m ∙ rw (valid, laid) refl) ∙ list_out (values_from g (size * i) size)) (items_length g (size * i) size)
+        (fixed_inner size (out-Field f).children (values_from g (size * i) size)
         (inner_run (out-Field f).children (slot_values child) g (size * i) size (omega (arith, less, next, most))
         (λ j k. slot_is child j k ∙ sym (first_value s child j is)) inner))
     either false valid = null_fits f (get_or (slot_values s) i Null) (slot_is s i m ∙ rw valid refl) may

@@ -12,7 +12,7 @@ use Rattle.ipc_model.specs.declared.schema.DataType.TheVariants as t
 use Rattle.ipc_model.specs.declared.schema.DateUnit.TheVariants.{Day, Millisecond}
 use Rattle.ipc_model.specs.declared.schema.Field.{Field, fold-roll-Field}
 use Rattle.ipc_column.specs.Dictionaries.{has_no_children}
-use Rattle.ipc_column.specs.Shapes.{Shape, field_layout, field_step}
+use Rattle.ipc_column.specs.Shapes.{Shape, field_layout, shape_step}
 use Rattle.ipc_dict_read.specs.ValuesColumns.{dictionary_columns, values_column}
 use Rattle.ipc_dict_read.proofs.Named.{all_given}
 
@@ -35,7 +35,7 @@ leaf_alone (t.Duration unit) leaf = refl
 -- the column of such values stands alone
 column_alone : (name : List ℕ) (kind : DataType) → IsLeaf kind → has_no_children (field_layout (values_column name kind)) ≡ true
 column_alone name kind leaf =
-    ap (λ (p : Layout × Shape). has_no_children p.0) (fold-roll-Field (Layout × Shape) field_step
+    ap (λ (p : Layout × Shape). has_no_children p.0) (fold-roll-Field (Layout × Shape) shape_step
     (record { name = name; nullable = true; kind = kind; dictionary = None; children = []; metadata = [] })) ∙ leaf_alone kind leaf
 
 -- so does that of each dictionary, in fields that keep the rules

@@ -21,7 +21,7 @@ use Rattle.ipc_column.specs.Lent.{AreOfColumn}
 use Rattle.ipc_column.specs.Nested.{Nested, slot_values}
 use Rattle.ipc_column.specs.declared.buffers.Buffers.{Buffers}
 use Rattle.ipc_column.specs.Values.{is_valid}
-use Rattle.ipc_column.specs.Shapes.{Shape, bare, field, field_children, field_layout, shape_of}
+use Rattle.ipc_column.specs.Shapes.{Shape, bare, field, child_shape, field_layout, shape_of}
 use Rattle.ipc_encode.specs.Buffers.{column_buffers, written_values}
 use Rattle.ipc_encode.specs.Cells.{bits_in, cell, is_null, is_set, number_bits, slot_bytes, slots}
 use Rattle.ipc_encode.specs.Columns.{validity_bytes}
@@ -119,7 +119,7 @@ indexed_buffers known bits signed id vs valid bytes v b =
 
 -- the shape of a field of this layout without children
 pub leaf_shape : (f : Field) (lay : Layout) → layout (out-Field f).kind (out-Field f).dictionary ≡ lay → length (out-Field f).children ≡ 0
-    → field (field_layout f) (field_children f) bare ≡ field lay bare bare
+    → field (field_layout f) (child_shape f) bare ≡ field lay bare bare
 leaf_shape f lay e none =
     ap (λ (s : Layout × Shape). field s.0 s.1 bare) (field_parts f) ∙ (λ q. field (e q) (no_shape (out-Field f).children none q) bare)
   where

@@ -16,7 +16,7 @@ use Rattle.ipc_encode.specs.Built.{AreContents, AreListEnds}
 use Rattle.ipc_encode.specs.Cells.{HasUtf8, extent, ends, flags, nulls, offsets, slots}
 use Rattle.ipc_encode.specs.Buffers.{column_nulls}
 use Rattle.ipc_encode.specs.Columns.{validity_bytes, validity_in}
-use Rattle.ipc_encode.specs.Pieces.{Bytes, Content, Items, Run, Valid, ValueSlot}
+use Rattle.ipc_encode.specs.Pieces.{Bytes, Content, Items, OffsetUnit, Valid, ValueSlot}
 use Rattle.ipc_encode.proofs.Bits.{clear_is, clear_so_far, flags_append, flags_length, flags_number-lt, length_bytes, nulls_append}
 use Rattle.ipc_encode.proofs.HeldValues.{all_left}
 use Rattle.ipc_encode.proofs.NumberSlots.{slots_append}
@@ -138,7 +138,7 @@ content_cut vs ws items count same many =
     ap (λ (bs : List ℕ). take count bs) (same ∙ slots_append Content vs ws)
     ∙ take_at (slots Content vs) (slots Content ws) count (sym many)
 
-ends_append : (run : Run) (start : ℕ) (vs ws : List Value)
+ends_append : (run : OffsetUnit) (start : ℕ) (vs ws : List Value)
     → ends run start (vs ++ ws) ≡ ends run start vs ++ ends run (start + reach run vs) ws
 ends_append run start [] ws = ap (λ (n : ℕ). ends run n ws) (omega arith)
 ends_append run start (v ∷ vs) ws =
@@ -150,7 +150,7 @@ ends_append run start (v ∷ vs) ws =
     ∙ sym (append_assoc here (ends run next vs) (ends run (start + (extent run v + reach run vs)) ws))
 
 -- the offsets
-pub offsets_cut : (run : Run) (vs ws : List Value) (items : List ℕ) (count : ℕ) → items ≡ offsets run (vs ++ ws)
+pub offsets_cut : (run : OffsetUnit) (vs ws : List Value) (items : List ℕ) (count : ℕ) → items ≡ offsets run (vs ++ ws)
     → count ≡ 4 * (length vs + 1) → take count items ≡ offsets run vs
 offsets_cut run vs ws items count same many =
     let first = bytes_low_first 0 4 0 in
@@ -160,17 +160,17 @@ offsets_cut run vs ws items count same many =
     ∙ take_at (offsets run vs) rest count (offsets_size run vs ∙ sym many)
 
 -- offsets reach to where those of the first slots do, and further
-pub reach_append : (run : Run) (vs ws : List Value) → reach run (vs ++ ws) ≡ reach run vs + reach run ws
+pub reach_append : (run : OffsetUnit) (vs ws : List Value) → reach run (vs ++ ws) ≡ reach run vs + reach run ws
 reach_append run [] ws = omega arith
 reach_append run (v ∷ vs) ws = let more = reach_append run vs ws in omega (arith, more)
 
 -- the last offset
-pub last_offset : (run : Run) (vs : List Value) → reach run vs ≤ 2 ^ 31 - 1 → num (offsets run vs) (4 * length vs) 4 ≡ reach run vs
+pub last_offset : (run : OffsetUnit) (vs : List Value) → reach run vs ≤ 2 ^ 31 - 1 → num (offsets run vs) (4 * length vs) 4 ≡ reach run vs
 last_offset run vs short =
     end_is run vs (length vs) (omega arith) short ∙ ap (λ (ws : List Value). reach run ws) (take_all (length vs) vs (omega arith))
 
 -- the last offset that is left is where the first slots end
-end_cut : (run : Run) (vs ws : List Value) (old new : List ℕ) (count end : ℕ) → length vs ≡ count → old ≡ offsets run (vs ++ ws)
+end_cut : (run : OffsetUnit) (vs ws : List Value) (old new : List ℕ) (count end : ℕ) → length vs ≡ count → old ≡ offsets run (vs ++ ws)
     → reach run (vs ++ ws) ≤ 2 ^ 31 - 1 → new ≡ take (4 * (count + 1)) old
     → (4 * (count + 1) ≤ length old → end ≡ num new (4 * count) 4) → (new ≡ offsets run vs) × (end ≡ reach run vs)
 end_cut run vs ws old new count end size same short cut last =

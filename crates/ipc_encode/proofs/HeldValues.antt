@@ -24,7 +24,7 @@ use Rattle.ipc_model.specs.declared.schema.TimeUnit.TheVariants as u
 use Rattle.ipc_model.specs.declared.value.Value.{Value, out-Value, out-roll-Value}
 use Rattle.ipc_model.specs.declared.value.Value.TheOpen.{Value-F}
 use Rattle.ipc_model.specs.declared.value.Value.TheVariants as v
-use Rattle.ipc_column.specs.Shapes.{Shape, bare, field, shapes, field_shape, shape_of, field_step, field_layout, field_children}
+use Rattle.ipc_column.specs.Shapes.{Shape, bare, field, shapes, field_shape, shape_of, shape_step, field_layout, child_shape}
 use Rattle.ipc_encode.specs.Buffers.{child_values, row_columns}
 use Rattle.ipc_encode.specs.Cells.{is_null, cell, cells, items, items_in, all_items, struct_member, part_in, all_parts, fixed_items}
 use Rattle.ipc_encode.specs.Cells.{fixed_items_in, all_fixed_items}
@@ -326,7 +326,7 @@ module _ (limits : Limits) where
   abbrev IsHeld : Field → Type 0
   IsHeld f = (d : ℕ) → AllByRecursion (IsFieldWellFormed limits) (preorder f d)
       → (vs : List Value) → AllByRecursion (Stands f) vs
-      → ColumnHeld (field_layout f) (across (field_children f)) vs × ColumnsHeld (field_children f) (child_values (field_layout f) vs)
+      → ColumnHeld (field_layout f) (across (child_shape f)) vs × ColumnsHeld (child_shape f) (child_values (field_layout f) vs)
 
   abbrev Shown : Type 0
   Shown = (f : Field) × IsHeld f
@@ -348,7 +348,7 @@ module _ (limits : Limits) where
   layer_held y = λ d fine vs h.
       let z : Field-F Field = map-Field Shown Field (λ c. c.0) y in
       let shape : field_shape (roll-Field z) ≡ (layout z.kind z.dictionary, shapes (map field_shape z.children)) =
-      fold-roll-Field (Layout × Shape) field_step z in
+      fold-roll-Field (Layout × Shape) shape_step z in
       let listed : AllByRecursion (IsFieldWellFormed limits) (preorder_step (map-Field Field Listing preorder z) d) =
       subst (λ (l : Listing). AllByRecursion (IsFieldWellFormed limits) (l d)) (fold-roll-Field Listing preorder_step z) fine in
       let fitting : HasFittingChildren z.kind (length z.children) =

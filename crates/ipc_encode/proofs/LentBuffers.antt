@@ -31,13 +31,13 @@ use Rattle.ipc_column.proofs.lending.Slots.{bytes_from}
 use Rattle.ipc_column.specs.checks.Checks.{has_bitmap, are_ascending}
 use Rattle.ipc_column.specs.Lending.{AreBuffers, AreNumbers, MarksNulls}
 use Rattle.ipc_column.specs.Nested.{Nested, child_columns, slot_values, only_column}
-use Rattle.ipc_column.specs.checks.Rules.{IsText, HasUtf8Texts}
+use Rattle.ipc_column.specs.checks.Rules.{TextsAreUtf8, HasUtf8Texts}
 use Rattle.ipc_column.specs.Values.{between, is_valid, own_value, row, value_of, offset_position}
 use Rattle.ipc_column.specs.declared.buffers.Buffers.{Buffers}
 use Rattle.ipc_column.specs.declared.buffers.Numbers.{Numbers}
 use Rattle.ipc_encode.specs.Cells.{fixed_in, is_set, is_true, nulls, slot_bytes, slots, ends, flags, offsets, HasUtf8}
 use Rattle.ipc_encode.specs.Cells.{SpellsOut, bytes_in, content}
-use Rattle.ipc_encode.specs.Pieces.{Fixed, True, Valid, ValueSlot, Number, Bytes, Content, Run}
+use Rattle.ipc_encode.specs.Pieces.{Fixed, True, Valid, ValueSlot, Number, Bytes, Content, OffsetUnit}
 use Rattle.ipc_encode.specs.WholeColumns.{is_taken_whole}
 use Rattle.ipc_encode.specs.Writing.{AreStored}
 use Rattle.ipc_encode.proofs.Bits.{clear_nulls, flag_at, set_some, unmarked}
@@ -313,7 +313,7 @@ pub content_extents : (vs : List Value) → length (slots Content vs) ≡ extent
 content_extents vs = content_data true vs ∙ bytes_extents true vs
 
 -- the ends so far and the next
-pub ends_next : (run : Run) (start : ℕ) (vs : List Value) (i end : ℕ) → i < length vs → end ≡ start + extents run (take (i + 1) vs)
+pub ends_next : (run : OffsetUnit) (start : ℕ) (vs : List Value) (i end : ℕ) → i < length vs → end ≡ start + extents run (take (i + 1) vs)
     → ends run start (take i vs) ++ bytes_low_first 0 4 end ≡ ends run start (take (i + 1) vs)
 ends_next run start vs i end m e =
     let next = take_more vs i Null m in
@@ -352,7 +352,7 @@ pub place_few : (o : List ℕ) (n size i : ℕ) → ((k : ℕ) → get_or o k 0 
 place_few o n size i small h l = few_of (start_of o i) (num_small 4 (4 * i) o small) (above_in o n size i h l)
 
 -- offsets that are each as far from the first as the runs before it are long are the ends of the runs
-pub ends_lie : (run : Run) (vs : List Value) (o : List ℕ) → ((k : ℕ) → get_or o k 0 < 256) → 4 * (length vs + 1) ≤ length o
+pub ends_lie : (run : OffsetUnit) (vs : List Value) (o : List ℕ) → ((k : ℕ) → get_or o k 0 < 256) → 4 * (length vs + 1) ≤ length o
     → ((i : ℕ) → i ≤ length vs → start_of o 0 + extents run (take i vs) ≡ start_of o i) → (i : ℕ) → i ≤ length vs
     → ends run (start_of o 0) (take i vs) ≡ take (4 * i) (drop 4 o)
 ends_lie run vs o small there far zero m = refl
@@ -369,7 +369,7 @@ ends_lie run vs o small there far (suc i) m =
     ∙ (sym (take-add (4 * i) 4 (drop 4 o)) ∙ ap (λ (k : ℕ). take k (drop 4 o)) (sym more)))))
 
 -- and if the first of them is 0, they are those that are written
-pub offsets_lie : (run : Run) (vs : List Value) (o : List ℕ) → ((k : ℕ) → get_or o k 0 < 256) → 4 * (length vs + 1) ≤ length o
+pub offsets_lie : (run : OffsetUnit) (vs : List Value) (o : List ℕ) → ((k : ℕ) → get_or o k 0 < 256) → 4 * (length vs + 1) ≤ length o
     → ((i : ℕ) → i ≤ length vs → start_of o 0 + extents run (take i vs) ≡ start_of o i) → start_of o 0 ≡ 0
     → take (4 * (length vs + 1)) o ≡ offsets run vs
 offsets_lie run vs o small there far first =
@@ -497,7 +497,8 @@ texts_hold s utf8 e spelled =
     (spelled k (let count = slot_count s in omega (arith, to, count))).0)
   where
     one : (k : ℕ) (u : Bool) → s.column.layout ≡ l.VariableBytes u → (valid : Bool) → is_valid s.column.validity k ≡ valid
-        → (is_valid s.column.validity k ≡ true → IsText s.column.layout (HasUtf8Texts (child_columns s)) s.column.offsets s.column.values k)
+        → (is_valid s.column.validity k ≡ true
+        → TextsAreUtf8 s.column.layout (HasUtf8Texts (child_columns s)) s.column.offsets s.column.values k)
         → HasUtf8 (value_of (row (child_columns s)) s.column k)
     one k u e false none text = rw none (subst SpellsOut (sym null_out) tt)
     one k true e true valid text =

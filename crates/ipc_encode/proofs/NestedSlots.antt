@@ -26,10 +26,10 @@ use Rattle.ipc_column.specs.Columns.{Columns}
 use Rattle.ipc_column.specs.Lending.{AreBuffers, MarksNulls}
 use Rattle.ipc_column.specs.Nested.{Nested, child_columns, slot_values, only_column}
 use Rattle.ipc_column.specs.checks.Plain.{IsShownBy}
-use Rattle.ipc_column.specs.checks.Rules.{IsText, HasUtf8Texts}
+use Rattle.ipc_column.specs.checks.Rules.{TextsAreUtf8, HasUtf8Texts}
 use Rattle.ipc_column.specs.Shapes.{Shape, bare, field}
 use Rattle.ipc_column.specs.Slots.{nested, nested_in}
-use Rattle.ipc_column.specs.Values.{first_of, is_valid, items, own_value, offset_position, row, value_of}
+use Rattle.ipc_column.specs.Values.{first_of, is_valid, values_from, own_value, offset_position, row, value_of}
 use Rattle.ipc_column.specs.Views.{part_columns, column_of, children_of}
 use Rattle.ipc_column.specs.declared.buffers.Buffers.{Buffers}
 use Rattle.ipc_column.specs.declared.ranges.ColumnRanges.{ColumnRanges}
@@ -48,14 +48,14 @@ use Rattle.ipc_encode.proofs.Steps.{below_append, extents, items_extents, items_
 
 -- ---- runs of slots
 
-items_same : (f g : ℕ → Value) (i n : ℕ) → ((j : ℕ) → f j ≡ g j) → items f i n ≡ items g i n
+items_same : (f g : ℕ → Value) (i n : ℕ) → ((j : ℕ) → f j ≡ g j) → values_from f i n ≡ values_from g i n
 items_same f g i zero h = refl
 items_same f g i (suc n) h =
     let first = h i in
     let rest = items_same f g (i + 1) n h in
     λ k. first k ∷ rest k
 
-items_join : (f : ℕ → Value) (a m n : ℕ) → items f a (m + n) ≡ items f a m ++ items f (a + m) n
+items_join : (f : ℕ → Value) (a m n : ℕ) → values_from f a (m + n) ≡ values_from f a m ++ values_from f (a + m) n
 items_join f a zero n =
     let here : a + 0 ≡ a = omega arith in
     let size : 0 + n ≡ n = omega arith in
@@ -66,32 +66,32 @@ items_join f a (suc m) n =
     rw (size, offset_position) (ap (λ (vs : List Value). f a ∷ vs) (items_join f (a + 1) m n))
 
 -- lists whose items are runs one behind another have the items of one run
-runs_join : (f g : ℕ → Value) (at : ℕ → ℕ) (n : ℕ) → ((i : ℕ) → i < n → cells.items (f i) ≡ items g (at i) (at (i + 1) - at i))
+runs_join : (f g : ℕ → Value) (at : ℕ → ℕ) (n : ℕ) → ((i : ℕ) → i < n → cells.items (f i) ≡ values_from g (at i) (at (i + 1) - at i))
     → ((i : ℕ) → i < n → at i ≤ at (i + 1))
-    → (at 0 ≤ at n) × (all_items (items f 0 n) ≡ items g (at 0) (at n - at 0))
+    → (at 0 ≤ at n) × (all_items (values_from f 0 n) ≡ values_from g (at 0) (at n - at 0))
 runs_join f g at zero each rise = (
   omega arith,
-  ap (λ (k : ℕ). items g (at 0) k) (let none : 0 ≡ at 0 - at 0 = omega arith in none),
+  ap (λ (k : ℕ). values_from g (at 0) k) (let none : 0 ≡ at 0 - at 0 = omega arith in none),
 )
 runs_join f g at (suc n) each rise =
     let before = runs_join f g at n (λ i m. each i (omega arith)) (λ i m. rise i (omega arith)) in
     let more : n + 1 ≡ suc n = omega arith in
     let step : at n ≤ at (suc n) = subst (λ (k : ℕ). at n ≤ at k) more (rise n (omega arith)) in
     let here : 0 + n ≡ n = omega arith in
-    let next : cells.items (f n) ≡ items g (at n) (at (suc n) - at n) =
-    each n (omega arith) ∙ ap (λ (k : ℕ). items g (at n) (at k - at n)) more in
+    let next : cells.items (f n) ≡ values_from g (at n) (at (suc n) - at n) =
+    each n (omega arith) ∙ ap (λ (k : ℕ). values_from g (at n) (at k - at n)) more in
     let size : at n - at 0 + (at (suc n) - at n) ≡ at (suc n) - at 0 = omega (arith, before.0, step) in
     let offset_position : at 0 + (at n - at 0) ≡ at n = omega (arith, before.0) in (
       omega (arith, before.0, step),
-      ap (λ (k : ℕ). all_items (items f 0 k)) (sym more)
-          ∙ (ap all_items (items_more f 0 n ∙ ap (λ (k : ℕ). items f 0 n ++ f k ∷ []) here)
-          ∙ (below_append l.Lists (items f 0 n) (f n ∷ []) 0
-          ∙ (ap (λ (vs : List Value). all_items (items f 0 n) ++ vs) (append-nil (cells.items (f n)))
+      ap (λ (k : ℕ). all_items (values_from f 0 k)) (sym more)
+          ∙ (ap all_items (items_more f 0 n ∙ ap (λ (k : ℕ). values_from f 0 n ++ f k ∷ []) here)
+          ∙ (below_append l.Lists (values_from f 0 n) (f n ∷ []) 0
+          ∙ (ap (λ (vs : List Value). all_items (values_from f 0 n) ++ vs) (append-nil (cells.items (f n)))
           ∙ (ap (λ (vs : List Value). vs ++ cells.items (f n)) before.1
-          ∙ (ap (λ (vs : List Value). items g (at 0) (at n - at 0) ++ vs)
-          (next ∙ ap (λ (k : ℕ). items g k (at (suc n) - at n)) (sym offset_position))
+          ∙ (ap (λ (vs : List Value). values_from g (at 0) (at n - at 0) ++ vs)
+          (next ∙ ap (λ (k : ℕ). values_from g k (at (suc n) - at n)) (sym offset_position))
           ∙ (sym (items_join g (at 0) (at n - at 0) (at (suc n) - at n))
-          ∙ ap (λ (k : ℕ). items g (at 0) k) size)))))),
+          ∙ ap (λ (k : ℕ). values_from g (at 0) k) size)))))),
     )
 
 -- ---- lists
@@ -135,29 +135,29 @@ module _ (s : Nested) (b : Buffers) (h : AreBuffers s b) (e : b.layout ≡ l.Lis
     -- the items of a slot are a run of the first child's
     list_at : (i : ℕ) → i < length (slot_values s)
         → cells.items (value_of (row (child_columns s)) s.column i)
-        ≡ items (λ j. first_of (row (child_columns s) j)) (offset_position b.offsets.now i)
+        ≡ values_from (λ j. first_of (row (child_columns s) j)) (offset_position b.offsets.now i)
         (offset_position b.offsets.now (i + 1) - offset_position b.offsets.now i)
     list_at i m = ap cells.items (sym (slot_is s i m) ∙ buffers_at s b h i m) ∙ either (is_valid b.validity.now i) refl
       where
         g : ℕ → Value
         g j = first_of (row (child_columns s) j)
 
-        none : offset_position b.offsets.now (i + 1) - offset_position b.offsets.now i ≡ 0 → items g (offset_position b.offsets.now i)
+        none : offset_position b.offsets.now (i + 1) - offset_position b.offsets.now i ≡ 0 → values_from g (offset_position b.offsets.now i)
             (offset_position b.offsets.now (i + 1) - offset_position b.offsets.now i) ≡ []
-        none e = ap (λ (k : ℕ). items g (offset_position b.offsets.now i) k) e
+        none e = ap (λ (k : ℕ). values_from g (offset_position b.offsets.now i) k) e
 
         own : (layout : Layout) → layout ≡ l.Lists
             → cells.items (own_value layout s.column.dictionary (row (child_columns s)) b.offsets.now b.values.now i)
-            ≡ items (λ j. first_of (row (child_columns s) j)) (offset_position b.offsets.now i)
+            ≡ values_from (λ j. first_of (row (child_columns s) j)) (offset_position b.offsets.now i)
             (offset_position b.offsets.now (i + 1) - offset_position b.offsets.now i)
         own layout e =
-            let run = items (λ j. first_of (row (child_columns s) j)) (offset_position b.offsets.now i) (offset_position b.offsets.now
+            let run = values_from (λ j. first_of (row (child_columns s) j)) (offset_position b.offsets.now i) (offset_position b.offsets.now
             (i + 1) - offset_position b.offsets.now i) in
             rw e (ap items_in (list_out run))
 
         either : (valid : Bool) → is_valid b.validity.now i ≡ valid
             → cells.items (cond valid (own_value b.layout s.column.dictionary (row (child_columns s)) b.offsets.now b.values.now i) v.Null)
-            ≡ items (λ j. first_of (row (child_columns s) j)) (offset_position b.offsets.now i)
+            ≡ values_from (λ j. first_of (row (child_columns s) j)) (offset_position b.offsets.now i)
             (offset_position b.offsets.now (i + 1) - offset_position b.offsets.now i)
         either true e' = own b.layout e
         either false e' =
@@ -208,14 +208,14 @@ module _ (s : Nested) (b : Buffers) (h : AreBuffers s b) (e : b.layout ≡ l.Lis
 
     -- all items are those of one run
     pub list_run : all_items (slot_values s)
-        ≡ items (λ j. first_of (row (child_columns s) j)) (offset_position b.offsets.now 0)
+        ≡ values_from (λ j. first_of (row (child_columns s) j)) (offset_position b.offsets.now 0)
         (offset_position b.offsets.now (length (slot_values s)) - offset_position b.offsets.now 0)
     list_run =
         let count = slot_count s in
         (runs_join (value_of (row (child_columns s)) s.column) (λ j. first_of (row (child_columns s) j)) (offset_position b.offsets.now)
         s.column.slots
         (λ i m. list_at i (omega (arith, m, count))) (λ i m. list_rise i (omega (arith, m, count)))).1
-        ∙ ap (λ (k : ℕ). items (λ j. first_of (row (child_columns s) j)) (offset_position b.offsets.now 0)
+        ∙ ap (λ (k : ℕ). values_from (λ j. first_of (row (child_columns s) j)) (offset_position b.offsets.now 0)
         (offset_position b.offsets.now k - offset_position b.offsets.now 0))
         (sym count)
 
@@ -227,9 +227,10 @@ module _ (s : Nested) (b : Buffers) (h : AreBuffers s b) (e : b.layout ≡ l.Lis
         let start = list_place 0 (omega arith) ∙ first in
         let end = list_place (length (slot_values s)) (omega arith) ∙ (last ∙ slot_count child) in
         list_run
-        ∙ (ap (λ (k : ℕ). items (λ j. first_of (row (child_columns s) j)) k (offset_position b.offsets.now (length (slot_values s)) - k))
+        ∙ (ap (λ (k : ℕ). values_from (λ j. first_of (row (child_columns s) j)) k
+        (offset_position b.offsets.now (length (slot_values s)) - k))
         start
-        ∙ (ap (λ (k : ℕ). items (λ j. first_of (row (child_columns s) j)) 0 k)
+        ∙ (ap (λ (k : ℕ). values_from (λ j. first_of (row (child_columns s) j)) 0 k)
         (let k : offset_position b.offsets.now (length (slot_values s)) - 0 ≡ child.column.slots = omega (arith, end) in k)
         ∙ items_same (λ j. first_of (row (child_columns s) j)) (child_value child) 0 child.column.slots (λ j. first_value s child j is)))
 
@@ -252,7 +253,7 @@ no_lists (v ∷ vs) ws none same = absurd (omega arith)
 -- ---- lists of a fixed size
 
 -- a run of nulls
-nulls_run : (g : ℕ → Value) (a n : ℕ) → ((j : ℕ) → a ≤ j → j < a + n → g j ≡ Null) → items g a n ≡ replicate n Null
+nulls_run : (g : ℕ → Value) (a n : ℕ) → ((j : ℕ) → a ≤ j → j < a + n → g j ≡ Null) → values_from g a n ≡ replicate n Null
 nulls_run g a zero h = refl
 nulls_run g a (suc n) h =
     let first : g a ≡ Null = h a (omega arith) (omega arith) in
@@ -271,24 +272,24 @@ null_each (v ∷ vs) zero h = only_null v h.0
 null_each (v ∷ vs) (suc j) h = null_each vs j h.1
 
 -- lists whose items are runs of one size have the items of one run
-fixed_join : (f g : ℕ → Value) (size n : ℕ) → ((i : ℕ) → i < n → fixed_items size (f i) ≡ items g (size * i) size)
-    → all_fixed_items size (items f 0 n) ≡ items g 0 (size * n)
-fixed_join f g size zero each = ap (λ (k : ℕ). items g 0 k) (let none : 0 ≡ size * 0 = omega arith in none)
+fixed_join : (f g : ℕ → Value) (size n : ℕ) → ((i : ℕ) → i < n → fixed_items size (f i) ≡ values_from g (size * i) size)
+    → all_fixed_items size (values_from f 0 n) ≡ values_from g 0 (size * n)
+fixed_join f g size zero each = ap (λ (k : ℕ). values_from g 0 k) (let none : 0 ≡ size * 0 = omega arith in none)
 fixed_join f g size (suc n) each =
     let before = fixed_join f g size n (λ i m. each i (omega arith)) in
     let more : n + 1 ≡ suc n = omega arith in
     let here : 0 + n ≡ n = omega arith in
     let behind : size * n ≡ 0 + size * n = omega arith in
     let whole : size * n + size ≡ size * suc n = omega arith in
-    ap (λ (k : ℕ). all_fixed_items size (items f 0 k)) (sym more)
-    ∙ (ap (all_fixed_items size) (items_more f 0 n ∙ ap (λ (k : ℕ). items f 0 n ++ f k ∷ []) here)
-    ∙ (below_append (l.FixedLists size) (items f 0 n) (f n ∷ []) 0
-    ∙ (ap (λ (vs : List Value). all_fixed_items size (items f 0 n) ++ vs) (append-nil (fixed_items size (f n)))
+    ap (λ (k : ℕ). all_fixed_items size (values_from f 0 k)) (sym more)
+    ∙ (ap (all_fixed_items size) (items_more f 0 n ∙ ap (λ (k : ℕ). values_from f 0 n ++ f k ∷ []) here)
+    ∙ (below_append (l.FixedLists size) (values_from f 0 n) (f n ∷ []) 0
+    ∙ (ap (λ (vs : List Value). all_fixed_items size (values_from f 0 n) ++ vs) (append-nil (fixed_items size (f n)))
     ∙ (ap (λ (vs : List Value). vs ++ fixed_items size (f n)) before
-    ∙ (ap (λ (vs : List Value). items g 0 (size * n) ++ vs)
-    (each n (omega arith) ∙ ap (λ (k : ℕ). items g k size) behind)
+    ∙ (ap (λ (vs : List Value). values_from g 0 (size * n) ++ vs)
+    (each n (omega arith) ∙ ap (λ (k : ℕ). values_from g k size) behind)
     ∙ (sym (items_join g 0 (size * n) size)
-    ∙ ap (λ (k : ℕ). items g 0 k) whole))))))
+    ∙ ap (λ (k : ℕ). values_from g 0 k) whole))))))
 
 -- a child with so many slots, which are null where the list is, has the items of the lists
 pub fixed_gives : (s child : Nested) (b : Buffers) (size : ℕ) → AreBuffers s b → b.layout ≡ l.FixedLists size
@@ -299,7 +300,7 @@ fixed_gives s child b size h e is all empty =
     let count = slot_count s in
     let many : size * s.column.slots ≡ child.column.slots = omega (arith, all, ap (λ (n : ℕ). size * n) count, slot_count child) in
     fixed_join (value_of (row (child_columns s)) s.column) g size s.column.slots (λ i m. at i (omega (arith, m, count)))
-    ∙ (ap (λ (k : ℕ). items g 0 k) many
+    ∙ (ap (λ (k : ℕ). values_from g 0 k) many
     ∙ items_same g (child_value child) 0 child.column.slots (λ j. first_value s child j is))
   where
     g : ℕ → Value
@@ -307,14 +308,14 @@ fixed_gives s child b size h e is all empty =
 
     own : (layout : Layout) (i : ℕ) → layout ≡ l.FixedLists size
         → fixed_items size (own_value layout s.column.dictionary (row (child_columns s)) b.offsets.now b.values.now i)
-        ≡ items g (size * i) size
+        ≡ values_from g (size * i) size
     own layout i e =
-        let run = items g (size * i) size in
+        let run = values_from g (size * i) size in
         rw e (ap (fixed_items_in size) (list_out run) ∙ of_size run (replicate size Null) size (items_length g (size * i) size))
 
     either : (i : ℕ) → i < length (slot_values s) → (valid : Bool) → is_valid b.validity.now i ≡ valid
         → fixed_items size (cond valid (own_value b.layout s.column.dictionary (row (child_columns s)) b.offsets.now b.values.now i) v.Null)
-        ≡ items g (size * i) size
+        ≡ values_from g (size * i) size
     either i m true e' = own b.layout i e
     either i m false e' =
         let last : size * i + size ≡ size * (i + 1) = omega arith in
@@ -325,7 +326,8 @@ fixed_gives s child b size h e is all empty =
         ∙ (sym (slot_is child j (omega (arith, to, last, less, all)))
         ∙ empty i m e' j from (omega (arith, to, last)))))
 
-    at : (i : ℕ) → i < length (slot_values s) → fixed_items size (value_of (row (child_columns s)) s.column i) ≡ items g (size * i) size
+    at : (i : ℕ) → i < length (slot_values s)
+        → fixed_items size (value_of (row (child_columns s)) s.column i) ≡ values_from g (size * i) size
     at i m = ap (fixed_items size) (sym (slot_is s i m) ∙ buffers_at s b h i m) ∙ either i m (is_valid b.validity.now i) refl
 
 -- ---- structs
@@ -379,11 +381,11 @@ child_spells s child k j e h = at s.children k e h
   where
     one : (p : ColumnRanges)
         → (is_valid (column_of s.body p).validity j ≡ true
-        → IsText (column_of s.body p).layout (HasUtf8Texts (children_of s.body p)) (column_of s.body p).offsets
+        → TextsAreUtf8 (column_of s.body p).layout (HasUtf8Texts (children_of s.body p)) (column_of s.body p).offsets
         (column_of s.body p).values j)
         → HasUtf8Texts (only_column (nested s.body p)) j
     one p h = (
-      λ valid. subst (λ (cs : Columns). IsText (column_of s.body p).layout (HasUtf8Texts cs) (column_of s.body p).offsets
+      λ valid. subst (λ (cs : Columns). TextsAreUtf8 (column_of s.body p).layout (HasUtf8Texts cs) (column_of s.body p).offsets
           (column_of s.body p).values j)
           (children_out s.body p) (h valid),
       tt,
@@ -466,7 +468,7 @@ module _ (s : Nested) (b : Buffers) (h : AreBuffers s b) (e : b.layout ≡ l.Lis
 
 -- nothing is asked of a slot that shows null
 nothing_spelled : (layout : Layout) (d : List Value) (under : ℕ → List Value) (child_columns : ℕ → Type 0) (o w : List ℕ) (i : ℕ)
-    → is_set Valid (own_value layout d under o w i) ≡ false → IsText layout child_columns o w i
+    → is_set Valid (own_value layout d under o w i) ≡ false → TextsAreUtf8 layout child_columns o w i
 nothing_spelled (l.VariableBytes utf8) d under child_columns o w i h =
     absurd (false≢true (sym h ∙ own_set (l.VariableBytes utf8) d under o w i (λ e. absurd (cc), λ bits signed id e. absurd (cc))))
 nothing_spelled l.Lists d under child_columns o w i h =
@@ -524,7 +526,7 @@ fixed_spells s child b size h e is all empty spelled j m = either (is_valid s.co
     either : (valid : Bool) → is_valid s.column.validity at.step ≡ valid → HasUtf8Texts (only_column child) j
     either true v =
         child_spells s child 0 j is
-        (subst (λ (x : Layout). IsText x (HasUtf8Texts (child_columns s)) s.column.offsets s.column.values at.step) (sym h.layout ∙ e)
+        (subst (λ (x : Layout). TextsAreUtf8 x (HasUtf8Texts (child_columns s)) s.column.offsets s.column.values at.step) (sym h.layout ∙ e)
         ((spelled at.step at.within).0 v) j at.from at.to)
     either false v = null_spells child j m
         (empty at.step at.within (ap (λ (o : List ℕ). is_valid o at.step) h.validity ∙ v) j at.from at.to)

@@ -205,7 +205,7 @@ module _ (under : ℕ → List Value) (i : ℕ) where
   opened (slot.UInt number) = Value-F.UInt number
   opened (slot.Bytes bytes) = Value-F.Bytes bytes.now
   opened (slot.Text bytes) = Value-F.Text bytes.now
-  opened (slot.List from to) = Value-F.List (values.items (λ j. first_of (under j)) from (to - from))
+  opened (slot.List from to) = Value-F.List (values.values_from (λ j. first_of (under j)) from (to - from))
   opened slot.Struct = Value-F.Struct (under i)
 
   pub shown_out : (x : Slot) → out-Value (value_in_slot under i x) ≡ opened x
@@ -215,7 +215,7 @@ module _ (under : ℕ → List Value) (i : ℕ) where
   shown_out (slot.UInt number) = unsigned_out number
   shown_out (slot.Bytes bytes) = bytes_out bytes.now
   shown_out (slot.Text bytes) = text_out bytes.now
-  shown_out (slot.List from to) = list_out (values.items (λ j. first_of (under j)) from (to - from))
+  shown_out (slot.List from to) = list_out (values.values_from (λ j. first_of (under j)) from (to - from))
   shown_out slot.Struct = struct_out (under i)
 
   pub items_are : (x : Slot) → items (value_in_slot under i x) ≡ items_in (opened x)

@@ -23,8 +23,8 @@ use Rattle.ipc_model.specs.declared.value.Value.TheVariants as v
 use Rattle.ipc_column.proofs.Opened.{unsigned_out}
 use Rattle.ipc_column.specs.Columns.{Column}
 use Rattle.ipc_column.specs.Dictionaries.{Dictionaries, values_for}
-use Rattle.ipc_column.specs.checks.Rules.{AreOffsets, HoldValues, HoldOffsets, IsLongEnough, HasWholeBitmap, CountsNulls}
-use Rattle.ipc_column.specs.Shapes.{dictionary_at}
+use Rattle.ipc_column.specs.checks.Rules.{AreOffsets, HoldValues, HoldOffsets, IsLongEnough, CountsNulls}
+use Rattle.ipc_column.specs.Shapes.{dictionary_of}
 use Rattle.ipc_column.specs.Values.{is_valid, offset, offset_position, between, signed_at, value_at, number_in}
 use Rattle.ipc_encode.specs.Bitmaps.{bitmap}
 use Rattle.ipc_encode.specs.Buffers.{column_nulls, piece_bytes}
@@ -33,7 +33,7 @@ use Rattle.ipc_encode.specs.Cells.{offsets, items, all_items, is_null}
 use Rattle.ipc_encode.specs.Columns.{validity_bytes, validity_in}
 use Rattle.ipc_encode.specs.Indices.{InColumn, FindsIndex, IsIndexWithin}
 use Rattle.ipc_encode.specs.Numbers.{Numbering, numbers_of, index_unless_null, as_number}
-use Rattle.ipc_encode.specs.Pieces.{Valid, True, Run, ValueSlot, Number, Fixed, Content}
+use Rattle.ipc_encode.specs.Pieces.{Valid, True, OffsetUnit, ValueSlot, Number, Fixed, Content}
 use Rattle.ipc_encode.specs.Pieces as p
 use Rattle.ipc_encode.proofs.Bits.{length_bytes, bit_of, flags_length, clear_is}
 use Rattle.ipc_encode.proofs.Indexed.{numbers_length, number_at}
@@ -74,7 +74,7 @@ column_of m known l vs = record {
   validity = validity_in l vs;
   offsets = offsets_in l vs;
   values = written_values known l vs;
-  dictionary = dictionary_at m l;
+  dictionary = dictionary_of m l;
 }
 
 -- a value that a layout with so many children holds; in a column of indices any value may stand
@@ -224,7 +224,7 @@ fixed_back width vs i d k =
 -- ---- offsets
 
 -- how long the runs of values are together
-abbrev pub reach : Run → List Value → ℕ
+abbrev pub reach : OffsetUnit → List Value → ℕ
 reach run [] = 0
 reach run (v ∷ vs) = extent run v + reach run vs
 
@@ -239,14 +239,14 @@ reach_items [] = refl
 reach_items (v ∷ vs) = let rest = reach_items vs in omega (arith, rest, length-append (items v) (all_items vs))
 
 -- the end of each slot is a number of 4 bytes
-pub ends_length : (run : Run) (start : ℕ) (vs : List Value) → length (ends run start vs) ≡ 4 * length vs
+pub ends_length : (run : OffsetUnit) (start : ℕ) (vs : List Value) → length (ends run start vs) ≡ 4 * length vs
 ends_length run start [] = omega arith
 ends_length run start (v ∷ vs) =
     let rest = ends_length run (start + extent run v) vs in
     omega (arith, rest)
 
 -- the number at offset i, behind a front
-pub ends_back : (run : Run) (vs : List Value) (front : List ℕ) (start i : ℕ) → i ≤ length vs
+pub ends_back : (run : OffsetUnit) (vs : List Value) (front : List ℕ) (start i : ℕ) → i ≤ length vs
     → num (front ++ (bytes_low_first 0 4 start ++ ends run start vs)) (length front + 4 * i) 4 ≡ (start + reach run (take i vs)) % 2 ^ 32
 ends_back run vs front start zero k =
     let at : length front ≡ length front + 4 * 0 = omega arith in
@@ -266,20 +266,20 @@ ends_back run (v ∷ vs) front start (suc i) k =
     ∙ (later ∙ ap (λ (m : ℕ). m % 2 ^ 32) sum))
 
 -- the runs before slot i reach no further than all
-pub front_most : (run : Run) (vs : List Value) (i : ℕ) → reach run (take i vs) ≤ reach run vs
+pub front_most : (run : OffsetUnit) (vs : List Value) (i : ℕ) → reach run (take i vs) ≤ reach run vs
 front_most run vs zero = omega arith
 front_most run [] (suc i) = omega arith
 front_most run (v ∷ vs) (suc i) = let rest = front_most run vs i in omega (arith, rest)
 
 -- with the run of value i they reach to where the next one begins
-pub front_more : (run : Run) (vs : List Value) (i : ℕ) (d : Value) → i < length vs
+pub front_more : (run : OffsetUnit) (vs : List Value) (i : ℕ) (d : Value) → i < length vs
     → reach run (take (suc i) vs) ≡ reach run (take i vs) + extent run (get_or vs i d)
 front_more run [] i d k = absurd (omega arith)
 front_more run (v ∷ vs) zero d k = omega arith
 front_more run (v ∷ vs) (suc i) d k = let rest = front_more run vs i d (omega arith) in omega (arith, rest)
 
 -- the end of slot i is where the runs before the next one reach
-pub end_is : (run : Run) (vs : List Value) (i : ℕ) → i ≤ length vs → reach run vs ≤ 2 ^ 31 - 1
+pub end_is : (run : OffsetUnit) (vs : List Value) (i : ℕ) → i ≤ length vs → reach run vs ≤ 2 ^ 31 - 1
     → num (offsets run vs) (4 * i) 4 ≡ reach run (take i vs)
 end_is run vs i k short =
     let most = front_most run vs i in
@@ -289,7 +289,7 @@ end_is run vs i k short =
     ∙ mod-eq_of_lt (omega (arith, most, short))))
 
 -- offset i is where the runs before slot i reach
-pub offset_is : (run : Run) (vs : List Value) (i : ℕ) → i ≤ length vs → reach run vs ≤ 2 ^ 31 - 1
+pub offset_is : (run : OffsetUnit) (vs : List Value) (i : ℕ) → i ≤ length vs → reach run vs ≤ 2 ^ 31 - 1
     → offset (offsets run vs) i ≡ pos (reach run (take i vs))
 offset_is run vs i k short =
     let most = front_most run vs i in
@@ -297,12 +297,12 @@ offset_is run vs i k short =
     ap (cast_signed w32) (end_is run vs i k short) ∙ to_z_pos w32 n (omega (arith, most, short))
 
 -- slot i begins where the runs before it reach
-pub place_is : (run : Run) (vs : List Value) (i : ℕ) → i ≤ length vs → reach run vs ≤ 2 ^ 31 - 1
+pub place_is : (run : OffsetUnit) (vs : List Value) (i : ℕ) → i ≤ length vs → reach run vs ≤ 2 ^ 31 - 1
     → offset_position (offsets run vs) i ≡ reach run (take i vs)
 place_is run vs i k short = ap unsigned_abs (offset_is run vs i k short)
 
 -- slot i ends behind its run
-pub place_next : (run : Run) (vs : List Value) (i : ℕ) (d : Value) → i < length vs → reach run vs ≤ 2 ^ 31 - 1
+pub place_next : (run : OffsetUnit) (vs : List Value) (i : ℕ) (d : Value) → i < length vs → reach run vs ≤ 2 ^ 31 - 1
     → offset_position (offsets run vs) (i + 1) ≡ reach run (take i vs) + extent run (get_or vs i d)
 place_next run vs i d k short =
     let more : i + 1 ≡ suc i = omega arith in
@@ -331,7 +331,7 @@ IsShort l.Lists vs = reach p.Items vs ≤ 2 ^ 31 - 1
 IsShort _ vs = ⊤
 
 -- the offsets that are written begin at 0 and ascend to a bound that all runs keep
-pub in_order : (run : Run) (vs : List Value) (Within : ℤ → Type 0) → reach run vs ≤ 2 ^ 31 - 1 → Within (pos (reach run vs))
+pub in_order : (run : OffsetUnit) (vs : List Value) (Within : ℤ → Type 0) → reach run vs ≤ 2 ^ 31 - 1 → Within (pos (reach run vs))
     → AreOffsets (offsets run vs) (length vs) Within
 in_order run vs Within short inside = record { from = first; order = λ i k. next i k; to = last }
   where
@@ -404,10 +404,10 @@ counts_nulls m known lay n vs h = record { with_bitmap = there lay; without_bitm
     none = validity_cases (λ bytes. length bytes ≡ 0 → nulls vs ≡ 0) vs (λ none h. none)
         (λ h. let e = bitmap_length vs in let m = nulls_most vs in omega (arith, e, h, m))
 
-    there : (l : Layout) → has_validity l ≡ true → 0 < length (validity_in l vs) → HasWholeBitmap (column_of m known l vs)
+    there : (l : Layout) → has_validity l ≡ true → 0 < length (validity_in l vs)
         → column_nulls l vs ≡ clear (validity_in l vs) (length vs)
-    there l.Null e h b = absurd (omega arith)
-    there _ e h b = some h
+    there l.Null e h = absurd (omega arith)
+    there _ e h = some h
 
     absent : (l : Layout) → AllHeld l n vs → has_validity l ≡ true → length (validity_in l vs) ≡ 0 → column_nulls l vs ≡ 0
     absent l.Null h e z = absurd (cc)

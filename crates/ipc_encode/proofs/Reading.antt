@@ -27,12 +27,12 @@ use Rattle.ipc_model.specs.declared.value.Value.TheVariants as v
 use Rattle.ipc_column.specs.Columns.{Column, Columns, Each, EachTop}
 use Rattle.ipc_column.specs.Dictionaries.{Dictionaries, values_for}
 use Rattle.ipc_column.specs.Rows.{Rows}
-use Rattle.ipc_column.specs.checks.Rules.{IsFieldNode, IsWithinBody, IsLongEnough, CountsNulls, HasOffsets, HasLongChildren, IsText}
+use Rattle.ipc_column.specs.checks.Rules.{IsFieldNode, IsWithinBody, IsLongEnough, CountsNulls, HasOffsets, HasLongChildren, TextsAreUtf8}
 use Rattle.ipc_column.specs.checks.Rules.{HasUtf8Texts}
 use Rattle.ipc_scalar.specs.Bytes.{IsBelow}
-use Rattle.ipc_column.specs.checks.Rules.{HasIndex, HoldsIndices}
-use Rattle.ipc_column.specs.Shapes.{dictionary_at, Shape, bare, field, shape_of, node_at, buffer_at, field_columns}
-use Rattle.ipc_column.specs.Values.{is_valid, offset_position, first_of, own_value, value_of, items as slots_from, row}
+use Rattle.ipc_column.specs.checks.Rules.{IndicesHaveValues, HoldsIndices}
+use Rattle.ipc_column.specs.Shapes.{dictionary_of, Shape, bare, field, shape_of, node_at, buffer_at, field_columns}
+use Rattle.ipc_column.specs.Values.{is_valid, offset_position, first_of, own_value, value_of, values_from as slots_from, row}
 use Rattle.ipc_encode.specs.Buffers.{child_values, nodes_of, row_columns, row_nodes, row_buffers_with, ranges_from, body_with}
 use Rattle.ipc_encode.specs.Cells.{is_null, is_true, bits_in, bytes_in, fixed_in, slots, offsets, items, items_in, all_items}
 use Rattle.ipc_encode.specs.Cells.{struct_member, part_in, all_parts, fixed_items, fixed_items_in, all_fixed_items, is_set, cell, cells}
@@ -215,7 +215,7 @@ fixed_list_is size vs i n xs rows k e count one picks =
 own_is : (ds : Dictionaries) (known : Numbering) (rows : ℕ → List Value) (l : Layout) (n : ℕ) (vs : List Value) (i : ℕ) (w : Value-F Value)
     → i < length vs → AllHeld l n vs → IsShort l vs → ArePicked rows n (child_values l vs)
     → out-Value (get_or vs i v.Null) ≡ w → Holds l n w → is_null w ≡ false → InColumn (FindsIndex ds known) l vs
-    → own_value l (dictionary_at ds l) rows (offsets_in l vs) (written_values known l vs) i ≡ get_or vs i v.Null
+    → own_value l (dictionary_of ds l) rows (offsets_in l vs) (written_values known l vs) i ≡ get_or vs i v.Null
 own_is ds known rows _ n vs i Value-F.Null k all short picks e h valid found = absurd (cc)
 own_is ds known rows l.Bits n vs i (Value-F.Bool truth) k all short picks e h valid found =
     ap (λ (b : Bool). v.Bool b) (bit_of True vs i v.Null k ∙ ap is_true e)
@@ -266,13 +266,13 @@ slot_is : (ds : Dictionaries) (known : Numbering) (rows : ℕ → List Value) (l
     ≡ validity_bytes vs
     → value_of rows (column_of ds known l vs) i ≡ get_or vs i v.Null
 slot_is ds known rows lay n vs i k all short picks found same =
-    let own = own_value lay (dictionary_at ds lay) rows (offsets_in lay vs) (written_values known lay vs) i in
+    let own = own_value lay (dictionary_of ds lay) rows (offsets_in lay vs) (written_values known lay vs) i in
     subst (λ (b : Bool). cond b own v.Null ≡ get_or vs i v.Null)
     (sym (ap (λ (bytes : List ℕ). is_valid bytes i) same ∙ valid_is vs i v.Null k))
     (by_null (is_null (out-Value (get_or vs i v.Null))) refl)
   where
     by_null : (b : Bool) → is_null (out-Value (get_or vs i v.Null)) ≡ b
-        → cond (not b) (own_value lay (dictionary_at ds lay) rows (offsets_in lay vs) (written_values known lay vs) i) v.Null
+        → cond (not b) (own_value lay (dictionary_of ds lay) rows (offsets_in lay vs) (written_values known lay vs) i) v.Null
         ≡ get_or vs i v.Null
     by_null true e = null_from (get_or vs i v.Null) (out-Value (get_or vs i v.Null)) refl e
     by_null false e =
@@ -404,9 +404,9 @@ long_children ds known _ children vs child held = tt
 
 ordered : (ds : Dictionaries) (known : Numbering) (l : Layout) (children : Shape) (vs : List Value) → IsShort l vs
     → HasOffsets l (length vs) (offsets_in l vs) (length (written_values known l vs)) (written ds known children (child_values l vs))
-ordered ds known (l.VariableBytes utf8) children vs short = λ some there.
+ordered ds known (l.VariableBytes utf8) children vs short = λ some.
     in_order p.Bytes vs (λ end. end ≤ℤ pos (length (slots Content vs))) short (omega (arith, ints, reach_bytes vs))
-ordered ds known l.Lists children vs short = λ some there.
+ordered ds known l.Lists children vs short = λ some.
     in_order p.Items vs (λ end. EachTop (λ c. end ≤ℤ pos c.slots) (written ds known children (child_values l.Lists vs))) short
     (slots_written ds known (λ n. pos (reach p.Items vs) ≤ℤ pos n) children (child_values l.Lists vs)
     (λ j. omega (arith, ints, reach_items vs)))
@@ -418,7 +418,7 @@ ordered ds known _ children vs short = tt
 text_is : (ds : Dictionaries) (known : Numbering) (most : ℕ) (l : Layout) (n : ℕ) (vs : List Value) (i : ℕ) (under : ℕ → Type 0)
     → IsGood ds known most l n vs → i < length vs
     → is_valid (validity_in l vs) i ≡ true → ((k : ℕ) → ((j : ℕ) → k < length (child_values l vs j)) → under k)
-    → IsText l under (offsets_in l vs) (written_values known l vs) i
+    → TextsAreUtf8 l under (offsets_in l vs) (written_values known l vs) i
 text_is ds known most (l.VariableBytes true) n vs i under g k valid more =
     let value = get_or vs i v.Null in
     let own = held_at (l.VariableBytes true) n vs i v.Null g.held k in
@@ -460,7 +460,7 @@ not_null false h = refl
 index_is : (ds : Dictionaries) (known : Numbering) (most : ℕ) (l : Layout) (n : ℕ) (vs : List Value) (i : ℕ) (under : ℕ → Type 0)
     → IsGood ds known most l n vs → i < length vs
     → is_valid (validity_in l vs) i ≡ true → ((k : ℕ) → ((j : ℕ) → k < length (child_values l vs j)) → under k)
-    → HasIndex l (dictionary_at ds l) under (offsets_in l vs) (written_values known l vs) i
+    → IndicesHaveValues l (dictionary_of ds l) under (offsets_in l vs) (written_values known l vs) i
 index_is ds known most (l.Indices bits signed id) n vs i under g k valid more =
     let value = get_or vs i v.Null in
     let flag : is_set Valid value ≡ true = sym (valid_is vs i v.Null k) ∙ valid in

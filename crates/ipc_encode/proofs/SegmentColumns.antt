@@ -13,7 +13,7 @@ use Rattle.ipc_model.specs.declared.schema.Field.{Field, out-Field}
 use Rattle.ipc_model.specs.declared.schema.Field.TheFolds.{fold_out-Field}
 use Rattle.ipc_model.specs.declared.value.Value.{Value}
 use Rattle.ipc_column.specs.Nested.{Nested}
-use Rattle.ipc_column.specs.Shapes.{Shape, bare, field, field_children, field_layout, field_shape, field_step, shape_of}
+use Rattle.ipc_column.specs.Shapes.{Shape, bare, field, child_shape, field_layout, field_shape, shape_step, shape_of}
 use Rattle.ipc_encode.specs.Buffers.{padded_bytes, ranges_from, child_values, buffers_with, column_buffers, data_buffers}
 use Rattle.ipc_encode.specs.Buffers.{row_columns, row_nodes, row_buffers_with, nodes_of, written_values}
 use Rattle.ipc_encode.specs.Built.{ArePushesRefused, IsColumn}
@@ -351,18 +351,18 @@ columns_refused limits known i shape given lay c d mid _ at so h = h
 
 -- field i has its layout and its children
 pub shape_at : (fields : List Field) (i : ℕ) (f : Field) → slice_get fields i ≡ Some f
-    → IsAt i (shape_of fields) (field_layout f) (field_children f)
+    → IsAt i (shape_of fields) (field_layout f) (child_shape f)
 shape_at [] i f e = absurd (cc (e))
 shape_at (g ∷ gs) zero f e =
     let same : g ≡ f = get_or_from_slice_get (g ∷ gs) zero f g e in
-    (ap (λ (x : Field). field_layout x) same, ap (λ (x : Field). field_children x) same)
+    (ap (λ (x : Field). field_layout x) same, ap (λ (x : Field). child_shape x) same)
 shape_at (g ∷ gs) (suc i) f e = shape_at gs i f e
 
 -- field i has them by its place
 pub shape_in : (fields : List Field) (i : ℕ) (f : Field) → i < length fields → f ≡ get_or fields i f
-    → IsAt i (shape_of fields) (field_layout f) (field_children f)
+    → IsAt i (shape_of fields) (field_layout f) (child_shape f)
 shape_in [] i f k e = absurd (omega (arith, k))
-shape_in (g ∷ gs) zero f k e = (ap (λ (x : Field). field_layout x) (sym e), ap (λ (x : Field). field_children x) (sym e))
+shape_in (g ∷ gs) zero f k e = (ap (λ (x : Field). field_layout x) (sym e), ap (λ (x : Field). child_shape x) (sym e))
 shape_in (g ∷ gs) (suc i) f k e = shape_in gs i f (omega (arith, k)) e
 
 -- the first of all fields are all
@@ -371,7 +371,7 @@ all_fields [] zero e = refl
 all_fields [] (suc i) e = refl
 all_fields (g ∷ gs) zero e = absurd (omega (arith, e))
 all_fields (g ∷ gs) (suc i) e =
-    ap (λ (s : Shape). field (field_layout g) (field_children g) s) (all_fields gs i (omega (arith, e)))
+    ap (λ (s : Shape). field (field_layout g) (child_shape g) s) (all_fields gs i (omega (arith, e)))
 
 -- fields whose columns are whole are as many as these
 pub whole_fields : (fields : List Field) (views : List Nested) (given : ℕ → List Value) → AreFullColumns (shape_of fields) views given
@@ -384,7 +384,7 @@ whole_fields (f ∷ fs) (v ∷ vs) given h = let more = whole_fields fs vs (λ j
 -- columns are whole where each of them is, and there is one for each field
 pub whole_all : (fields : List Field) (views : List Nested) (given : ℕ → List Value) → length fields ≡ length views
     → ((i : ℕ) → i < length fields → (f : Field) (v : Nested) → slice_get fields i ≡ Some f → slice_get views i ≡ Some v
-    → IsFullColumn (field_layout f) (field_children f) v (given i))
+    → IsFullColumn (field_layout f) (child_shape f) v (given i))
     → AreFullColumns (shape_of fields) views given
 whole_all [] [] given size each = tt
 whole_all [] (v ∷ vs) given size each = absurd (omega arith)
@@ -396,7 +396,7 @@ whole_all (f ∷ fs) (v ∷ vs) given size each = (
 
 -- the layout of a field, and the shape of its children
 pub field_parts : (f : Field) → field_shape f ≡ (layout (out-Field f).kind (out-Field f).dictionary, shape_of (out-Field f).children)
-field_parts f = fold_out-Field (Layout × Shape) field_step f
+field_parts f = fold_out-Field (Layout × Shape) shape_step f
 
 -- rows whose columns are added to an empty body are within the limits
 pub columns_within : (limits : Limits) (known : Numbering) (fields : List Field) (rows : List (List Value)) (d e : Draft)

@@ -80,7 +80,7 @@ validity_is vs =
       | false ↦ bitmap_bytes Valid vs
     ]
 
-pub ends_length : (run : p.Run) (start : ℕ) (vs : List Value) → length (ends run start vs) ≡ 4 * length vs
+pub ends_length : (run : p.OffsetUnit) (start : ℕ) (vs : List Value) → length (ends run start vs) ≡ 4 * length vs
 ends_length run start [] = omega arith
 ends_length run start (v ∷ vs) =
     let rest = ends_length run (start + extent run v) vs in
@@ -88,7 +88,7 @@ ends_length run start (v ∷ vs) =
     let size = length-append (bytes_low_first 0 4 (start + extent run v)) (ends run (start + extent run v) vs) in
     omega (arith, rest, here, size)
 
-pub offsets_size : (run : p.Run) (vs : List Value) → length (offsets run vs) ≡ 4 * (length vs + 1)
+pub offsets_size : (run : p.OffsetUnit) (vs : List Value) → length (offsets run vs) ≡ 4 * (length vs + 1)
 offsets_size run vs = let size = ends_length run 0 vs in omega (arith, size)
 
 -- ---- the data of a column

@@ -25,7 +25,7 @@ use Rattle.ipc_encode.specs.Cells.{struct_member, fixed_items, all_fixed_items, 
 use Rattle.ipc_encode.specs.Cells.{fixed_bytes, fixed_in, items_in}
 use Rattle.ipc_encode.specs.Columns.{value_len, data_in, validity_bytes, validity_in}
 use Rattle.ipc_encode.specs.Numbers.{Numbering}
-use Rattle.ipc_encode.specs.Pieces.{Flag, Run, Valid, ValueSlot}
+use Rattle.ipc_encode.specs.Pieces.{Flag, OffsetUnit, Valid, ValueSlot}
 use Rattle.ipc_encode.specs.Pieces as p
 use Rattle.ipc_encode.specs.declared.column.ColumnBuilder.{ColumnBuilder}
 
@@ -108,11 +108,11 @@ all_fixed_length size (value ∷ vs) =
 -- ---- offsets
 
 -- how long the runs of values are together
-abbrev pub extents : Run → List Value → ℕ
+abbrev pub extents : OffsetUnit → List Value → ℕ
 extents run [] = 0
 extents run (v ∷ vs) = extent run v + extents run vs
 
-pub ends_push : (run : Run) (start : ℕ) (vs : List Value) (v : Value)
+pub ends_push : (run : OffsetUnit) (start : ℕ) (vs : List Value) (v : Value)
     → ends run start (vs ++ v ∷ []) ≡ ends run start vs ++ bytes_low_first 0 4 (start + extents run (vs ++ v ∷ []))
 ends_push run start [] v =
     let same : start + extent run v ≡ start + (extent run v + 0) = omega arith in
@@ -125,7 +125,7 @@ ends_push run start (w ∷ vs) v =
     ∙ sym (append_assoc here (ends run (start + extent run w) vs)
     (bytes_low_first 0 4 (start + (extent run w + extents run (vs ++ v ∷ [])))))
 
-pub offsets_push : (run : Run) (vs : List Value) (v : Value)
+pub offsets_push : (run : OffsetUnit) (vs : List Value) (v : Value)
     → offsets run (vs ++ v ∷ []) ≡ offsets run vs ++ bytes_low_first 0 4 (extents run (vs ++ v ∷ []))
 offsets_push run vs v =
     let same : 0 + extents run (vs ++ v ∷ []) ≡ extents run (vs ++ v ∷ []) = omega arith in
@@ -187,7 +187,7 @@ below_none _ j = refl
 -- ---- the offsets of a column
 
 -- one offset more
-pub offsets_more : (run : Run) (vs : List Value) (v : Value) (end : ℕ) (old new : List ℕ) → end ≡ extents run (vs ++ v ∷ [])
+pub offsets_more : (run : OffsetUnit) (vs : List Value) (v : Value) (end : ℕ) (old new : List ℕ) → end ≡ extents run (vs ++ v ∷ [])
     → old ≡ offsets run vs → new ≡ old ++ bytes_low_first 0 4 end → new ≡ offsets run (vs ++ v ∷ [])
 offsets_more run vs v end old new size o n =
     n ∙ (ap (λ (k : ℕ). old ++ bytes_low_first 0 4 k) size

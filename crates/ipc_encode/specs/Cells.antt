@@ -8,7 +8,7 @@ use Rattle.ipc_model.specs.declared.value.Value.{Value, out-Value}
 use Rattle.ipc_model.specs.declared.value.Value.TheOpen.{Value-F}
 use Rattle.ipc_model.specs.declared.value.Value.TheVariants as v
 use Rattle.ipc_model.specs.Layouts.{number_bytes}
-use Rattle.ipc_encode.specs.Pieces.{Flag, Run, ValueSlot}
+use Rattle.ipc_encode.specs.Pieces.{Flag, OffsetUnit, ValueSlot}
 use Rattle.ipc_encode.specs.Pieces as p
 
 -- the value that a row has in column j
@@ -130,19 +130,19 @@ slots which [] = []
 slots which (value ∷ values) = slot_bytes which value ++ slots which values
 
 -- the length of a value's slot: in bytes, or in items of a list
-abbrev pub extent : Run → Value → ℕ
+abbrev pub extent : OffsetUnit → Value → ℕ
 extent p.Bytes value = length (content value)
 extent p.Items value = length (items value)
 
 -- the places where the slots of values end, if the first begins at `start`, as 32-bit numbers
-abbrev pub ends : Run → ℕ → List Value → List ℕ
+abbrev pub ends : OffsetUnit → ℕ → List Value → List ℕ
 ends run start [] = []
 ends run start (value ∷ values) = bytes_low_first 0 4 (start + extent run value)
     ++ ends run (start + extent run value) values
 
 -- the offsets: 0, and the place where each slot ends (Arrow Columnar Format, "Variable-size Binary
 -- Layout", "Variable-size List Layout")
-abbrev pub offsets : Run → List Value → List ℕ
+abbrev pub offsets : OffsetUnit → List Value → List ℕ
 offsets run values = bytes_low_first 0 4 0 ++ ends run 0 values
 
 -- a text is UTF-8; any other value is accepted

@@ -15,9 +15,9 @@ pub data ValueSlot : Type 0 where
   Content : ValueSlot
 
 -- what offsets count in a slot of variable length: bytes, or values of the one child
-pub data Run : Type 0 where
-  Bytes : Run
-  Items : Run
+pub data OffsetUnit : Type 0 where
+  Bytes : OffsetUnit
+  Items : OffsetUnit
 
 -- the content of one buffer: nothing, for an absent validity bitmap; one bit for each value; one
 -- slot for each value; or the offsets of slots
@@ -25,4 +25,4 @@ pub data Piece : Type 0 where
   Absent : Piece
   Flags : Flag → Piece
   Slots : ValueSlot → Piece
-  Offsets : Run → Piece
+  Offsets : OffsetUnit → Piece

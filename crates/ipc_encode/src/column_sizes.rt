@@ -2,7 +2,7 @@
 ghost use Rattle.std.specs.Prelude.{◌≡◌, ◌++◌, List, [], ◌∷◌, IfOk, IfErr};
 ghost use Rattle.ipc_model.specs.declared.schema.Field.{Field};
 ghost use Rattle.ipc_model.specs.declared.value.Value.{Value};
-ghost use Rattle.ipc_column.specs.Shapes.{bare, field, field_children, shape_of};
+ghost use Rattle.ipc_column.specs.Shapes.{bare, field, child_shape, shape_of};
 ghost use Rattle.ipc_encode.specs.Buffers.{row_columns};
 ghost use Rattle.ipc_encode.specs.Built.{AreCountsOf};
 ghost use Rattle.ipc_encode.specs.ColumnSizes.{as_rows, CountsRows};
@@ -31,7 +31,7 @@ impl ColumnSizes {
     /// A binary or UTF-8 column has one offset (Arrow Columnar Format, "Variable-size Binary
     /// Layout").
     pub fn new(field: &Field, limits: &Limits) -> Result<ColumnSizes, PushFault>
-        requires { field_children field.now ≡ bare }
+        requires { child_shape field.now ≡ bare }
         ensures counts { IfOk result (CountsRows limits.now (field.now ∷ []) []) }
         ensures refused { IfErr result (λ fault. (fault ≡ PushFault.TooLong)
             × AreColumnsTooLong limits.now (field.now ∷ []) []) }

@@ -8,7 +8,7 @@ ghost use Rattle.ipc_model.specs.WellFormed.{IsFieldWellFormed};
 ghost use Rattle.ipc_column.specs.Dictionaries.{Dictionaries};
 ghost use Rattle.ipc_column.specs.Rows.{Rows};
 ghost use Rattle.ipc_column.specs.Shapes as shapes;
-ghost use Rattle.ipc_column.specs.Shapes.{bare, field, field_children, field_layout, shape_of};
+ghost use Rattle.ipc_column.specs.Shapes.{bare, field, child_shape, field_layout, shape_of};
 ghost use Rattle.ipc_column.specs.Shapes.{Shape};
 ghost use Rattle.ipc_encode.specs.Buffers.{row_columns};
 ghost use Rattle.ipc_encode.specs.Cells.{cells, cell};
@@ -95,10 +95,10 @@ fn add_field<'a, I: IndexOf, N: Renumber>(
     requires { draft.old.len ≤ limits.now.body }
     ensures adds { OnOk result (AddsColumns limits.now
         (new_indices (N.Renumber.number numbers.now) (index_or_zero (I.IndexOf.index indices.now)))
-        (shapes.field (field_layout field.now) (field_children field.now) bare)
+        (shapes.field (field_layout field.now) (child_shape field.now) bare)
         (λ j. cells column batch.now.rows) draft.old draft.new) }
     ensures refused { IfErr result (AreRefusedAfter limits.now draft.old.len
-        (shapes.field (field_layout field.now) (field_children field.now) bare)
+        (shapes.field (field_layout field.now) (child_shape field.now) bare)
         (λ j. cells column batch.now.rows)) }
 {
     if column < batch.columns() {

@@ -7,7 +7,7 @@ ghost use Rattle.ipc_column.specs.Lending.{MarksNulls};
 ghost use Rattle.ipc_column.specs.Lent.{AreOfColumn};
 ghost use Rattle.ipc_column.specs.Nested.{slot_values};
 ghost use Rattle.ipc_column.specs.Shapes as shapes;
-ghost use Rattle.ipc_column.specs.Shapes.{bare, field_children, field_layout};
+ghost use Rattle.ipc_column.specs.Shapes.{bare, child_shape, field_layout};
 ghost use Rattle.ipc_column.specs.Values.{is_valid};
 ghost use Rattle.ipc_encode.specs.Buffers.{padded_bytes};
 ghost use Rattle.ipc_encode.specs.Cells.{cell, cells, is_set, number_bits, slots};
@@ -185,11 +185,11 @@ pub(crate) fn add_indexed<'a, I: IndexOf, N: Renumber>(
 ) -> Result<bool, PushFault>
     ensures adds { IfOk result (λ added. added ≡ true → AddsColumns limits.now
         (new_indices (N.Renumber.number numbers.now) (index_or_zero (I.IndexOf.index indices.now)))
-        (shapes.field (field_layout field.now) (field_children field.now) bare)
+        (shapes.field (field_layout field.now) (child_shape field.now) bare)
         (λ j. cells column batch.now.rows) draft.old draft.new) }
     ensures none { IfOk result (λ added. added ≡ false → draft.new ≡ draft.old) }
     ensures refused { IfErr result (AreRefusedAfter limits.now draft.old.len
-        (shapes.field (field_layout field.now) (field_children field.now) bare)
+        (shapes.field (field_layout field.now) (child_shape field.now) bare)
         (λ j. cells column batch.now.rows)) }
 {
     if column >= batch.columns() {

@@ -10,7 +10,7 @@ ghost use Rattle.ipc_column.specs.Nested.{Nested, only_column, slot_values};
 ghost use Rattle.ipc_column.specs.checks.Checks.{has_bitmap};
 ghost use Rattle.ipc_column.specs.checks.Rules.{HasUtf8Texts};
 ghost use Rattle.ipc_column.specs.Shapes as shapes;
-ghost use Rattle.ipc_column.specs.Shapes.{bare, field, field_children, field_layout, shape_of};
+ghost use Rattle.ipc_column.specs.Shapes.{bare, field, child_shape, field_layout, shape_of};
 ghost use Rattle.ipc_column.specs.Slots.{nested_in};
 ghost use Rattle.ipc_column.specs.Values.{is_valid};
 ghost use Rattle.ipc_encode.specs.Buffers.{child_values, data_buffers, padded_bytes};
@@ -161,7 +161,7 @@ fn layout_at(field: &Field) -> Layout
 pub(crate) fn has_field_layout(field: &Field, view: &SlotView<'_>) -> bool
     ensures { IsTrue result
         → ((i : ℕ) → i < length (slot_values view.now) → HasUtf8Texts (only_column view.now) i)
-        → IsFullColumn (field_layout field.now) (field_children field.now) view.now
+        → IsFullColumn (field_layout field.now) (child_shape field.now) view.now
         (slot_values view.now) }
 {
     let fields = field.children.as_slice();
@@ -296,14 +296,14 @@ pub(crate) fn add_whole<'a>(
     view: &SlotView<'a>,
     limits: &Limits,
 ) -> Result<(), PushFault>
-    requires whole { IsFullColumn (field_layout field.now) (field_children field.now) view.now
+    requires whole { IsFullColumn (field_layout field.now) (child_shape field.now) view.now
         (slot_values view.now) }
     requires within { draft.old.len ≤ limits.now.body }
     ensures adds { (known : Numbering) → OnOk result (AddsColumns limits.now known
-        (shapes.field (field_layout field.now) (field_children field.now) bare)
+        (shapes.field (field_layout field.now) (child_shape field.now) bare)
         (λ j. slot_values view.now) draft.old draft.new) }
     ensures refused { IfErr result (AreRefusedAfter limits.now draft.old.len
-        (shapes.field (field_layout field.now) (field_children field.now) bare)
+        (shapes.field (field_layout field.now) (child_shape field.now) bare)
         (λ j. slot_values view.now)) }
 {
     add_own(draft, layout_at(field), view, limits)?;

@@ -3,7 +3,7 @@ use Rattle.std.proofs.Common.{◌≡◌, ap, ◌+◌, ◌≤◌, ◌++◌, lengt
 use Rattle.ipc_model.specs.declared.limits.Limits.{Limits}
 use Rattle.ipc_frame.specs.Buffers.{filled_bytes}
 use Rattle.ipc_frame.specs.Parts.{received_bytes}
-use Rattle.ipc_frame.specs.Pieces.{IsSound, held_of, progress_of}
+use Rattle.ipc_frame.specs.Pieces.{MatchesPhase, held_of, progress_of}
 use Rattle.ipc_frame.specs.declared.partial_message.FramePhase.{FramePhase}
 use Rattle.ipc_frame.specs.declared.partial_message.FramePhase.TheVariants as phase
 use Rattle.ipc_frame.specs.declared.partial_message.Expectation.TheVariants as expectation
@@ -17,7 +17,7 @@ lengths p = omega (
 )
 
 -- the parts in front of a body have few bytes
-pub front_fits : (limits : Limits) (p : PartialMessage) (s : FramePhase) → IsSound limits p s
+pub front_fits : (limits : Limits) (p : PartialMessage) (s : FramePhase) → MatchesPhase limits p s
     → length p.start + length (filled_bytes p.meta) ≤ 268435464
 front_fits limits p (phase.Reading expectation.Continuation) h = omega (arith, h.fits.few, ap length h.fits.no_metadata)
 front_fits limits p (phase.Reading expectation.Size) h = omega (arith, h.fits.few, ap length h.fits.no_metadata)
@@ -28,14 +28,14 @@ front_fits limits p phase.Ended h = omega (arith, ap length h.0, lengths p)
 front_fits limits p phase.Refused h = omega (arith, ap length h.0, lengths p)
 
 -- the bytes that are kept are counted
-pub held_is : (limits : Limits) (p : PartialMessage) (s : FramePhase) → IsSound limits p s
+pub held_is : (limits : Limits) (p : PartialMessage) (s : FramePhase) → MatchesPhase limits p s
     → length p.start + length (filled_bytes p.meta) + length (filled_bytes p.body) ≡ held_of (progress_of p s)
 held_is limits p (phase.Reading a) h = omega (arith, lengths p)
 held_is limits p phase.Ended h = omega (arith, ap length h.0, lengths p)
 held_is limits p phase.Refused h = omega (arith, ap length h.0, lengths p)
 
 -- no more is kept than one message may have
-pub held_bounded : (limits : Limits) (p : PartialMessage) (s : FramePhase) → IsSound limits p s
+pub held_bounded : (limits : Limits) (p : PartialMessage) (s : FramePhase) → MatchesPhase limits p s
     → length p.start + length (filled_bytes p.meta) + length (filled_bytes p.body) ≤ 8 + limits.metadata + limits.body
 held_bounded limits p (phase.Reading expectation.Continuation) h =
     omega (arith, h.fits.few, ap length h.fits.no_metadata, ap length h.fits.no_body)

@@ -6,7 +6,7 @@ use Rattle.ipc_model.specs.declared.fault.Fault.{Fault}
 use Rattle.ipc_model.specs.declared.limits.Limits.{Limits}
 use Rattle.ipc_frame.specs.Parts.{Capacity, GrowsWithBytes, no_capacity}
 use Rattle.ipc_frame.specs.Pieces.{Concludes, Progress, held_of}
-use Rattle.ipc_frame.specs.declared.frame.Frame.{Frame as Framed}
+use Rattle.ipc_frame.specs.declared.frame.Frame.{Frame}
 
 -- room that stays
 pub grows_same : (a : Capacity) (n : ℕ) → GrowsWithBytes a a n
@@ -31,7 +31,7 @@ pub no_fewer : (z x c : List ℕ) → z ≡ x ++ c → length x ≤ length z
 no_fewer z x c is = omega (arith, ap length is, length-append x c)
 
 -- what was decided leaves the room that it found, or none
-pub grows_concluded : (limits : Limits) (old mid new : Capacity) (z : List ℕ) (q : Progress) (r : Result (Option Framed) Fault)
+pub grows_concluded : (limits : Limits) (old mid new : Capacity) (z : List ℕ) (q : Progress) (r : Result (Option Frame) Fault)
     → GrowsWithBytes old mid (length z) → GrowsWithBytes mid new 0 → Concludes limits z q r
     → MatchResult r (λ found. IfSome found (λ _. new ≡ no_capacity)) (λ _. new ≡ no_capacity) → GrowsWithBytes old new (held_of q)
 grows_concluded limits old mid new z q (Ok None) g h k moved = rw k.0 (record {

@@ -1,4 +1,4 @@
--- The bytes of a body, at the front of a list that may be longer.
+-- The bytes of a body, at the front of a buffer that may be longer.
 use Rattle.std.proofs.Common.{◌≡◌, ◌∙◌, refl, sym, ap, subst, ℕ, ◌+◌, ◌-◌, ◌<◌, ◌≤◌, List, [], ◌∷◌, ◌++◌, Option, length, take, drop}
 use Rattle.std.proofs.Common.{length-append, length-take, length-drop, arith}
 use Rattle.std.proofs.lemmas.List.{take_at}
@@ -8,7 +8,7 @@ use Rattle.ipc_frame.specs.Buffers.{KeepsOne, filled_bytes}
 use Rattle.ipc_frame.specs.Frames.{Begins, Pending}
 use Rattle.ipc_frame.specs.Parts.{received_bytes, InMark, InSize, InMetadata, InBody, Undecided}
 use Rattle.ipc_frame.specs.Pieces.{HasBody, progress_of, taking}
-use Rattle.ipc_frame.specs.Pulled.{Behind, Comes}
+use Rattle.ipc_frame.specs.Pulled.{ReadsAfter, Comes}
 use Rattle.ipc_frame.specs.declared.partial_buffer.PartialBuffer.{PartialBuffer}
 use Rattle.ipc_frame.specs.declared.partial_message.FramePhase.{FramePhase}
 use Rattle.ipc_frame.specs.declared.partial_message.FramePhase.TheVariants as phase
@@ -17,28 +17,28 @@ use Rattle.ipc_frame.specs.declared.partial_message.Expectation.TheVariants as e
 use Rattle.ipc_frame.specs.declared.partial_message.PartialMessage.{PartialMessage}
 use Rattle.ipc_frame.proofs.Exact.{begins_longer, begins_one}
 
--- what came behind the first bytes of a list, where it is written back whole
+-- what came behind the first bytes of a buffer, where it is written back whole
 pub behind_whole : (a b : Option (List ℕ)) (items part buffer : List ℕ) (start size k : ℕ) → length buffer ≡ length items
-    → size ≡ length items → part ≡ items → Behind a b part buffer start k
-    → Behind a b items (take size (buffer ++ drop (length buffer) items)) start k
+    → size ≡ length items → part ≡ items → ReadsAfter a b part buffer start k
+    → ReadsAfter a b items (take size (buffer ++ drop (length buffer) items)) start k
 behind_whole a b items part buffer start size k same all is h =
     let whole : take size (buffer ++ drop (length buffer) items) ≡ buffer =
     take_at buffer (drop (length buffer) items) size (same ∙ sym all) in
-    subst (λ z. Behind a b items z start k) (sym whole) (subst (λ z. Behind a b z buffer start k) is h)
+    subst (λ z. ReadsAfter a b items z start k) (sym whole) (subst (λ z. ReadsAfter a b z buffer start k) is h)
 
--- what came behind the first bytes of a list came behind a body that has these
-pub comes_in : (a b : Option (List ℕ)) (items list : List ℕ) (len room wanted k : ℕ) → k ≤ room → room ≤ wanted
-    → Behind a b items list len k → Comes a b (take len items) (take (len + k) list) wanted k
-comes_in a b items list len room wanted k few wants h = record {
-  came = take k (drop len list);
-  list = take-add len k list ∙ ap (λ z. z ++ take k (drop len list)) h.before;
-  count = omega (arith, length-take k (drop len list), length-drop len list, h.fits);
+-- what came behind the first bytes of a buffer came behind a body that has these
+pub comes_in : (a b : Option (List ℕ)) (items buffer : List ℕ) (len room wanted k : ℕ) → k ≤ room → room ≤ wanted
+    → ReadsAfter a b items buffer len k → Comes a b (take len items) (take (len + k) buffer) wanted k
+comes_in a b items buffer len room wanted k few wants h = record {
+  came = take k (drop len buffer);
+  buffer = take-add len k buffer ∙ ap (λ z. z ++ take k (drop len buffer)) h.before;
+  count = omega (arith, length-take k (drop len buffer), length-drop len buffer, h.fits);
   few = omega arith;
   bytes = h.bytes;
   at_end = h.at_end;
 }
 
--- the same bytes in another list are as far
+-- the same bytes in another buffer are as far
 module _ (limits : Limits) (p : PartialMessage) (b : PartialBuffer) (same : filled_bytes b ≡ filled_bytes p.body) where
   abbrev pub with_body : PartialMessage
   with_body = record { start = p.start; meta = p.meta; body = b }

@@ -10,7 +10,7 @@ use Rattle.ipc_meta.specs.declared.head.Head.{Head}
 use Rattle.ipc_meta.specs.Causes.{Cause}
 use Rattle.ipc_meta.specs.Heads.{HeadOf}
 use Rattle.ipc_frame.specs.Buffers.{filled_bytes}
-use Rattle.ipc_frame.specs.Frames.{end_of_stream, Frame, Begins, Pending, in_metadata, in_body}
+use Rattle.ipc_frame.specs.Frames.{end_of_stream, Encapsulates, Begins, Pending, in_metadata, in_body}
 use Rattle.ipc_frame.specs.Sees.{RefusesMessage}
 use Rattle.ipc_frame.specs.Parts.{received_bytes, InSize, InMetadata, InBody, Undecided}
 use Rattle.ipc_frame.specs.declared.partial_message.PartialMessage.{PartialMessage}
@@ -32,7 +32,7 @@ module _ (limits : Limits) (s m b : List ℕ) (eight : length s ≡ 8) where
       let size : 8 + n - 8 ≡ n = omega arith in
       ap (λ k. take k (drop 8 (s ++ (m ++ b)))) size ∙ (ap (take n) behind_start ∙ take_at m b n (sym is))
 
-  whole_frame : (head : Head) → Begins limits s (length m) → HeadOf limits m head (length b) → Frame limits (s ++ (m ++ b)) m head b
+  whole_frame : (head : Head) → Begins limits s (length m) → HeadOf limits m head (length b) → Encapsulates limits (s ++ (m ++ b)) m head b
   whole_frame head begins states =
       let all = begins_longer s (m ++ b) (length m) begins in
       record { prefix = all.prefix; marked = all.marked; sized = all.sized; carried = behind_start; fits = all.fits; states = states }
@@ -113,8 +113,8 @@ module _ (limits : Limits) (p : PartialMessage) (n : ℕ) (h : InMetadata limits
       pending = awaits_body limits _ _ _ h.eight k _ head here states (omega (arith, none)) (omega (arith, none));
     }
 
-    pub empty_body : (head : Head) → HeadOf limits (filled_bytes p.meta) head 0 → Frame limits (received_bytes p) (filled_bytes p.meta) head
-        (filled_bytes p.body)
+    pub empty_body : (head : Head) → HeadOf limits (filled_bytes p.meta) head 0
+        → Encapsulates limits (received_bytes p) (filled_bytes p.meta) head (filled_bytes p.body)
     empty_body head states =
         whole_frame limits _ _ _ h.eight head here (subst (λ j. HeadOf limits (filled_bytes p.meta) head j) (sym none) states)
 
@@ -132,7 +132,7 @@ module _ (limits : Limits) (p : PartialMessage) (n : ℕ) (h : InBody limits p.s
   }
 
   pub whole_body : (k : ℕ) (head : Head) → n ≤ length (filled_bytes p.body) → HeadOf limits (filled_bytes p.meta) head k → k ≡ n
-      → Frame limits (received_bytes p) (filled_bytes p.meta) head (filled_bytes p.body)
+      → Encapsulates limits (received_bytes p) (filled_bytes p.meta) head (filled_bytes p.body)
   whole_body k head whole states same =
       let all : k ≡ length (filled_bytes p.body) = omega (arith, h.few) in
       whole_frame limits _ _ _ h.eight head h.begins (subst (λ j. HeadOf limits (filled_bytes p.meta) head j) all states)

@@ -13,10 +13,10 @@ use Rattle.ipc_frame.specs.Sees.{IsFrame, RefusesMessage}
 use Rattle.ipc_frame.specs.Decisions.{RefusesNow}
 use Rattle.ipc_frame.specs.Failures.{IsOutside, UnlessOutside}
 use Rattle.ipc_frame.specs.Parts.{received_bytes, bytes_needed, Undecided}
-use Rattle.ipc_frame.specs.Pieces.{Concludes, Feeds, Progress, taking, ended, refused}
-use Rattle.ipc_frame.specs.Pulled.{Comes, EndsAt, Gives, TakesFromSource}
+use Rattle.ipc_frame.specs.Pieces.{Concludes, FeedsFrames, Progress, taking, ended, refused}
+use Rattle.ipc_frame.specs.Pulled.{Comes, EndsAt, GivesFrame, TakesFromSource}
 use Rattle.ipc_frame.specs.Laws.{feed_result}
-use Rattle.ipc_frame.specs.declared.frame.Frame.{Frame as Framed}
+use Rattle.ipc_frame.specs.declared.frame.Frame.{Frame}
 use Rattle.ipc_frame.specs.declared.partial_message.PartialMessage.{PartialMessage}
 use Rattle.ipc_frame.specs.declared.partial_message.Expectation.{Expectation}
 use Rattle.ipc_frame.proofs.Exact.{refuses_now}
@@ -44,25 +44,25 @@ module _ (limits : Limits) (a b : Option (List ℕ)) (p : PartialMessage) (w : E
   few : length c.came ≤ bytes_needed p w
   few = omega (arith, c.count, c.few)
 
-  gives : (r : Result (Option Framed) Fault) → Concludes limits z new r → Gives limits (taking (received_bytes p)) c.came new r
-  gives (Ok None) g = (refl, g.0 ∙ ap taking c.list, (g.1.0, subst (λ x. Pending limits x g.1.0) c.list g.1.1))
+  gives : (r : Result (Option Frame) Fault) → Concludes limits z new r → GivesFrame limits (taking (received_bytes p)) c.came new r
+  gives (Ok None) g = (refl, g.0 ∙ ap taking c.buffer, (g.1.0, subst (λ x. Pending limits x g.1.0) c.buffer g.1.1))
   gives (Ok (Some frame)) g =
       let all : z ≡ received_bytes p ++ take (length c.came) c.came =
-      c.list ∙ ap (λ x. received_bytes p ++ x) (sym (take_all (length c.came) c.came (omega arith))) in
+      c.buffer ∙ ap (λ x. received_bytes p ++ x) (sym (take_all (length c.came) c.came (omega arith))) in
       (omega arith, g.0, subst (λ x. IsFrame limits x frame) all g.1)
   gives (Err fault) g = (
     g.0,
     λ r m.
         refuses_now limits (received_bytes p) c.came (bytes_needed p w) few h.pending fault
-        (subst (λ x. RefusesMessage limits x fault) c.list (g.1 m)),
+        (subst (λ x. RefusesMessage limits x fault) c.buffer (g.1 m)),
   )
 
-  ends : (r : Result (Option Framed) Fault) → EndsAt (taking (received_bytes p)) c.came b r
+  ends : (r : Result (Option Frame) Fault) → EndsAt (taking (received_bytes p)) c.came b r
   ends (Ok None) = λ none. c.at_end (sym c.count ∙ ap length none)
   ends (Ok (Some frame)) = tt
   ends (Err fault) = tt
 
-  pub takes_came : (r : Result (Option Framed) Fault) → Concludes limits z new r
+  pub takes_came : (r : Result (Option Frame) Fault) → Concludes limits z new r
       → TakesFromSource limits a b (taking (received_bytes p)) new k r
   takes_came r g = record {
     came = c.came;
@@ -74,9 +74,9 @@ module _ (limits : Limits) (a b : Option (List ℕ)) (p : PartialMessage) (w : E
   }
 
 -- what is answered of the bytes that came is what is answered of a piece of them
-pub pulled_as_fed : (limits : Limits) (before after : Progress) (came : List ℕ) (r : Result (Option Framed) Fault)
-    → Gives limits before came after r → MatchResult r (λ _. Unit {0}) (λ fault. fault ≢ Read)
-    → Feeds limits before came after (feed_result (length came) r)
+pub pulled_as_fed : (limits : Limits) (before after : Progress) (came : List ℕ) (r : Result (Option Frame) Fault)
+    → GivesFrame limits before came after r → MatchResult r (λ _. Unit {0}) (λ fault. fault ≢ Read)
+    → FeedsFrames limits before came after (feed_result (length came) r)
 pulled_as_fed limits before after came (Ok found) g worked = g
 pulled_as_fed limits (taking z) after came (Err fault) g worked =
     let all : take (length came) came ≡ came = take_all (length came) came (omega arith) in

@@ -5,7 +5,7 @@ use Rattle.ipc_meta.specs.declared.head.Head.{Head}
 use Rattle.ipc_meta.specs.Heads.{HeadOf}
 use Rattle.ipc_meta.proofs.Empty.{no_metadata}
 use Rattle.ipc_frame.specs.Buffers.{filled_bytes}
-use Rattle.ipc_frame.specs.Frames.{Frame, IsSized}
+use Rattle.ipc_frame.specs.Frames.{Encapsulates, IsSized}
 use Rattle.ipc_frame.specs.Parts.{received_bytes, FitsExpectation, HasSize}
 use Rattle.ipc_frame.specs.declared.partial_message.Expectation.{Expectation}
 use Rattle.ipc_frame.specs.declared.partial_message.Expectation.TheVariants as expectation
@@ -37,7 +37,7 @@ pub sized_alone : {limits : Limits} → (z : List ℕ) → IsSized limits z → 
 sized_alone z h = sized_longer z [] h
 
 -- a message has a size
-pub frame_sized : {limits : Limits} → (x m body : List ℕ) (g : Head) → Frame limits x m g body → IsSized limits x
+pub frame_sized : {limits : Limits} → (x m body : List ℕ) (g : Head) → Encapsulates limits x m g body → IsSized limits x
 frame_sized x m body g f = (
   length m,
   some_metadata m g (length body) f.states,

@@ -12,8 +12,8 @@ use Rattle.ipc_frame.specs.Frames.{IsSized, Pending}
 use Rattle.ipc_frame.specs.Sees.{IsFrame, RefusesMessage}
 use Rattle.ipc_frame.specs.Decisions.{RefusesNow}
 use Rattle.ipc_frame.specs.Parts.{HasSize, received_bytes, bytes_needed, Undecided}
-use Rattle.ipc_frame.specs.Pieces.{Concludes, Feeds, IsSound, Progress, TakesMemory, progress_of, taking, ended, refused}
-use Rattle.ipc_frame.specs.declared.frame.Frame.{Frame as Framed}
+use Rattle.ipc_frame.specs.Pieces.{Concludes, FeedsFrames, MatchesPhase, Progress, TakesMemory, progress_of, taking, ended, refused}
+use Rattle.ipc_frame.specs.declared.frame.Frame.{Frame}
 use Rattle.ipc_frame.specs.declared.partial_message.PartialMessage.{PartialMessage}
 use Rattle.ipc_frame.specs.declared.partial_message.Expectation.{Expectation}
 use Rattle.ipc_frame.specs.declared.partial_message.FramePhase.{FramePhase}
@@ -39,7 +39,7 @@ fed_on refused x = refused
 -- a beginning of the piece was taken, and nothing is decided
 pub record Feeding (limits : Limits) (old : Progress) (piece : List ℕ) (p : PartialMessage) (s : FramePhase) (taken : ℕ) : Type 0 where
   pub within : taken ≤ length piece
-  pub sound : IsSound limits p s
+  pub sound : MatchesPhase limits p s
   pub progress : progress_of p s ≡ fed_on old (take taken piece)
 
 -- what was stored before, where bytes are stored
@@ -51,17 +51,17 @@ stored refused x z is = absurd (cc)
 module _ (limits : Limits) (old : Progress) (piece : List ℕ) (p : PartialMessage) (s : FramePhase) (taken : ℕ)
     (h : Feeding limits old piece p s taken) (a : Expectation) (reading : s ≡ phase.Reading a) where
   pub undecided : Undecided limits p a
-  undecided = subst (IsSound limits p) reading h.sound
+  undecided = subst (MatchesPhase limits p) reading h.sound
 
   before : (w : List ℕ) × (old ≡ taking w) × (received_bytes p ≡ w ++ take taken piece)
   before = stored old (take taken piece) (received_bytes p) (ap (progress_of p) (sym reading) ∙ h.progress)
 
-  feeds_here : (r : Result (ℕ × Option Framed) Fault) (new : Progress) → Feeds limits (taking before.0) piece new r
-      → Feeds limits old piece new r
-  feeds_here r new f = subst (λ q. Feeds limits q piece new r) (sym before.1) f
+  feeds_here : (r : Result (ℕ × Option Frame) Fault) (new : Progress) → FeedsFrames limits (taking before.0) piece new r
+      → FeedsFrames limits old piece new r
+  feeds_here r new f = subst (λ q. FeedsFrames limits q piece new r) (sym before.1) f
 
   -- the whole piece was taken
-  pub feeds_all : length piece ≤ taken → Feeds limits old piece (progress_of p s) (Ok (taken, None))
+  pub feeds_all : length piece ≤ taken → FeedsFrames limits old piece (progress_of p s) (Ok (taken, None))
   feeds_all done =
       let all : received_bytes p ≡ before.0 ++ piece = before.2 ∙ ap (λ z. before.0 ++ z) (take_all taken piece done) in
       feeds_here (Ok (taken, None)) (progress_of p s) (
@@ -94,7 +94,7 @@ module _ (limits : Limits) (old : Progress) (piece : List ℕ) (p : PartialMessa
         ∙ ap (λ z. before.0 ++ z) (sym (take-add taken count piece))))
 
     module _ (z : List ℕ) (is : z ≡ received_bytes p ++ part) where
-      pub feeds_more : (q : PartialMessage) (t : FramePhase) → IsSound limits q t → Concludes limits z (progress_of q t) (Ok None)
+      pub feeds_more : (q : PartialMessage) (t : FramePhase) → MatchesPhase limits q t → Concludes limits z (progress_of q t) (Ok None)
           → Feeding limits old piece q t (taken + count)
       feeds_more q t sound k = record {
         within = fits;
@@ -102,12 +102,13 @@ module _ (limits : Limits) (old : Progress) (piece : List ℕ) (p : PartialMessa
         progress = k.0 ∙ (ap taking (is ∙ came) ∙ ap (λ q. fed_on q (take (taken + count) piece)) (sym before.1));
       }
 
-      pub feeds_whole : (new : Progress) (frame : Framed) → Concludes limits z new (Ok (Some frame))
-          → Feeds limits old piece new (Ok (taken + count, Some frame))
+      pub feeds_whole : (new : Progress) (frame : Frame) → Concludes limits z new (Ok (Some frame))
+          → FeedsFrames limits old piece new (Ok (taken + count, Some frame))
       feeds_whole new frame k =
           feeds_here (Ok (taken + count, Some frame)) new (fits, k.0, subst (λ x. IsFrame limits x frame) (is ∙ came) k.1)
 
-      pub feeds_refused : (new : Progress) (fault : Fault) → Concludes limits z new (Err fault) → Feeds limits old piece new (Err fault)
+      pub feeds_refused : (new : Progress) (fault : Fault) → Concludes limits z new (Err fault)
+          → FeedsFrames limits old piece new (Err fault)
       feeds_refused new fault k = feeds_here (Err fault) new (
         k.0,
         λ ne.

@@ -9,9 +9,9 @@ use Rattle.ipc_model.specs.declared.limits.Limits.{Limits}
 use Rattle.ipc_meta.specs.declared.head.Head.{Head}
 use Rattle.ipc_meta.specs.Heads.{HeadOf}
 use Rattle.ipc_meta.proofs.Unique.{head_same}
-use Rattle.ipc_frame.specs.Frames.{Frame, Begins, Pending, in_mark, in_size, in_metadata, in_body}
+use Rattle.ipc_frame.specs.Frames.{Encapsulates, Begins, Pending, in_mark, in_size, in_metadata, in_body}
 use Rattle.ipc_frame.specs.Sees.{IsFrame, RefusesStart, StatesNoHead, RefusesMessage}
-use Rattle.ipc_frame.specs.declared.frame.Frame.{Frame as Framed}
+use Rattle.ipc_frame.specs.declared.frame.Frame.{Frame}
 use Rattle.ipc_frame.specs.declared.frame.Frame.TheVariants as f
 use Rattle.ipc_frame.proofs.Decided.{pending_not_end, pending_not_frame}
 use Rattle.ipc_frame.proofs.Exact.{begins_one}
@@ -79,11 +79,11 @@ pending_refused z k e p (inl r) = pending_start z k e p r
 pending_refused z k e p (inr r) = pending_head z k e p r
 
 -- an undecided beginning of a message is no message
-pub pending_message : {limits : Limits} → (z m body : List ℕ) (g : Head) (k : ℕ) → Pending limits z k → Frame limits z m g body → ⊥
+pub pending_message : {limits : Limits} → (z m body : List ℕ) (g : Head) (k : ℕ) → Pending limits z k → Encapsulates limits z m g body → ⊥
 pending_message {limits} z m body g k p frame =
     pending_not_frame z m body [] g k frame (subst (λ x. Pending limits x k) (sym (append-nil z)) p)
 
 -- an undecided beginning of a message is no frame
-pub pending_frame : {limits : Limits} → (z : List ℕ) (frame : Framed) (k : ℕ) → Pending limits z k → IsFrame limits z frame → ⊥
+pub pending_frame : {limits : Limits} → (z : List ℕ) (frame : Frame) (k : ℕ) → Pending limits z k → IsFrame limits z frame → ⊥
 pending_frame {limits} z f.End k p is = pending_not_end [] k (subst (λ x. Pending limits x k) is p)
 pending_frame z (f.Message meta g body) k p is = pending_message z meta.items body.items g k p is

@@ -4,11 +4,11 @@ use Rattle.ipc_model.specs.Limits.{Covers}
 use Rattle.ipc_model.specs.declared.limits.Limits.{Limits}
 use Rattle.ipc_meta.specs.declared.head.Head.{Head}
 use Rattle.ipc_meta.proofs.Wider.{head_wider}
-use Rattle.ipc_frame.specs.Frames.{Frame}
+use Rattle.ipc_frame.specs.Frames.{Encapsulates}
 
 -- a message under some limits is one under all that cover them
 pub frame_wider : (limits others : Limits) (x metadata body : List ℕ) (head : Head) → Covers others limits
-    → Frame limits x metadata head body → Frame others x metadata head body
+    → Encapsulates limits x metadata head body → Encapsulates others x metadata head body
 frame_wider limits others x metadata body head c f = record {
   prefix = f.prefix;
   marked = f.marked;

@@ -5,7 +5,7 @@ use Rattle.ipc_frame.specs.declared.partial_buffer.PartialBuffer.{PartialBuffer}
 
 -- the bytes that have come: the first `len` of the buffer
 abbrev pub filled_bytes : PartialBuffer → List ℕ
-filled_bytes b = take b.len b.list.items
+filled_bytes b = take b.len b.buffer.items
 
 -- of two buffers one is kept: the one that is offered if `Taken` holds, or else the one that was
 -- there

@@ -8,7 +8,8 @@ use Rattle.ipc_model.specs.Answers.{UnlessOutOfMemory}
 use Rattle.ipc_model.specs.declared.fault.Fault.{Fault}
 use Rattle.ipc_model.specs.declared.limits.Limits.{Limits}
 use Rattle.ipc_frame.specs.Buffers.{filled_bytes}
-use Rattle.ipc_frame.specs.Frames.{continuation_marker, end_of_stream, Frame, Begins, Pending}
+use Rattle.ipc_frame.specs.Frames.{continuation_marker, end_of_stream, Encapsulates, Begins}
+use Rattle.ipc_frame.specs.Frames.{Pending}
 use Rattle.ipc_frame.specs.Sees.{RefusesMessage}
 use Rattle.ipc_frame.specs.declared.partial_message.PartialMessage.{PartialMessage}
 use Rattle.ipc_frame.specs.declared.partial_message.Expectation.{Expectation}
@@ -31,7 +32,7 @@ no_capacity = record { metadata = 0; body = 0 }
 
 -- the room of the buffers of a message
 abbrev pub capacity_of : PartialMessage → Capacity
-capacity_of p = record { metadata = vec_capacity p.meta.list; body = vec_capacity p.body.list }
+capacity_of p = record { metadata = vec_capacity p.meta.buffer; body = vec_capacity p.body.buffer }
 
 -- each buffer has room for at most twice the `count` bytes of the message that have come, and 64
 -- KiB, or for what it had room for before
@@ -97,7 +98,7 @@ abbrev pub Decides : Limits → PartialMessage → Result Decision Fault → Typ
 Decides limits p (Ok (decision.More a)) = Undecided limits p a
 Decides limits p (Ok decision.End) = received_bytes p ≡ end_of_stream
 Decides limits p (Ok (decision.Message head)) =
-    Frame limits (received_bytes p) (filled_bytes p.meta) head (filled_bytes p.body)
+    Encapsulates limits (received_bytes p) (filled_bytes p.meta) head (filled_bytes p.body)
 Decides limits p (Err fault) =
     UnlessOutOfMemory fault (RefusesMessage limits (received_bytes p) fault)
 

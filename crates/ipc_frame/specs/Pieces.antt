@@ -10,7 +10,7 @@ use Rattle.ipc_frame.specs.Frames.{Begins, IsSized, Pending}
 use Rattle.ipc_frame.specs.Sees.{IsFrame, RefusesMessage}
 use Rattle.ipc_frame.specs.Decisions.{RefusesNow}
 use Rattle.ipc_frame.specs.Parts.{Capacity, received_bytes, no_capacity, capacity_of, Undecided}
-use Rattle.ipc_frame.specs.declared.frame.Frame.{Frame as Framed}
+use Rattle.ipc_frame.specs.declared.frame.Frame.{Frame}
 use Rattle.ipc_frame.specs.declared.frame.Frame.TheVariants as f
 use Rattle.ipc_frame.specs.declared.partial_message.FramePhase.{FramePhase}
 use Rattle.ipc_frame.specs.declared.partial_message.FramePhase.TheVariants as phase
@@ -37,36 +37,37 @@ progress_of p phase.Refused = refused
 
 -- the stored bytes are the undecided beginning of a message; none are stored, and no buffer is
 -- kept, after the end or a refusal
-abbrev pub IsSound : Limits → PartialMessage → FramePhase → Type 0
-IsSound limits p (phase.Reading a) = Undecided limits p a
-IsSound limits p phase.Ended = (received_bytes p ≡ []) × (capacity_of p ≡ no_capacity)
-IsSound limits p phase.Refused = (received_bytes p ≡ []) × (capacity_of p ≡ no_capacity)
+abbrev pub MatchesPhase : Limits → PartialMessage → FramePhase → Type 0
+MatchesPhase limits p (phase.Reading a) = Undecided limits p a
+MatchesPhase limits p phase.Ended = (received_bytes p ≡ []) × (capacity_of p ≡ no_capacity)
+MatchesPhase limits p phase.Refused = (received_bytes p ≡ []) × (capacity_of p ≡ no_capacity)
 
 -- the progress after a frame: after a message another one may come, after the end mark none
-abbrev pub behind : Framed → Progress
-behind (f.Message meta head body) = taking []
-behind f.End = ended
+abbrev pub progress_after : Frame → Progress
+progress_after (f.Message meta head body) = taking []
+progress_after f.End = ended
 
 -- the result of the bytes z of a message: they are stored and undecided, or they are a frame, or
 -- they are refused
-abbrev pub Concludes : Limits → List ℕ → Progress → Result (Option Framed) Fault → Type 0
+abbrev pub Concludes : Limits → List ℕ → Progress → Result (Option Frame) Fault → Type 0
 Concludes limits z new (Ok None) = (new ≡ taking z) × ((k : ℕ) × Pending limits z k)
-Concludes limits z new (Ok (Some frame)) = (new ≡ behind frame) × IsFrame limits z frame
+Concludes limits z new (Ok (Some frame)) = (new ≡ progress_after frame) × IsFrame limits z frame
 Concludes limits z new (Err fault) =
     (new ≡ refused) × UnlessOutOfMemory fault (RefusesMessage limits z fault)
 
 -- how a piece is taken. The stored bytes with a beginning of the piece are a frame, or are refused
 -- at their last byte; or the whole piece is stored and nothing is decided. After the end no bytes
 -- are taken; after a refusal the result is F35
-abbrev pub Feeds : Limits → Progress → List ℕ → Progress → Result (ℕ × Option Framed) Fault → Type 0
-Feeds limits (taking z) piece new (Ok (n, None)) = (n ≡ length piece)
+abbrev pub FeedsFrames : Limits → Progress → List ℕ → Progress → Result (ℕ × Option Frame) Fault
+    → Type 0
+FeedsFrames limits (taking z) piece new (Ok (n, None)) = (n ≡ length piece)
     × (new ≡ taking (z ++ piece)) × ((k : ℕ) × Pending limits (z ++ piece) k)
-Feeds limits (taking z) piece new (Ok (n, Some frame)) = (n ≤ length piece)
-    × (new ≡ behind frame) × IsFrame limits (z ++ take n piece) frame
-Feeds limits (taking z) piece new (Err fault) = (new ≡ refused) × UnlessOutOfMemory fault
+FeedsFrames limits (taking z) piece new (Ok (n, Some frame)) = (n ≤ length piece)
+    × (new ≡ progress_after frame) × IsFrame limits (z ++ take n piece) frame
+FeedsFrames limits (taking z) piece new (Err fault) = (new ≡ refused) × UnlessOutOfMemory fault
     ((n : ℕ) × (n ≤ length piece) × RefusesNow limits (z ++ take n piece) fault)
-Feeds limits ended piece new r = (new ≡ ended) × (r ≡ Ok (0, None))
-Feeds limits refused piece new r = (new ≡ refused) × (r ≡ Err Failed)
+FeedsFrames limits ended piece new r = (new ≡ ended) × (r ≡ Ok (0, None))
+FeedsFrames limits refused piece new r = (new ≡ refused) × (r ≡ Err Failed)
 
 -- k more bytes reach the next decision; k is 0 if no message is awaited
 abbrev pub Wants : Limits → Progress → ℕ → Type 0
@@ -100,10 +101,10 @@ TakesBuffer limits ended present offered = ⊥
 TakesBuffer limits refused present offered = ⊥
 
 -- no buffer is kept after the end or a refusal
-abbrev pub DropsLists : Progress → Capacity → Type 0
-DropsLists (taking z) room = ⊤
-DropsLists ended room = room ≡ no_capacity
-DropsLists refused room = room ≡ no_capacity
+abbrev pub DropsBuffers : Progress → Capacity → Type 0
+DropsBuffers (taking z) room = ⊤
+DropsBuffers ended room = room ≡ no_capacity
+DropsBuffers refused room = room ≡ no_capacity
 
 -- a call may take memory for a message only after its first eight bytes: the stored bytes with the
 -- piece state a size of the metadata, which is within the limits and above 0

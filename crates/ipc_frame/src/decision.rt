@@ -47,7 +47,7 @@ fn decide_size(limits: &Limits, parts: &PartialMessage) -> Result<Decision, Faul
     if parts.start.len() < 8 {
         return Ok(Decision::More(Expectation::Size));
     }
-    let size = get_i32(parts.start.as_slice(), 4).unwrap_or(0);
+    let size = get_i32(parts.start.as_slice(), 4).unwrap();
     if size == 0 {
         return Ok(Decision::End);
     }

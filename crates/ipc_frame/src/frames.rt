@@ -31,7 +31,7 @@ pub struct Frames {
 
 impl Model for Frames {
     ghost use Rattle.ipc_frame.specs.Parts.{capacity_of};
-    ghost use Rattle.ipc_frame.specs.Pieces.{Framing, progress_of, IsSound};
+    ghost use Rattle.ipc_frame.specs.Pieces.{Framing, progress_of, MatchesPhase};
 
     ghost Value = { Framing };
 
@@ -41,7 +41,7 @@ impl Model for Frames {
       room = capacity_of s.parts;
     } };
 
-    ghost invariant = { λ s. IsSound s.limits s.parts s.phase };
+    ghost invariant = { λ s. MatchesPhase s.limits s.parts s.phase };
 }
 
 impl Frames {
@@ -50,8 +50,8 @@ impl Frames {
     ghost use Rattle.ipc_frame.specs.Buffers.{KeepsOne};
     ghost use Rattle.ipc_frame.specs.Parts.{GrowsWithBytes, no_capacity};
     ghost use Rattle.ipc_frame.specs.Pulled.{FailsWhile, TakesFromSource};
-    ghost use Rattle.ipc_frame.specs.Pieces.{Closes, Feeds, DropsLists, TakesBuffer, TakesMemory};
-    ghost use Rattle.ipc_frame.specs.Pieces.{Wants, held_of, refused, taking};
+    ghost use Rattle.ipc_frame.specs.Pieces.{Closes, FeedsFrames, DropsBuffers, TakesBuffer};
+    ghost use Rattle.ipc_frame.specs.Pieces.{TakesMemory, Wants, held_of, refused, taking};
 
     /// Starts at the beginning of a stream. All that it accepts, in each call, is within `limits`.
     pub fn new(alloc: Global, limits: Limits) -> Frames
@@ -84,13 +84,14 @@ impl Frames {
     /// - `Failed` (F35): an earlier call was refused.
     /// - `OutOfMemory` (F37): memory for a buffer or for the head ran out, after byte 8.
     pub fn feed(&mut self, piece: &[u8]) -> Result<(usize, Option<Frame>), Fault>
-        ensures feeds { Feeds self.old.limits self.old.progress piece.now self.new.progress result }
+        ensures feeds { FeedsFrames self.old.limits self.old.progress piece.now self.new.progress
+            result }
         ensures limits { self.new.limits ≡ self.old.limits }
         // No buffer is kept after a message, after the end-of-stream mark and after a refusal.
         ensures moved { MatchResult result (λ found. IfSome found.1
             (λ _. self.new.room ≡ no_capacity))
             (λ _. self.new.room ≡ no_capacity) }
-        ensures let_go { DropsLists self.new.progress self.new.room }
+        ensures let_go { DropsBuffers self.new.progress self.new.room }
         // Buffers grow as bytes come, whatever the message states.
         ensures grown { GrowsWithBytes self.old.room self.new.room (held_of self.new.progress) }
         // Memory runs out only after the first eight bytes of a message, and not at the mark.
@@ -127,7 +128,7 @@ impl Frames {
         ensures moved { MatchResult result.1 (λ found. IfSome found
             (λ _. self.new.room ≡ no_capacity))
             (λ _. self.new.room ≡ no_capacity) }
-        ensures let_go { DropsLists self.new.progress self.new.room }
+        ensures let_go { DropsBuffers self.new.progress self.new.room }
         // Buffers grow as bytes come, whatever the message states.
         ensures grown { GrowsWithBytes self.old.room self.new.room (held_of self.new.progress) }
         // Memory runs out only after the first eight bytes of a message, and not at the mark.
@@ -164,17 +165,17 @@ impl Frames {
     /// One buffer is kept: the one with more room, this one or the one that was kept before. This
     /// one is dropped if bytes of a body already came. None is kept after the end-of-stream mark,
     /// and after a refusal.
-    pub fn reuse(&mut self, list: Vec<u8>)
+    pub fn reuse(&mut self, buffer: Vec<u8>)
         ensures progress { self.new.progress ≡ self.old.progress }
         ensures limits { self.new.limits ≡ self.old.limits }
         // One buffer is kept for the next body: this one, or the one that was kept before.
         ensures kept { KeepsOne (TakesBuffer self.old.limits self.old.progress self.old.room.body
-            (vec_capacity list)) self.old.room.body self.new.room.body (vec_capacity list) }
+            (vec_capacity buffer)) self.old.room.body self.new.room.body (vec_capacity buffer) }
         ensures metadata { self.new.room.metadata ≡ self.old.room.metadata }
-        ensures let_go { DropsLists self.new.progress self.new.room }
+        ensures let_go { DropsBuffers self.new.progress self.new.room }
     {
         if let FramePhase::Reading(_) = self.phase {
-            self.parts.body.reuse(list);
+            self.parts.body.reuse(buffer);
         }
     }
 

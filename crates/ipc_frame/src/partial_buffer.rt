@@ -10,9 +10,9 @@ use std::alloc::{AllocError, Global};
 // them, old or cleared, are overwritten by the next reads.
 #[derive(Drop)]
 pub struct PartialBuffer {
-    list: Vec<u8>,
+    buffer: Vec<u8>,
     len: usize,
-    ghost within: { len ≤ vec_len list },
+    ghost within: { len ≤ vec_len buffer },
 }
 
 impl PartialBuffer {
@@ -26,10 +26,10 @@ impl PartialBuffer {
     // With no byte.
     pub fn new(alloc: Global) -> PartialBuffer
         ensures came { filled_bytes result ≡ [] }
-        ensures room { vec_capacity result.list ≡ 0 }
+        ensures room { vec_capacity result.buffer ≡ 0 }
     {
         PartialBuffer {
-            list: Vec::new(alloc),
+            buffer: Vec::new(alloc),
             len: 0,
         }
     }
@@ -46,18 +46,19 @@ impl PartialBuffer {
     pub fn as_slice(&self) -> &[u8]
         ensures { result.now ≡ filled_bytes self.now }
     {
-        &self.list[..self.len]
+        &self.buffer[..self.len]
     }
 
     // Appends bytes to those that came.
     pub fn extend(&mut self, bytes: &[u8]) -> Result<(), AllocError>
         ensures came { OnOk result (filled_bytes self.new ≡ filled_bytes self.old ++ bytes.now) }
-        ensures few { OnOk result (vec_capacity self.new.list
-            ≤ max (vec_capacity self.old.list) (2 * length (filled_bytes self.new) + MAX_CLEARED)) }
+        ensures few { OnOk result (vec_capacity self.new.buffer
+            ≤ max (vec_capacity self.old.buffer)
+            (2 * length (filled_bytes self.new) + MAX_CLEARED)) }
     {
-        self.list.truncate(self.len);
-        append(&mut self.list, bytes)?;
-        self.len = self.list.len();
+        self.buffer.truncate(self.len);
+        append(&mut self.buffer, bytes)?;
+        self.len = self.buffer.len();
         Ok(())
     }
 
@@ -65,19 +66,19 @@ impl PartialBuffer {
     // clears space for some of the wanted bytes.
     fn make_place(&mut self, wanted: usize) -> Result<(), AllocError>
         requires { 0 < wanted }
-        ensures place { OnOk result (self.new.len < vec_len self.new.list) }
+        ensures place { OnOk result (self.new.len < vec_len self.new.buffer) }
         ensures came { filled_bytes self.new ≡ filled_bytes self.old }
-        ensures few { OnOk result (vec_capacity self.new.list
-            ≤ max (vec_capacity self.old.list) (2 * self.old.len + MAX_CLEARED)) }
+        ensures few { OnOk result (vec_capacity self.new.buffer
+            ≤ max (vec_capacity self.old.buffer) (2 * self.old.len + MAX_CLEARED)) }
     {
-        if self.len < self.list.len() {
+        if self.len < self.buffer.len() {
             return Ok(());
         }
-        make_room(&mut self.list, wanted)?;
-        let capacity = self.list.capacity();
+        make_room(&mut self.buffer, wanted)?;
+        let capacity = self.buffer.capacity();
         let room = (capacity - self.len).min(MAX_CLEARED).min(wanted);
-        self.list.resize(self.len + room, 0)?;
-        check_capacity(&self.list, capacity)
+        self.buffer.resize(self.len + room, 0)?;
+        check_capacity(&self.buffer, capacity)
     }
 
     // Calls the source once, for at most the wanted bytes, and appends what comes.
@@ -89,35 +90,36 @@ impl PartialBuffer {
         ensures lost { OnErr result (Keeps (R.remaining source.old) (R.remaining source.new)) }
         ensures only { IfErr result IsOutside }
         ensures failures { FailsAs (R.failures source.old) (R.failures source.new) result }
-        ensures few { OnOk result (vec_capacity self.new.list
-            ≤ max (vec_capacity self.old.list) (2 * length (filled_bytes self.new) + MAX_CLEARED)) }
+        ensures few { OnOk result (vec_capacity self.new.buffer
+            ≤ max (vec_capacity self.old.buffer)
+            (2 * length (filled_bytes self.new) + MAX_CLEARED)) }
     {
         self.make_place(wanted)?;
-        let room = (self.list.len() - self.len).min(wanted);
-        let count = read_after(source, &mut self.list, self.len, room)?;
+        let room = (self.buffer.len() - self.len).min(wanted);
+        let count = read_after(source, &mut self.buffer, self.len, room)?;
         self.len += count;
         Ok(count)
     }
 
     // Takes a buffer to read over, if no byte came and it has more room than the one that is there.
-    pub fn reuse(&mut self, list: Vec<u8>)
+    pub fn reuse(&mut self, buffer: Vec<u8>)
         ensures came { filled_bytes self.new ≡ filled_bytes self.old }
         ensures kept { KeepsOne
-            ((filled_bytes self.old ≡ []) × (vec_capacity self.old.list < vec_capacity list))
-            (vec_capacity self.old.list) (vec_capacity self.new.list) (vec_capacity list) }
+            ((filled_bytes self.old ≡ []) × (vec_capacity self.old.buffer < vec_capacity buffer))
+            (vec_capacity self.old.buffer) (vec_capacity self.new.buffer) (vec_capacity buffer) }
     {
-        if self.len == 0 && self.list.capacity() < list.capacity() {
-            self.list = list;
+        if self.len == 0 && self.buffer.capacity() < buffer.capacity() {
+            self.buffer = buffer;
         }
     }
 
     // The bytes that came.
-    pub fn into_list(self) -> Vec<u8>
+    pub fn into_vec(self) -> Vec<u8>
         ensures { result.items ≡ filled_bytes self }
     {
-        let PartialBuffer { list, len } = self;
-        let mut list = list;
-        list.truncate(len);
-        list
+        let PartialBuffer { buffer, len } = self;
+        let mut buffer = buffer;
+        buffer.truncate(len);
+        buffer
     }
 }

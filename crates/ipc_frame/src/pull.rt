@@ -4,7 +4,7 @@ ghost use Rattle.std.specs.Io.KnownBytes.{Keeps};
 ghost use Rattle.ipc_frame.specs.Failures.{FailsAs, IsOutside};
 ghost use Rattle.ipc_frame.specs.Parts.{FitsExpectation, HasSize, Undecided, received_bytes};
 ghost use Rattle.ipc_frame.specs.Parts.{GrowsWithBytes, bytes_needed, capacity_of};
-ghost use Rattle.ipc_frame.specs.Pulled.{Behind, Comes};
+ghost use Rattle.ipc_frame.specs.Pulled.{ReadsAfter, Comes};
 
 use crate::partial_message::{Expectation, PartialMessage, bytes_needed};
 use ipc_device::Source;
@@ -14,22 +14,22 @@ use ipc_model::{Fault, Limits};
 // bytes.
 pub fn read_after<R: Source>(
     source: &mut R,
-    list: &mut [u8],
+    buffer: &mut [u8],
     start: usize,
     room: usize,
 ) -> Result<usize, Fault>
     requires some { 0 < room }
-    requires within { start + room ≤ length list.old }
+    requires within { start + room ≤ length buffer.old }
     ensures few { IfOk result (λ k. k ≤ room) }
-    ensures behind { IfOk result (λ k. Behind (R.remaining source.old)
-        (R.remaining source.new) list.old list.new start k) }
-    ensures same { length list.new ≡ length list.old }
+    ensures behind { IfOk result (λ k. ReadsAfter (R.remaining source.old)
+        (R.remaining source.new) buffer.old buffer.new start k) }
+    ensures same { length buffer.new ≡ length buffer.old }
     ensures fewer { IfOk result (λ k. (R.bound source.new + k) ≤ R.bound source.old) }
     ensures lost { OnErr result (Keeps (R.remaining source.old) (R.remaining source.new)) }
     ensures only { IfErr result (λ fault. fault ≡ Fault.Read) }
     ensures failures { FailsAs (R.failures source.old) (R.failures source.new) result }
 {
-    match source.read(&mut list[start..start + room]) {
+    match source.read(&mut buffer[start..start + room]) {
         Ok(count) => Ok(count),
         Err(_) => Err(Fault::Read),
     }

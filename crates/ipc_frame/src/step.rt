@@ -1,8 +1,8 @@
 ghost use Rattle.std.specs.Prelude.{◌≡◌, [], IfErr, IfSome, MatchResult};
 ghost use Rattle.ipc_frame.specs.Parts.{FitsExpectation, GrowsWithBytes, HasSize};
 ghost use Rattle.ipc_frame.specs.Parts.{capacity_of, no_capacity, received_bytes};
-ghost use Rattle.ipc_frame.specs.Pieces.{Concludes, Feeds, IsSound, TakesMemory, held_of};
-ghost use Rattle.ipc_frame.specs.Pieces.{progress_of};
+ghost use Rattle.ipc_frame.specs.Pieces.{Concludes, FeedsFrames, MatchesPhase, TakesMemory};
+ghost use Rattle.ipc_frame.specs.Pieces.{held_of, progress_of};
 
 use crate::decision::{Decision, decide};
 use crate::frame::Frame;
@@ -41,7 +41,7 @@ pub fn conclude(
     expectation: Expectation,
 ) -> Result<Option<Frame>, Fault>
     requires { FitsExpectation limits.now parts.old expectation }
-    ensures sound { IsSound limits.now parts.new phase.new }
+    ensures sound { MatchesPhase limits.now parts.new phase.new }
     ensures concludes { Concludes limits.now (received_bytes parts.old)
         (progress_of parts.new phase.new) result }
     ensures memory { IfErr result (λ fault. fault ≡ Fault.OutOfMemory → HasSize expectation) }
@@ -62,8 +62,8 @@ pub fn conclude(
         }
         Ok(Decision::Message(head)) => {
             parts.start = MessagePrefix::new();
-            let meta = replace(&mut parts.meta, PartialBuffer::new(alloc)).into_list();
-            let body = replace(&mut parts.body, PartialBuffer::new(alloc)).into_list();
+            let meta = replace(&mut parts.meta, PartialBuffer::new(alloc)).into_vec();
+            let body = replace(&mut parts.body, PartialBuffer::new(alloc)).into_vec();
             *phase = FramePhase::Reading(Expectation::Continuation);
             Ok(Some(Frame::Message { meta, head, body }))
         }
@@ -79,9 +79,9 @@ pub fn feed_on(
     phase: &mut FramePhase,
     piece: &[u8],
 ) -> Result<(usize, Option<Frame>), Fault>
-    requires { IsSound limits.now parts.old phase.old }
-    ensures sound { IsSound limits.now parts.new phase.new }
-    ensures feeds { Feeds limits.now (progress_of parts.old phase.old) piece.now
+    requires { MatchesPhase limits.now parts.old phase.old }
+    ensures sound { MatchesPhase limits.now parts.new phase.new }
+    ensures feeds { FeedsFrames limits.now (progress_of parts.old phase.old) piece.now
         (progress_of parts.new phase.new) result }
     ensures memory { IfErr result (λ fault. fault ≡ Fault.OutOfMemory
         → TakesMemory limits.now (progress_of parts.old phase.old) piece.now) }

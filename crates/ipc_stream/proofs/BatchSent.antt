@@ -36,7 +36,7 @@ use Rattle.ipc_dict.specs.Within.{AllShort, AllWithin, dictionary_room_of}
 use Rattle.ipc_dict.proofs.ids.Ids.{same_ids}
 use Rattle.ipc_dict.proofs.pairs.PairsFit.{column_fine, column_leaf, pair_fits}
 use Rattle.ipc_dict.proofs.Sending.{counted_after, needed_is, sent_is, tallied_ids, tallied_unique, tallied_values}
-use Rattle.ipc_stream_read.specs.Stream.{InForce, IsMessage, Run, batch, values_in}
+use Rattle.ipc_stream_read.specs.Stream.{InForce, IsMessage, Run, batch, values_in_force}
 use Rattle.ipc_stream_read.proofs.Runs.{run_one, run_then}
 use Rattle.ipc_stream.specs.declared.message.Message.{Message}
 use Rattle.ipc_stream.specs.Dictionaries.{DictionaryMessages, IsInForce, SendsBatch, DenotesBatches, sets_none, sets_more}
@@ -184,9 +184,9 @@ module _ (limits : Limits) (s : Schema) (b : BatchRows) (kept : List KeptEntry) 
       → IsInForce s (sent_after s.fields b.rows kept) o → IsMessage limits (Some o) own (batch b ∷ []) (Some o)
   tells_own counted ids settled finds tells o in_force =
       let after = sent_is s.fields b.rows kept os ids settled in
-      let found = finds (values_in o.dictionaries) (λ id. in_force.values_are id ∙ ap (λ k. sent_for k id) (sym after))
+      let found = finds (values_in_force o.dictionaries) (λ id. in_force.values_are id ∙ ap (λ k. sent_for k id) (sym after))
       (subst (AreCounted s.fields) (sym after) counted) in
-      tells (values_in o.dictionaries) found o in_force.schema_is refl
+      tells (values_in_force o.dictionaries) found o in_force.schema_is refl
 
   -- the messages of its dictionaries bring it there
   sets_first : kept_ids kept ≡ ids_of s.fields → AllSettled kept (tally_of_rows s.fields b.rows) os

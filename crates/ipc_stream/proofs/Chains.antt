@@ -10,7 +10,7 @@ use Rattle.ipc_dict.specs.declared.kept.KeptEntry.{KeptEntry}
 use Rattle.ipc_dict.specs.SchemaIds.{ids_of}
 use Rattle.ipc_dict.specs.Sending.{sent_after}
 use Rattle.ipc_dict.proofs.Sending.{sent_unsent}
-use Rattle.ipc_stream_read.specs.Stream.{Event, schema, batch, initial_state, Run, done, OpensStream}
+use Rattle.ipc_stream_read.specs.Stream.{MessageEvent, schema, batch, initial_state, Run, done, OpensStream}
 use Rattle.ipc_stream_read.proofs.Runs.{run_then}
 use Rattle.ipc_model.specs.declared.table.Table.{Table}
 use Rattle.ipc_stream.specs.Dictionaries.{IsInForce, SendsBatch, SendsBatches, SendsTable, DenotesBatches, DenotesTable, kept_after}
@@ -40,7 +40,7 @@ module _ (limits : Limits) (s : Schema) where
         b.0,
         (
           subst (λ k. IsInForce s k b.0) (sym (kept_then s.fields kept front more)) b.1.0,
-          subst (λ (es : List Event). Run limits (Some o) (x ++ y) es (Some b.0)) (sym (map-append batch front more))
+          subst (λ (es : List MessageEvent). Run limits (Some o) (x ++ y) es (Some b.0)) (sym (map-append batch front more))
               (run_then (Some o) (Some a.0) (Some b.0) x y (map batch front) (map batch more) a.1.1 b.1.1),
         ),
       )

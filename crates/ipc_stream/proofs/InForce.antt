@@ -20,7 +20,7 @@ use Rattle.ipc_dict.specs.declared.kept.KeptEntry.{KeptEntry}
 use Rattle.ipc_dict.specs.Planning.{values_after, after_all, sends_of, sent_for}
 use Rattle.ipc_dict.specs.SchemaIds.{tally_ids}
 use Rattle.ipc_dict.proofs.ids.UniqueIds.{IsOther, AreUnique}
-use Rattle.ipc_stream_read.specs.Stream.{InForce, DictionaryInForce, Run, done, more, values_in, with_dictionary}
+use Rattle.ipc_stream_read.specs.Stream.{InForce, DictionaryInForce, Run, done, more, values_in_force, set_dictionary}
 use Rattle.ipc_stream.specs.declared.message.Message.{Message}
 use Rattle.ipc_stream.specs.Messages.{SetDictionaries, all_bytes}
 use Rattle.ipc_dict.proofs.ids.Ids.{SameIds}
@@ -68,12 +68,13 @@ module _ {X : Type 0} where
               absurd (<ℤ_irrefl (subst (λ (z : ℤ). e.0 <ℤ z) one h))
 
 -- the values of a map with one dictionary more
-values_put : (es : List (ℤ × DictionaryInForce)) (id : ℤ) (d : DictionaryInForce) → values_in (put es id d) ≡ put (values_in es) id d.values
+values_put : (es : List (ℤ × DictionaryInForce)) (id : ℤ) (d : DictionaryInForce)
+    → values_in_force (put es id d) ≡ put (values_in_force es) id d.values
 values_put [] id d = refl
 values_put (e ∷ es) id d =
-    elim (int_cmp id e.0) as (λ o. values_in (match_ordering o ((id, d) ∷ e ∷ es) ((e.0, d) ∷ es) (e ∷ put es id d))
-    ≡ match_ordering o ((id, d.values) ∷ values_in (e ∷ es)) ((e.0, d.values) ∷ values_in es)
-    ((e.0, e.1.values) ∷ put (values_in es) id d.values))
+    elim (int_cmp id e.0) as (λ o. values_in_force (match_ordering o ((id, d) ∷ e ∷ es) ((e.0, d) ∷ es) (e ∷ put es id d))
+    ≡ match_ordering o ((id, d.values) ∷ values_in_force (e ∷ es)) ((e.0, d.values) ∷ values_in_force es)
+    ((e.0, e.1.values) ∷ put (values_in_force es) id d.values))
     [ Less ↦ refl | Equal ↦ refl | Greater ↦ ap (λ l. (e.0, e.1.values) ∷ l) (values_put es id d) ]
 
 -- the first values of rows of one value are the values
@@ -83,12 +84,12 @@ rows_values (v ∷ vs) = ap (λ l. v ∷ l) (rows_values vs)
 
 -- what is in force for an id once a dictionary was set
 set_at : (o : InForce) (k : ℤ) (vs : List Value) (bytes : ℕ) (id : ℤ)
-    → at (values_in (with_dictionary o k (map (λ v. v ∷ []) vs) bytes).dictionaries) id
-    ≡ cond (int_eq k id) (Some vs) (at (values_in o.dictionaries) id)
+    → at (values_in_force (set_dictionary o k (map (λ v. v ∷ []) vs) bytes).dictionaries) id
+    ≡ cond (int_eq k id) (Some vs) (at (values_in_force o.dictionaries) id)
 set_at o k vs bytes id =
     ap (λ es. at es id) (values_put o.dictionaries k (record { values = map first_of (map (λ v. v ∷ []) vs); bytes = bytes }))
-    ∙ ap (λ ws. at (put (values_in o.dictionaries) k ws) id) (rows_values vs)
-    ∙ put_at (values_in o.dictionaries) k vs id
+    ∙ ap (λ ws. at (put (values_in_force o.dictionaries) k ws) id) (rows_values vs)
+    ∙ put_at (values_in_force o.dictionaries) k vs id
 
 -- ---- the dictionaries of a plan
 
@@ -127,7 +128,7 @@ module _ (limits : Limits) (s : Schema) where
   -- a run of the dictionaries, and what is in force behind it
   abbrev Runs : InForce → List TallyEntry → List (Option (List ℕ)) → List ℕ → Type 0
   Runs o ns os x = (τ : InForce) × ((τ.schema ≡ s)
-      × (((id : ℤ) → at (values_in τ.dictionaries) id ≡ sent_now ns os id (at (values_in o.dictionaries) id))
+      × (((id : ℤ) → at (values_in_force τ.dictionaries) id ≡ sent_now ns os id (at (values_in_force o.dictionaries) id))
       × Run limits (Some o) x [] (Some τ)))
 
   pub dictionaries_run : (ns : List TallyEntry) (os : List (Option (List ℕ))) (ms : List Message) (o : InForce) → o.schema ≡ s
@@ -140,14 +141,14 @@ module _ (limits : Limits) (s : Schema) where
       let rest = dictionaries_run ns os ms o same unique.1 sets in
       (rest.0, (rest.1.0, (λ id. rest.1.1.0 id ∙ kept id (int_eq n.id id) refl, rest.1.1.1)))
     where
-      kept : (id : ℤ) (b : Bool) → int_eq n.id id ≡ b → sent_now ns os id (at (values_in o.dictionaries) id)
-          ≡ cond b (at (values_in o.dictionaries) id) (sent_now ns os id (at (values_in o.dictionaries) id))
+      kept : (id : ℤ) (b : Bool) → int_eq n.id id ≡ b → sent_now ns os id (at (values_in_force o.dictionaries) id)
+          ≡ cond b (at (values_in_force o.dictionaries) id) (sent_now ns os id (at (values_in_force o.dictionaries) id))
       kept id false e = refl
       kept id true e = sent_now-other ns os id _ (subst (λ z. IsOther z (tally_ids ns)) ((Decides-int_eq n.id id).0 e) unique.0)
   dictionaries_run (n ∷ ns) (None ∷ os) [] o same unique sets = absurd sets
   dictionaries_run (n ∷ ns) (None ∷ os) (m ∷ ms) o same unique sets =
       let bytes = sets.0.0 in
-      let next = with_dictionary o n.id (map (λ v. v ∷ []) n.values) bytes in
+      let next = set_dictionary o n.id (map (λ v. v ∷ []) n.values) bytes in
       let first = sets.0.1 o same in
       let rest = dictionaries_run ns os ms next same unique.1 sets.1 in (
         rest.0,
@@ -161,16 +162,16 @@ module _ (limits : Limits) (s : Schema) where
       )
     where
       now : (id : ℤ) (b : Bool) → int_eq n.id id ≡ b
-          → sent_now ns os id (cond b (Some n.values) (at (values_in o.dictionaries) id))
-          ≡ cond b (Some n.values) (sent_now ns os id (at (values_in o.dictionaries) id))
+          → sent_now ns os id (cond b (Some n.values) (at (values_in_force o.dictionaries) id))
+          ≡ cond b (Some n.values) (sent_now ns os id (at (values_in_force o.dictionaries) id))
       now id false e = refl
       now id true e = sent_now-other ns os id _ (subst (λ z. IsOther z (tally_ids ns)) ((Decides-int_eq n.id id).0 e) unique.0)
 
   -- where what was sent was in force, what is sent then is
   pub sent_run : (ss : List KeptEntry) (ns : List TallyEntry) (os : List (Option (List ℕ))) (ms : List Message) (o : InForce)
-      → o.schema ≡ s → ((id : ℤ) → at (values_in o.dictionaries) id ≡ sent_for ss id) → SameIds ss ns → AreUnique (tally_ids ns)
+      → o.schema ≡ s → ((id : ℤ) → at (values_in_force o.dictionaries) id ≡ sent_for ss id) → SameIds ss ns → AreUnique (tally_ids ns)
       → SetDictionaries limits s (sends_of ns os) ms
-      → (τ : InForce) × ((τ.schema ≡ s) × (((id : ℤ) → at (values_in τ.dictionaries) id ≡ sent_for (after_all ss ns os) id)
+      → (τ : InForce) × ((τ.schema ≡ s) × (((id : ℤ) → at (values_in_force τ.dictionaries) id ≡ sent_for (after_all ss ns os) id)
       × Run limits (Some o) (all_bytes ms) [] (Some τ)))
   sent_run ss ns os ms o same values ids unique sets =
       let r = dictionaries_run ns os ms o same unique sets in

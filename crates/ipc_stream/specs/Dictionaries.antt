@@ -16,7 +16,7 @@ use Rattle.ipc_dict.specs.Within.{AllWithin, HaveShortMessages}
 use Rattle.ipc_frame.specs.Frames.{end_of_stream}
 use Rattle.ipc_stream_read.specs.Stream.{InForce, State, Run, IsMessage, OpensStream, batch}
 use Rattle.ipc_stream_read.specs.Stream.{events_of}
-use Rattle.ipc_stream_read.specs.Stream.{values_in, with_dictionary}
+use Rattle.ipc_stream_read.specs.Stream.{values_in_force, set_dictionary}
 
 -- no dictionary of the schema was sent
 abbrev pub kept_at_start : Schema → List KeptEntry
@@ -31,7 +31,7 @@ kept_after fields kept (b ∷ more) = kept_after fields (sent_after fields b.row
 -- whatever bytes set them
 pub record IsInForce (s : Schema) (kept : List KeptEntry) (o : InForce) : Type 0 where
   pub schema_is : o.schema ≡ s
-  pub values_are : (id : ℤ) → at (values_in o.dictionaries) id ≡ sent_for kept id
+  pub values_are : (id : ℤ) → at (values_in_force o.dictionaries) id ≡ sent_for kept id
 
 -- x is messages that report exactly these batches: from each state in which the values sent are in
 -- force, to one in which they are with those of the batches
@@ -51,7 +51,7 @@ DenotesTable limits t x = (τ : InForce)
 -- was in force before
 abbrev pub IsDictionaryMessage : Limits → Schema → ℤ × List (List Value) → List ℕ → Type 0
 IsDictionaryMessage limits s send x = (bytes : ℕ) × ((o : InForce) → o.schema ≡ s
-    → IsMessage limits (Some o) x [] (Some (with_dictionary o send.0 send.1 bytes)))
+    → IsMessage limits (Some o) x [] (Some (set_dictionary o send.0 send.1 bytes)))
 
 -- x is such messages (`IsDictionaryMessage`), one for each of these dictionaries, in their order
 pub data DictionaryMessages (limits : Limits) (s : Schema) : List (ℤ × List (List Value)) → List ℕ

@@ -9,7 +9,7 @@ use Rattle.ipc_meta.specs.declared.head.BatchHead.{BatchHead}
 use Rattle.ipc_model.specs.declared.table.BatchRows.{BatchRows}
 use Rattle.ipc_column.specs.Dictionaries.{Dictionaries}
 use Rattle.ipc_encode.specs.declared.parts.Parts.{Parts}
-use Rattle.ipc_stream_read.specs.Stream.{InForce, IsMessage, batch, values_in}
+use Rattle.ipc_stream_read.specs.Stream.{InForce, IsMessage, batch, values_in_force}
 use Rattle.ipc_stream.specs.Writing.{batch_room_of}
 
 -- the head of a batch with `count` rows and these parts
@@ -20,7 +20,7 @@ batch_head count parts =
 -- x is a message that reports this batch if these dictionaries are in force, and leaves what is in
 -- force
 abbrev pub DenotesRows : Limits → Dictionaries → Schema → BatchRows → List ℕ → Type 0
-DenotesRows limits m s b x = (o : InForce) → o.schema ≡ s → values_in o.dictionaries ≡ m
+DenotesRows limits m s b x = (o : InForce) → o.schema ≡ s → values_in_force o.dictionaries ≡ m
     → IsMessage limits (Some o) x (batch b ∷ []) (Some o)
 
 -- the metadata of a batch with these pairs is within the limits, and so are the pairs

@@ -10,7 +10,7 @@ use Rattle.ipc_model.specs.declared.table.Table.{Table}
 use Rattle.ipc_stream_read.specs.declared.end.End.{End}
 use Rattle.ipc_stream_read.specs.declared.end.End.TheVariants.{Mark, Closed}
 use Rattle.ipc_stream_read.specs.Failures.{FailsAs}
-use Rattle.ipc_stream_read.specs.Stream.{Event, Run, events_of, Denotes}
+use Rattle.ipc_stream_read.specs.Stream.{MessageEvent, Run, events_of, Denotes}
 use Rattle.ipc_stream_read.specs.Reasons.{IsOutside, Reads}
 use Rattle.ipc_stream_read.specs.Taken.{TakesTable}
 use Rattle.ipc_stream_read.proofs.Beginnings.{Holds, holds_closed, holds_marked}
@@ -28,7 +28,7 @@ denotes {limits} x left t Closed r = (
 )
 denotes {limits} x left t Mark r = (r.whole, r.joined ∙ ap (λ y. r.whole ++ y) r.ends.0, (r.state, r.run))
 
-at_end : {limits : Limits} → (x : List ℕ) (left : Option (List ℕ)) (es : List Event) (e : End) → Reads limits None x left es (Ok e)
+at_end : {limits : Limits} → (x : List ℕ) (left : Option (List ℕ)) (es : List MessageEvent) (e : End) → Reads limits None x left es (Ok e)
     → e ≡ Closed → IsAtEnd left
 at_end x left es Closed r is = r.ends.2
 at_end x left es Mark r is = absurd (cc)

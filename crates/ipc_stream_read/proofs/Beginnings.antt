@@ -11,11 +11,11 @@ use Rattle.ipc_stream_read.specs.declared.end.End.{End}
 use Rattle.ipc_stream_read.specs.declared.end.End.TheVariants.{Mark, Closed}
 use Rattle.ipc_stream_read.specs.Reasons.{Reads}
 use Rattle.ipc_stream_read.proofs.Reasons.{run_told}
-use Rattle.ipc_stream_read.specs.Stream.{State, Event, schema, batch, Run, events_of, Denotes}
+use Rattle.ipc_stream_read.specs.Stream.{State, MessageEvent, schema, batch, Run, events_of, Denotes}
 use Rattle.ipc_stream_read.proofs.OneReading.{IsStop, at_eos, overlap, stops_there}
 
 -- batches whose events begin those of others begin them
-batches_begin : (xs ys : List BatchRows) (rest : List Event) → map batch xs ≡ map batch ys ++ rest
+batches_begin : (xs ys : List BatchRows) (rest : List MessageEvent) → map batch xs ≡ map batch ys ++ rest
     → (more : List BatchRows) × (xs ≡ ys ++ more)
 batches_begin xs [] rest e = (xs, refl)
 batches_begin [] (y ∷ ys) rest e = absurd (cc)
@@ -27,7 +27,7 @@ batches_begin (x ∷ xs) (y ∷ ys) rest e =
     (others.0, cc)
 
 -- a table whose events begin those of another has its schema, and its first batches
-pub table_begins : (t u : Table) (rest : List Event) → events_of t ≡ events_of u ++ rest
+pub table_begins : (t u : Table) (rest : List MessageEvent) → events_of t ≡ events_of u ++ rest
     → (more : List BatchRows) × (t ≡ record { schema = u.schema; batches = u.batches ++ more })
 table_begins t u rest e =
     let head : schema t.schema ≡ schema u.schema = cc in
@@ -37,7 +37,7 @@ table_begins t u rest e =
     (others.0, λ i. record { schema = one i; batches = others.1 i })
 
 -- a schema whose event begins those of a table is the table's
-pub schema_begins : (t : Table) (s : Schema) (rest : List Event) → events_of t ≡ (schema s ∷ []) ++ rest → s ≡ t.schema
+pub schema_begins : (t : Table) (s : Schema) (rest : List MessageEvent) → events_of t ≡ (schema s ∷ []) ++ rest → s ≡ t.schema
 schema_begins t s rest e =
     let head : schema t.schema ≡ schema s = cc in
     let one : t.schema ≡ s = cc in
@@ -68,8 +68,8 @@ pub holds_closed : {limits : Limits} → (x : List ℕ) (t : Table) → Denotes 
 holds_closed x t d = record { state = d.0; whole = x; rest = []; run = d.1; joined = append-nil x; stop = inl refl }
 
 -- the messages at the front of such bytes are the first of the table
-pub front_begins : {limits : Limits} → (z x b : List ℕ) (t : Table) (fs : List Event) (υ : State) → Holds limits z t → z ≡ x ++ b
-    → Run limits None x fs υ → (rest : List Event) × (events_of t ≡ fs ++ rest)
+pub front_begins : {limits : Limits} → (z x b : List ℕ) (t : Table) (fs : List MessageEvent) (υ : State) → Holds limits z t → z ≡ x ++ b
+    → Run limits None x fs υ → (rest : List MessageEvent) × (events_of t ≡ fs ++ rest)
 front_begins z x b t fs υ h is run = elim (overlap h.rest b h.run run (h.joined ∙ is)) [
   | inl g ↦ ([], (stops_there g h.stop).events ∙ sym (append-nil fs))
   | inr g ↦ (g.events, g.told)

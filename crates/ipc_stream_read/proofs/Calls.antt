@@ -11,10 +11,10 @@ use Rattle.ipc_stream_read.specs.Found.{ReadRows, batch_rows}
 use Rattle.ipc_stream_read.specs.declared.end.End.{End}
 use Rattle.ipc_stream_read.specs.declared.end.End.TheVariants.{Mark, Closed}
 use Rattle.ipc_stream_read.specs.Reader as phase
-use Rattle.ipc_stream_read.specs.Reader.{BeginsEnd, EndsBehind, GivesBatch, LeadsTo, NextAnswer, NextCall, Opens, OpenFails, Reader}
+use Rattle.ipc_stream_read.specs.Reader.{BeginsEnd, EndsAfter, GivesBatch, LeadsTo, NextAnswer, NextCall, Opens, OpenFails, Reader}
 use Rattle.ipc_stream_read.specs.Reader.{StreamPhase, in_force_of}
 use Rattle.ipc_stream_read.specs.Reasons.{Ends, IsOutside, Reads}
-use Rattle.ipc_stream_read.specs.Stream.{Event, InForce, Run, State, batch, schema}
+use Rattle.ipc_stream_read.specs.Stream.{MessageEvent, InForce, Run, State, batch, schema}
 use Rattle.ipc_stream_read.specs.Stream.{OpensStream, SetsOnly, DenotesOneBatch}
 use Rattle.ipc_stream_read.proofs.OneReading.{IsStop, one_run, overlap, stops_there}
 use Rattle.ipc_stream_read.proofs.Reasons.{run_breaks, told_breaks}
@@ -24,15 +24,16 @@ use Rattle.ipc_model.specs.declared.limits.Limits.{Limits}
 -- ---- the first event of a run
 
 -- two runs over the same bytes tell one first event
-pub first_same : {limits : Limits} → {σ τ υ : State} {x y : List ℕ} {es fs : List Event} (u v : List ℕ) (d e : Event)
-    (ds gs : List Event) → Run limits σ x es τ → Run limits σ y fs υ → es ≡ d ∷ ds → fs ≡ e ∷ gs → x ++ u ≡ y ++ v → d ≡ e
+pub first_same : {limits : Limits} → {σ τ υ : State} {x y : List ℕ} {es fs : List MessageEvent} (u v : List ℕ) (d e : MessageEvent)
+    (ds gs : List MessageEvent) → Run limits σ x es τ → Run limits σ y fs υ → es ≡ d ∷ ds → fs ≡ e ∷ gs → x ++ u ≡ y ++ v → d ≡ e
 first_same u v d e ds gs p q here there joined = elim (overlap u v p q joined) [
   | inl g ↦ let both : e ∷ gs ≡ d ∷ (ds ++ g.events) = sym there ∙ (g.told ∙ ap (λ l. l ++ g.events) here) in cc
   | inr g ↦ let both : d ∷ ds ≡ e ∷ (gs ++ g.events) = sym here ∙ (g.told ∙ ap (λ l. l ++ g.events) there) in cc
 ]
 
 -- where a run tells an event, none that tells nothing comes to where it may stop
-pub run_not_end : {limits : Limits} → {σ τ υ : State} {x y : List ℕ} {es fs : List Event} (u a : List ℕ) (d : Event) (ds : List Event)
+pub run_not_end : {limits : Limits} → {σ τ υ : State} {x y : List ℕ} {es fs : List MessageEvent} (u a : List ℕ) (d : MessageEvent)
+    (ds : List MessageEvent)
     → Run limits σ x es τ → Run limits σ y fs υ → es ≡ d ∷ ds → fs ≡ [] → IsStop a → x ++ u ≡ y ++ a → ⊥
 run_not_end u a d ds p q here none stop joined = elim (overlap u a p q joined) [
   | inl g ↦ let bad : [] ≡ d ∷ (ds ++ g.events) = sym none ∙ (g.told ∙ ap (λ l. l ++ g.events) here) in absurd (cc)
@@ -74,8 +75,8 @@ opens_fails {limits} old new fault x rest s h is o =
 
 abbrev pub ReadGives : Reader → Reader → List ℕ → Result (Option ReadRows) Fault → StreamPhase → Type 0
 ReadGives old new x (Ok (Some found)) p = LeadsTo old new x (batch (batch_rows found))
-ReadGives old new x (Ok None) p = (end : End) × (p ≡ phase.Ended end) × EndsBehind old new x (Ok end)
-ReadGives old new x (Err fault) p = EndsBehind old new x (Err fault)
+ReadGives old new x (Ok None) p = (end : End) × (p ≡ phase.Ended end) × EndsAfter old new x (Ok end)
+ReadGives old new x (Err fault) p = EndsAfter old new x (Err fault)
 
 gives_by : (old new : Reader) (x : List ℕ) (r : Result (Option ReadRows) Fault) (p : StreamPhase) → NextAnswer old new phase.Reading x r p
     → ReadGives old new x r p
@@ -100,11 +101,11 @@ module _ (old new : Reader) (x u z b : List ℕ) (rows : BatchRows) (τ : State)
   abbrev RowsOr : Result (Option ReadRows) Fault → Type 0
   RowsOr r = MatchResult r (λ found. GivesBatch found rows) IsOutside
 
-  ends_now : (answer : Result End Fault) (h : EndsBehind old new z answer)
+  ends_now : (answer : Result End Fault) (h : EndsAfter old new z answer)
       → Ends old.limits (Some (in_force_of new)) h.rest (Some b) answer
   ends_now answer h = subst (λ l. Ends old.limits (Some (in_force_of new)) h.rest l answer) left h.ends
 
-  bytes_now : (answer : Result End Fault) (h : EndsBehind old new z answer) → x ++ u ≡ h.whole ++ (h.rest ++ b)
+  bytes_now : (answer : Result End Fault) (h : EndsAfter old new z answer) → x ++ u ≡ h.whole ++ (h.rest ++ b)
   bytes_now answer h = joined ∙ (ap (λ y. y ++ b) h.joined ∙ append_assoc h.whole h.rest b)
 
   gives_batch : (r : Result (Option ReadRows) Fault) (p : StreamPhase) → ReadGives old new z r p → RowsOr r
@@ -146,11 +147,11 @@ same_end limits σ z b Closed Mark h e =
 module _ (old new : Reader) (x u z b : List ℕ) (o : InForce) (end : End)
     (only : Run old.limits (Some (in_force_of old)) x [] (Some o)) (left : new.remaining ≡ Some b) (begins : BeginsEnd end u)
     (joined : x ++ u ≡ z ++ b) where
-  ends_there : (answer : Result End Fault) (h : EndsBehind old new z answer)
+  ends_there : (answer : Result End Fault) (h : EndsAfter old new z answer)
       → Ends old.limits (Some (in_force_of new)) h.rest (Some b) answer
   ends_there answer h = subst (λ l. Ends old.limits (Some (in_force_of new)) h.rest l answer) left h.ends
 
-  bytes_there : (answer : Result End Fault) (h : EndsBehind old new z answer) → x ++ u ≡ h.whole ++ (h.rest ++ b)
+  bytes_there : (answer : Result End Fault) (h : EndsAfter old new z answer) → x ++ u ≡ h.whole ++ (h.rest ++ b)
   bytes_there answer h = joined ∙ (ap (λ y. y ++ b) h.joined ∙ append_assoc h.whole h.rest b)
 
   gives_end : (r : Result (Option ReadRows) Fault) (p : StreamPhase) → ReadGives old new z r p

@@ -13,28 +13,29 @@ use Rattle.ipc_model.specs.declared.fault.Fault.TheVariants.{OutOfMemory}
 use Rattle.ipc_model.specs.declared.limits.Limits.{Limits}
 use Rattle.ipc_frame.specs.Frames.{IsSized, Pending}
 use Rattle.ipc_frame.specs.Sees.{IsFrame}
-use Rattle.ipc_frame.specs.Pieces.{Framing, Progress, behind}
+use Rattle.ipc_frame.specs.Pieces.{Framing, Progress, progress_after}
 use Rattle.ipc_frame.specs.Parts.{Capacity, no_capacity}
 use Rattle.ipc_frame.specs.Pieces as frames
 use Rattle.ipc_frame.specs.Pulled as pulled
-use Rattle.ipc_frame.specs.declared.frame.Frame.{Frame as Framed}
+use Rattle.ipc_frame.specs.declared.frame.Frame.{Frame}
 use Rattle.ipc_frame.specs.declared.frame.Frame.TheVariants as f
 use Rattle.ipc_stream_read.specs.declared.stream_state.StreamState.{StreamState}
 use Rattle.ipc_stream_read.specs.declared.end.End.{End}
 use Rattle.ipc_stream_read.specs.declared.end.End.TheVariants.{Closed, Mark}
-use Rattle.ipc_stream_read.specs.declared.event.Event.{Event as ReturnedEvent}
+use Rattle.ipc_stream_read.specs.declared.event.Event.{Event}
 use Rattle.ipc_stream_read.specs.declared.event.Event.TheVariants as report
 use Rattle.ipc_stream_read.specs.Counts.{count_up}
 use Rattle.ipc_stream_read.specs.StreamStates.{Brings, IsMessageFrame, IsWellFormedFrame, Moves, decoding_of, stage_of}
 use Rattle.ipc_stream_read.specs.Decoding.{Decoding, taking, over, refused, Reaches, Waits, ReportsEvent, RefusesAt, FeedsOn}
 use Rattle.ipc_frame.specs.Failures.{FailsAs}
-use Rattle.ipc_stream_read.specs.Decoding.{FailsWhile, FeedsAt, Feeds, Gives, IsFew, EndsAt, Draws, ReportsOneEvent}
+use Rattle.ipc_stream_read.specs.Decoding.{FeedsAt, Feeds, Gives, Draws, ReportsOneEvent, progress_at}
 use Rattle.ipc_stream_read.specs.Scopes.{state_of}
 use Rattle.ipc_stream_read.specs.Found.{batch_rows}
-use Rattle.ipc_stream_read.specs.Stream.{State, Event, Run, done, schema, batch, IsMessage}
-use Rattle.ipc_stream_read.specs.Verdicts.{Decision, Reason}
+use Rattle.ipc_stream_read.specs.Stream.{State, MessageEvent, Run, done, schema, batch, IsMessage}
+use Rattle.ipc_stream_read.specs.Verdicts.{DecisionPoint, Reason}
 use Rattle.ipc_stream_read.proofs.Courses.{frame_well_formed, Brought, brought, early_reason, frame_reason, not_read, refused_stays}
 use Rattle.ipc_stream_read.proofs.Feeding.{FeedsSilent, all_bytes}
+use Rattle.ipc_stream_read.proofs.Rooms.{progress_is}
 use Rattle.ipc_stream_read.proofs.Runs.{messages_none, messages_one, run_one}
 
 -- want of memory, and any other fault
@@ -52,18 +53,18 @@ unfolding is_memory
 other_fault e h p = let q : true ≡ false = subst (λ x. is_memory x ≡ false) p h in cc
 
 -- a message has a size
-message_sized : (limits : Limits) (x : List ℕ) (frame : Framed) → IsFrame limits x frame → IsMessageFrame frame → IsSized limits x
+message_sized : (limits : Limits) (x : List ℕ) (frame : Frame) → IsFrame limits x frame → IsMessageFrame frame → IsSized limits x
 message_sized limits x (f.Message meta head body) is message = frame_sized x meta.items body.items head is
 message_sized limits x f.End is message = absurd message
 
--- how a decoder goes on behind what a frame brought
-abbrev Went : ℕ → Decoding → Option ReturnedEvent → Type 0
+-- how a decoder goes on after what a frame brought
+abbrev Went : ℕ → Decoding → Option Event → Type 0
 Went messages new (Some report.End) = (new.stage ≡ over Mark) × (new.messages ≡ messages)
 Went messages new found = (new.stage ≡ taking []) × (new.messages ≡ count_up messages 1)
 
 -- it does, where the frame was taken
-went : (mid last : Framing) (c d : StreamState) (σ τ : State) (limits : Limits) (frame : Framed) (found : Option ReturnedEvent)
-    → Brings limits σ frame τ (Ok found) → mid.progress ≡ behind frame → Moves mid last c d (Ok found)
+went : (mid last : Framing) (c d : StreamState) (σ τ : State) (limits : Limits) (frame : Frame) (found : Option Event)
+    → Brings limits σ frame τ (Ok found) → mid.progress ≡ progress_after frame → Moves mid last c d (Ok found)
     → Went c.messages (decoding_of last d) found
 went mid last c d σ τ limits f.End None b p m = absurd b
 went mid last c d σ τ limits f.End (Some report.Schema) b p m = absurd b
@@ -94,7 +95,7 @@ module _ (old new : Decoding) (fits : old.messages ≤ 2 ^ 64 - 1) where
       → Waits old new z
   waits z k same count stage undecided = (z, still z same count, stage, (k, undecided))
 
-  one_told : (x : List ℕ) (e : Event) → IsMessage old.limits old.state x (e ∷ []) new.state
+  one_told : (x : List ℕ) (e : MessageEvent) → IsMessage old.limits old.state x (e ∷ []) new.state
       → new.stage ≡ taking [] → new.messages ≡ count_up old.messages 1 → ReportsOneEvent old new x e
   one_told x e report stage count = record {
     last = record {
@@ -110,7 +111,7 @@ module _ (old new : Decoding) (fits : old.messages ≤ 2 ^ 64 - 1) where
   }
 
   -- a frame that is taken tells its event
-  pub tells : (x : List ℕ) (e : ReturnedEvent) → Brought old.limits old.state new.state x (Some e) → Went old.messages new (Some e)
+  pub tells : (x : List ℕ) (e : Event) → Brought old.limits old.state new.state x (Some e) → Went old.messages new (Some e)
       → ReportsEvent old new x e
   tells x report.Schema b m = (b.0, one_told x (schema b.0) b.1 m.0 m.1)
   tells x (report.Batch found pairs) b m = (one_told x (batch (batch_rows (found, pairs))) b.0 m.0 m.1, b.1)
@@ -126,7 +127,7 @@ module _ (old new : Decoding) (fits : old.messages ≤ 2 ^ 64 - 1) where
   -- what was taken is refused
   pub refuses : (z piece : List ℕ) (e : Fault) → new.state ≡ old.state → new.messages ≡ old.messages → new.stage ≡ refused
       → UnlessOutOfMemory e
-      ((n : ℕ) × (n ≤ length piece) × ((d : Decision) × Reason old.limits e d old.state (z ++ take n piece)))
+      ((n : ℕ) × (n ≤ length piece) × ((d : DecisionPoint) × Reason old.limits e d old.state (z ++ take n piece)))
       → (e ≡ OutOfMemory → IsSized old.limits (z ++ piece)) → FeedsOn old z piece new (Err e)
   refuses z piece e same count stage reason sized = (
     stage,
@@ -158,41 +159,41 @@ module _ (old new : Decoding) (fits : old.messages ≤ 2 ^ 64 - 1) where
 -- ---- the calls
 
 -- what the frames answered
-abbrev count_in : Result (ℕ × Option Framed) Fault → ℕ
+abbrev count_in : Result (ℕ × Option Frame) Fault → ℕ
 count_in (Ok r) = r.0
 count_in (Err e) = 0
 
-abbrev found_in : Result (ℕ × Option Framed) Fault → Option Framed
+abbrev found_in : Result (ℕ × Option Frame) Fault → Option Frame
 found_in (Ok r) = r.1
 found_in (Err e) = None
 
-ok_not_err : {r : ℕ × Option Framed} {e : Fault} → Ok r ≡ Err e → ⊥
+ok_not_err : {r : ℕ × Option Frame} {e : Fault} → Ok r ≡ Err e → ⊥
 ok_not_err is = absurd (cc)
 
-err_same : {e f : Fault} (r : Result (ℕ × Option Framed) Fault) → r ≡ Err e → r ≡ Err f → e ≡ f
+err_same : {e f : Fault} (r : Result (ℕ × Option Frame) Fault) → r ≡ Err e → r ≡ Err f → e ≡ f
 err_same r a b = cc
 
 -- what the frames do with a piece, where they find this
-pub feeds_at : (limits : Limits) (p q : Progress) (piece : List ℕ) (n : ℕ) (f g : Option Framed) → f ≡ g
-    → frames.Feeds limits p piece q (Ok (n, f)) → frames.Feeds limits p piece q (Ok (n, g))
-feeds_at limits p q piece n f g is h = subst (λ x. frames.Feeds limits p piece q (Ok (n, x))) is h
+pub feeds_at : (limits : Limits) (p q : Progress) (piece : List ℕ) (n : ℕ) (f g : Option Frame) → f ≡ g
+    → frames.FeedsFrames limits p piece q (Ok (n, f)) → frames.FeedsFrames limits p piece q (Ok (n, g))
+feeds_at limits p q piece n f g is h = subst (λ x. frames.FeedsFrames limits p piece q (Ok (n, x))) is h
 
 -- what the frames take of a source, where they answer this
-pub takes_at : (limits : Limits) (a b : Option (List ℕ)) (p q : Progress) (n : ℕ) (r s : Result (Option Framed) Fault) → r ≡ s
+pub takes_at : (limits : Limits) (a b : Option (List ℕ)) (p q : Progress) (n : ℕ) (r s : Result (Option Frame) Fault) → r ≡ s
     → pulled.TakesFromSource limits a b p q n r → pulled.TakesFromSource limits a b p q n s
 takes_at limits a b p q n r s is t = subst (pulled.TakesFromSource limits a b p q n) is t
 
 -- a frame is found where bytes are kept
-where_taking : (P : Progress → Type 0) (limits : Limits) (p q : Progress) (piece : List ℕ) (n : ℕ) (frame : Framed)
-    → frames.Feeds limits p piece q (Ok (n, Some frame))
-    → ((z : List ℕ) → frames.Feeds limits (frames.taking z) piece q (Ok (n, Some frame)) → P (frames.taking z)) → P p
+where_taking : (P : Progress → Type 0) (limits : Limits) (p q : Progress) (piece : List ℕ) (n : ℕ) (frame : Frame)
+    → frames.FeedsFrames limits p piece q (Ok (n, Some frame))
+    → ((z : List ℕ) → frames.FeedsFrames limits (frames.taking z) piece q (Ok (n, Some frame)) → P (frames.taking z)) → P p
 where_taking P limits (frames.taking z) q piece n frame h then = then z h
 where_taking P limits frames.ended q piece n frame h then = absurd (let bad : Some frame ≡ None = ap found_in h.1 in cc)
 where_taking P limits frames.refused q piece n frame h then = absurd (ok_not_err h.1)
 
 -- a schema that the frames bring keeps the rules
-pub fed_well_formed : (limits others : Limits) (p q : Progress) (piece : List ℕ) (n : ℕ) (frame : Framed) → others ≡ limits
-    → frames.Feeds limits p piece q (Ok (n, Some frame)) → IsWellFormedFrame others frame
+pub fed_well_formed : (limits others : Limits) (p q : Progress) (piece : List ℕ) (n : ℕ) (frame : Frame) → others ≡ limits
+    → frames.FeedsFrames limits p piece q (Ok (n, Some frame)) → IsWellFormedFrame others frame
 fed_well_formed limits others p q piece n frame same h =
     subst (λ l. IsWellFormedFrame l frame) (sym same) (where_taking (λ r. IsWellFormedFrame limits frame) limits p q piece n frame h
     (λ z f. frame_well_formed limits (z ++ take n piece) frame f.2))
@@ -208,7 +209,7 @@ module _ (limits : Limits) (room : Capacity) (c : StreamState) (fits : c.message
   old p = decoding_of (record { limits = limits; progress = p; room = room }) c
 
   -- a call of the frames that brings no frame
-  module _ (after : Framing) (same : after.limits ≡ limits) (let_go : frames.DropsLists after.progress after.room) where
+  module _ (after : Framing) (same : after.limits ≡ limits) (let_go : frames.DropsBuffers after.progress after.room) where
     abbrev here : Decoding
     here = decoding_of after c
 
@@ -220,14 +221,14 @@ module _ (limits : Limits) (room : Capacity) (c : StreamState) (fits : c.message
         ap (λ f. decoding_of f c) now
 
     ended_stays : after.progress ≡ frames.ended → room ≡ no_capacity → here ≡ old frames.ended
-    ended_stays is none = stays frames.ended is none (subst (λ p. frames.DropsLists p after.room) is let_go)
+    ended_stays is none = stays frames.ended is none (subst (λ p. frames.DropsBuffers p after.room) is let_go)
 
     refused_stay : after.progress ≡ frames.refused → room ≡ no_capacity → here ≡ old frames.refused
-    refused_stay is none = stays frames.refused is none (subst (λ p. frames.DropsLists p after.room) is let_go)
+    refused_stay is none = stays frames.refused is none (subst (λ p. frames.DropsBuffers p after.room) is let_go)
 
     -- nothing is decided
-    pub feeds_none : (p : Progress) (piece : List ℕ) (n : ℕ) → frames.DropsLists p room
-        → frames.Feeds limits p piece after.progress (Ok (n, None)) → Feeds (old p) piece here (Ok (n, None))
+    pub feeds_none : (p : Progress) (piece : List ℕ) (n : ℕ) → frames.DropsBuffers p room
+        → frames.FeedsFrames limits p piece after.progress (Ok (n, None)) → Feeds (old p) piece here (Ok (n, None))
     feeds_none (frames.taking z) piece n drops h = (
       h.0,
       waits (old (frames.taking z)) here fits (z ++ piece) h.2.0 refl refl (ap (λ p. stage_of p c.end) h.1) h.2.1,
@@ -238,8 +239,8 @@ module _ (limits : Limits) (room : Capacity) (c : StreamState) (fits : c.message
     feeds_none frames.refused piece n drops h = absurd (ok_not_err h.1)
 
     -- what the frames refuse is refused
-    pub feeds_refused : (p : Progress) (piece : List ℕ) (e : Fault) → frames.DropsLists p room
-        → frames.Feeds limits p piece after.progress (Err e) → (e ≡ OutOfMemory → frames.TakesMemory limits p piece)
+    pub feeds_refused : (p : Progress) (piece : List ℕ) (e : Fault) → frames.DropsBuffers p room
+        → frames.FeedsFrames limits p piece after.progress (Err e) → (e ≡ OutOfMemory → frames.TakesMemory limits p piece)
         → Feeds (old p) piece here (Err e)
     feeds_refused (frames.taking z) piece e drops h memory =
         refuses (old (frames.taking z)) here fits z piece e refl refl (ap (λ p. stage_of p c.end) h.0)
@@ -248,28 +249,24 @@ module _ (limits : Limits) (room : Capacity) (c : StreamState) (fits : c.message
     feeds_refused frames.refused piece e drops h memory = (refused_stay h.0 drops, ap Err (err_same (Err e) refl h.1))
 
     -- what comes from a source is kept
-    pub draws_none : (p : Progress) (from to : Option (List ℕ)) (count : ℕ) → frames.DropsLists p room
+    pub draws_none : (p : Progress) (from to : Option (List ℕ)) (count : ℕ) → frames.DropsBuffers p room
         → pulled.TakesFromSource limits from to p after.progress count (Ok None) → Draws from to (old p) here count (Ok None)
     draws_none p from to count drops t = record {
       came = t.came;
       counted = t.counted;
       bytes = t.bytes;
-      few = few_at p t.came t.few;
-      at_end = end_at p t.came t.at_end;
+      few = subst (λ q. pulled.IsFew limits q t.came) (sym (progress_is p c.end)) t.few;
+      at_end = subst (λ q. pulled.EndsAt {T = Event} q t.came to (Ok None)) (sym (progress_is p c.end)) (end_at p t.came t.at_end);
       gives = feeds_none p t.came (length t.came) drops t.gives;
     }
       where
-        few_at : (q : Progress) (came : List ℕ) → pulled.IsFew limits q came → IsFew limits (old q).stage came
-        few_at (frames.taking z) came few = few
-        few_at frames.ended came few = subst (λ s. IsFew limits s came) (sym (over_is c.end).1) few
-        few_at frames.refused came few = few
-
-        end_at : (q : Progress) (came : List ℕ) → pulled.EndsAt q came to (Ok None) → EndsAt (old q).stage came to (Ok None)
+        end_at : (q : Progress) (came : List ℕ) → pulled.EndsAt {T = Frame} q came to (Ok None)
+            → pulled.EndsAt {T = Event} q came to (Ok None)
         end_at (frames.taking z) came end = end
-        end_at frames.ended came end = subst (λ s. EndsAt s came to (Ok None)) (sym (over_is c.end).1) tt
+        end_at frames.ended came end = tt
         end_at frames.refused came end = tt
 
-    refused_by : (p : Progress) (from to : Option (List ℕ)) (count : ℕ) (e : Fault) → frames.DropsLists p room
+    refused_by : (p : Progress) (from to : Option (List ℕ)) (count : ℕ) (e : Fault) → frames.DropsBuffers p room
         → pulled.TakesFromSource limits from to p after.progress count (Err e)
         → (e ≡ OutOfMemory → frames.TakesMemory limits p []) → Draws from to (old p) here count (Err e)
     refused_by (frames.taking z) from to count e drops t memory = record {
@@ -297,31 +294,31 @@ module _ (limits : Limits) (room : Capacity) (c : StreamState) (fits : c.message
     }
 
     -- or it is refused
-    pub draws_refused : (p : Progress) (from to : Option (List ℕ)) (count : ℕ) (r : Result (Option Framed) Fault) (e : Fault) → r ≡ Err e
-        → frames.DropsLists p room → pulled.TakesFromSource limits from to p after.progress count r
+    pub draws_refused : (p : Progress) (from to : Option (List ℕ)) (count : ℕ) (r : Result (Option Frame) Fault) (e : Fault) → r ≡ Err e
+        → frames.DropsBuffers p room → pulled.TakesFromSource limits from to p after.progress count r
         → IfErr r (λ fault. fault ≡ OutOfMemory → frames.TakesMemory limits p []) → Draws from to (old p) here count (Err e)
     draws_refused p from to count r e is drops t memory = refused_by p from to count e drops
         (takes_at limits from to p after.progress count r (Err e) is t)
         (subst (λ q. IfErr q (λ fault. fault ≡ OutOfMemory → frames.TakesMemory limits p [])) is memory)
 
   -- a frame that the frames find, and what it brings
-  module _ (mid last : Framing) (d : StreamState) (same : mid.limits ≡ limits) (frame : Framed) where
+  module _ (mid last : Framing) (d : StreamState) (same : mid.limits ≡ limits) (frame : Frame) where
     abbrev new : Decoding
     new = decoding_of last d
 
-    abbrev Bringing : Result (Option ReturnedEvent) Fault → Type 0
+    abbrev Bringing : Result (Option Event) Fault → Type 0
     Bringing r = Brings mid.limits (state_of c.scope) frame (state_of d.scope) r
 
-    brings : (r : Result (Option ReturnedEvent) Fault) → Bringing r → Brings limits (state_of c.scope) frame (state_of d.scope) r
+    brings : (r : Result (Option Event) Fault) → Bringing r → Brings limits (state_of c.scope) frame (state_of d.scope) r
     brings r b = subst (λ l. Brings l (state_of c.scope) frame (state_of d.scope) r) same b
 
-    on : (found : Option ReturnedEvent) → Bringing (Ok found) → mid.progress ≡ behind frame → Moves mid last c d (Ok found)
+    on : (found : Option Event) → Bringing (Ok found) → mid.progress ≡ progress_after frame → Moves mid last c d (Ok found)
         → Went c.messages new found
     on found b at m = went mid last c d (state_of c.scope) (state_of d.scope) mid.limits frame found b at m
 
     -- a frame that is taken tells its event
-    pub feeds_event : (p : Progress) (piece : List ℕ) (n : ℕ) (e : ReturnedEvent)
-        → frames.Feeds limits p piece mid.progress (Ok (n, Some frame)) → Bringing (Ok (Some e)) → Moves mid last c d (Ok (Some e))
+    pub feeds_event : (p : Progress) (piece : List ℕ) (n : ℕ) (e : Event)
+        → frames.FeedsFrames limits p piece mid.progress (Ok (n, Some frame)) → Bringing (Ok (Some e)) → Moves mid last c d (Ok (Some e))
         → Feeds (old p) piece new (Ok (n, Some e))
     feeds_event p piece n e h b m =
         where_taking (λ q. Feeds (old q) piece new (Ok (n, Some e))) limits p mid.progress piece n frame h (λ z f. (
@@ -332,7 +329,7 @@ module _ (limits : Limits) (room : Capacity) (c : StreamState) (fits : c.message
         ))
 
     -- or tells nothing
-    pub feeds_silent : (p : Progress) (piece : List ℕ) (n : ℕ) → frames.Feeds limits p piece mid.progress (Ok (n, Some frame))
+    pub feeds_silent : (p : Progress) (piece : List ℕ) (n : ℕ) → frames.FeedsFrames limits p piece mid.progress (Ok (n, Some frame))
         → Bringing (Ok None) → Moves mid last c d (Ok None) → FeedsSilent (old p) piece n new
     feeds_silent p piece n h b m =
         where_taking (λ q. FeedsSilent (old q) piece n new) limits p mid.progress piece n frame h (λ z f.
@@ -348,7 +345,7 @@ module _ (limits : Limits) (room : Capacity) (c : StreamState) (fits : c.message
 
     -- a frame that is refused is so at its last byte
     pub feeds_frame_refused : (p : Progress) (piece : List ℕ) (n : ℕ) (e : Fault)
-        → frames.Feeds limits p piece mid.progress (Ok (n, Some frame)) → Bringing (Err e) → Moves mid last c d (Err e)
+        → frames.FeedsFrames limits p piece mid.progress (Ok (n, Some frame)) → Bringing (Err e) → Moves mid last c d (Err e)
         → (e ≡ OutOfMemory → IsMessageFrame frame) → Feeds (old p) piece new (Err e)
     feeds_frame_refused p piece n e h b m memory =
         where_taking (λ q. Feeds (old q) piece new (Err e)) limits p mid.progress piece n frame h (λ z f.
@@ -363,7 +360,7 @@ module _ (limits : Limits) (room : Capacity) (c : StreamState) (fits : c.message
         (sized_longer (z ++ take n piece) (drop n piece) (message_sized limits (z ++ take n piece) frame f.2 (memory out)))))
 
     -- what a frame that came from a source brings is answered, and the source worked
-    pub draws_frame : (p : Progress) (from to : Option (List ℕ)) (count : ℕ) (r : Result (Option ReturnedEvent) Fault)
+    pub draws_frame : (p : Progress) (from to : Option (List ℕ)) (count : ℕ) (r : Result (Option Event) Fault)
         → pulled.TakesFromSource limits from to p mid.progress count (Ok (Some frame)) → Bringing r → Moves mid last c d r
         → IfErr r (λ fault. fault ≡ OutOfMemory → IsMessageFrame frame) → Draws from to (old p) new count r
     draws_frame p from to count r t b m memory =
@@ -377,19 +374,19 @@ module _ (limits : Limits) (room : Capacity) (c : StreamState) (fits : c.message
           gives = gives z r f b m memory;
         }) t.few
       where
-        whole : (z : List ℕ) → frames.Feeds limits (frames.taking z) t.came mid.progress (Ok (length t.came, Some frame))
+        whole : (z : List ℕ) → frames.FeedsFrames limits (frames.taking z) t.came mid.progress (Ok (length t.came, Some frame))
             → IsFrame limits (z ++ t.came) frame
         whole z f = subst (λ y. IsFrame limits (z ++ y) frame) (take-length t.came) f.2
 
-        ends : (z : List ℕ) (q : Result (Option ReturnedEvent) Fault) → IsFrame limits (z ++ t.came) frame
-            → pulled.IsFew limits (frames.taking z) t.came → EndsAt (taking z) t.came to q
+        ends : (z : List ℕ) (q : Result (Option Event) Fault) → IsFrame limits (z ++ t.came) frame
+            → pulled.IsFew limits (frames.taking z) t.came → pulled.EndsAt (frames.taking z) t.came to q
         ends z (Ok None) is few = λ none. absurd (pending_frame z frame few.0 few.1
             (subst (λ y. IsFrame limits y frame) (ap (λ y. z ++ y) none ∙ append-nil z) is))
         ends z (Ok (Some e)) is few = tt
         ends z (Err e) is few = tt
 
-        gives : (z : List ℕ) (q : Result (Option ReturnedEvent) Fault)
-            → frames.Feeds limits (frames.taking z) t.came mid.progress (Ok (length t.came, Some frame))
+        gives : (z : List ℕ) (q : Result (Option Event) Fault)
+            → frames.FeedsFrames limits (frames.taking z) t.came mid.progress (Ok (length t.came, Some frame))
             → Bringing q → Moves mid last c d q → IfErr q (λ fault. fault ≡ OutOfMemory → IsMessageFrame frame)
             → Gives (old (frames.taking z)) (taking z) t.came new q
         gives z (Ok None) f b m memory =
@@ -405,15 +402,16 @@ module _ (limits : Limits) (room : Capacity) (c : StreamState) (fits : c.message
           λ out. message_sized limits (z ++ t.came) frame (whole z f) (memory out),
         )
 
-    pub draws_failures : (p : Progress) (from to : Option (List ℕ)) (count f0 f1 : ℕ) (r : Result (Option ReturnedEvent) Fault)
-        (s : Result (Option Framed) Fault) → s ≡ Ok (Some frame) → pulled.TakesFromSource limits from to p mid.progress count s
-        → Bringing r → pulled.FailsWhile p f0 f1 s → FailsWhile (old p).stage f0 f1 r
+    pub draws_failures : (p : Progress) (from to : Option (List ℕ)) (count f0 f1 : ℕ) (r : Result (Option Event) Fault)
+        (s : Result (Option Frame) Fault) → s ≡ Ok (Some frame) → pulled.TakesFromSource limits from to p mid.progress count s
+        → Bringing r → pulled.FailsWhile p f0 f1 s → pulled.FailsWhile (progress_at (old p).stage) f0 f1 r
     draws_failures p from to count f0 f1 r s is taken b h =
         let t = takes_at limits from to p mid.progress count s (Ok (Some frame)) is taken in
-        where_taking (λ q. pulled.FailsWhile q f0 f1 (Ok (Some frame)) → FailsWhile (old q).stage f0 f1 r) limits p mid.progress t.came
+        where_taking (λ q. pulled.FailsWhile {T = Option Frame} q f0 f1 (Ok (Some frame))
+        → pulled.FailsWhile (progress_at (old q).stage) f0 f1 r) limits p mid.progress t.came
         (length t.came) frame t.gives (λ z f works. by_result r b works) (subst (pulled.FailsWhile p f0 f1) is h)
       where
-        by_result : (q : Result (Option ReturnedEvent) Fault) → Bringing q → (f0 ≡ 0) × (f1 ≡ 0) → FailsAs f0 f1 q
+        by_result : (q : Result (Option Event) Fault) → Bringing q → (f0 ≡ 0) × (f1 ≡ 0) → FailsAs f0 f1 q
         by_result (Ok event) b works = works
         by_result (Err e) b works = record {
           failed = λ read. absurd (not_read mid.limits (state_of c.scope) (state_of d.scope) frame e b read);

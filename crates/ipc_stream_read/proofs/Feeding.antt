@@ -9,29 +9,30 @@ use Rattle.ipc_model.specs.declared.fault.Fault.{Fault}
 use Rattle.ipc_model.specs.declared.limits.Limits.{Limits}
 use Rattle.ipc_frame.specs.Frames.{end_of_stream, IsSized, Pending}
 use Rattle.ipc_column.specs.Contents.{Contents}
-use Rattle.ipc_stream_read.specs.declared.event.Event.{Event as ReturnedEvent}
+use Rattle.ipc_stream_read.specs.declared.event.Event.{Event}
 use Rattle.ipc_stream_read.specs.declared.event.Event.TheVariants as report
 use Rattle.ipc_stream_read.specs.Counts.{messages_in}
 use Rattle.ipc_stream_read.specs.Decoding.{Decoding, FeedsAt, FeedsOn, Feeds, Reaches, RefusesAt, ReportsEvent, ReportsLastEvent}
 use Rattle.ipc_stream_read.specs.Decoding.{ReportsOneEvent, Waits}
-use Rattle.ipc_stream_read.specs.Decoding.{kept_bytes, taking}
+use Rattle.ipc_frame.specs.Pieces.{held_of}
+use Rattle.ipc_stream_read.specs.Decoding.{Stage, progress_at, taking}
 use Rattle.ipc_stream_read.specs.Found.{batch_rows}
 use Rattle.ipc_stream_read.specs.ReadBatches.{IsReadFrom}
-use Rattle.ipc_stream_read.specs.Stream.{State, Event, schema, batch}
-use Rattle.ipc_stream_read.specs.Verdicts.{Decision, Reached, Reason}
+use Rattle.ipc_stream_read.specs.Stream.{State, MessageEvent, schema, batch}
+use Rattle.ipc_stream_read.specs.Verdicts.{DecisionPoint, Reached, Reason}
 use Rattle.ipc_stream_read.proofs.Runs.{last_after, messages_after, run_then}
 use Rattle.ipc_stream_read.proofs.Verdicts.{messages_reached, reached_then}
 
 -- what is told by so many messages
-abbrev CountedReach : Limits → State → List ℕ → List Event → State → List ℕ → ℕ → Type 0
+abbrev CountedReach : Limits → State → List ℕ → List MessageEvent → State → List ℕ → ℕ → Type 0
 CountedReach limits σ x es τ z n = (h : Reached limits σ x es τ z) × (messages_in h.run ≡ n)
 
-abbrev CountedLast : Limits → State → List ℕ → Event → State → ℕ → Type 0
+abbrev CountedLast : Limits → State → List ℕ → MessageEvent → State → ℕ → Type 0
 CountedLast limits σ x e τ n = (t : ReportsLastEvent limits σ x e τ) × (messages_in t.run ≡ n)
 
 -- one way and then another
 module _ (a b c : Decoding) (x z w : List ℕ) (same : b.limits ≡ a.limits) (p : Reaches a b x [] z) where
-  pub reaches_then : (r : List ℕ) (es : List Event) → Reaches b c (z ++ w) es r → Reaches a c (x ++ w) es r
+  pub reaches_then : (r : List ℕ) (es : List MessageEvent) → Reaches b c (z ++ w) es r → Reaches a c (x ++ w) es r
   reaches_then r es q =
       let n : ℕ = messages_in q.reached.run in
       let behind = subst (λ l. CountedReach l b.state (z ++ w) es c.state r n) same (q.reached, refl) in
@@ -41,7 +42,7 @@ module _ (a b c : Decoding) (x z w : List ℕ) (same : b.limits ≡ a.limits) (p
         counted = omega (arith, p.counted, q.counted, behind.1, joined);
       }
 
-  one_then : (e : Event) → ReportsOneEvent b c (z ++ w) e → ReportsOneEvent a c (x ++ w) e
+  one_then : (e : MessageEvent) → ReportsOneEvent b c (z ++ w) e → ReportsOneEvent a c (x ++ w) e
   one_then e q =
       let n : ℕ = messages_in q.last.run in
       let behind = subst (λ l. CountedLast l b.state (z ++ w) e c.state n) same (q.last, refl) in
@@ -70,7 +71,7 @@ module _ (a b c : Decoding) (x z w : List ℕ) (same : b.limits ≡ a.limits) (p
         checked = t.checked;
       }
 
-  pub tells_then : (e : ReturnedEvent) → ReportsEvent b c (z ++ w) e → ReportsEvent a c (x ++ w) e
+  pub tells_then : (e : Event) → ReportsEvent b c (z ++ w) e → ReportsEvent a c (x ++ w) e
   tells_then report.Schema h = (h.0, one_then (schema h.0) h.1)
   tells_then (report.Batch found pairs) h = (one_then (batch (batch_rows (found, pairs))) h.0, read_then found h.1)
   tells_then report.End h = (reaches_then end_of_stream [] h.0, h.1, h.2)
@@ -82,7 +83,7 @@ module _ (a b c : Decoding) (x z w : List ℕ) (same : b.limits ≡ a.limits) (p
   refuses_then e h = (
     h.0,
     reaches_then h.0 [] h.1,
-    subst (λ l. UnlessOutOfMemory e ((d : Decision) × Reason l e d c.state h.0)) same h.2,
+    subst (λ l. UnlessOutOfMemory e ((d : DecisionPoint) × Reason l e d c.state h.0)) same h.2,
     λ out. subst (λ l. IsSized l h.0) same (h.3 out),
   )
 
@@ -97,11 +98,11 @@ pub record FeedsSilent (old : Decoding) (piece : List ℕ) (n : ℕ) (new : Deco
 
 -- after it fewer bytes are stored and to be taken
 pub silent_falls : (old new : Decoding) (piece : List ℕ) (k n : ℕ) → FeedsSilent old (drop k piece) n new
-    → kept_bytes new.stage + (length piece - (k + n)) < kept_bytes old.stage + (length piece - k)
+    → held_of (progress_at new.stage) + (length piece - (k + n)) < held_of (progress_at old.stage) + (length piece - k)
 silent_falls old new piece k n h = omega (
   arith,
-  ap kept_bytes h.between,
-  ap kept_bytes h.stage,
+  ap (λ (s : Stage). held_of (progress_at s)) h.between,
+  ap (λ (s : Stage). held_of (progress_at s)) h.stage,
   h.some,
   h.within,
   length-append h.kept (take n (drop k piece)),
@@ -124,20 +125,20 @@ pub all_bytes : (z piece : List ℕ) (k : ℕ) → (z ++ take k piece) ++ drop k
 all_bytes z piece k = append_assoc z (take k piece) (drop k piece) ∙ ap (λ y. z ++ y) (take-append-drop k piece)
 
 -- what is answered of the rest of a piece, as an answer of the whole
-abbrev Behind : ℕ → Result (ℕ × Option ReturnedEvent) Fault → Result (ℕ × Option ReturnedEvent) Fault
+abbrev Behind : ℕ → Result (ℕ × Option Event) Fault → Result (ℕ × Option Event) Fault
 Behind k (Ok (n, found)) = Ok (k + n, found)
 Behind k (Err fault) = Err fault
 
 module _ (old now new : Decoding) (piece : List ℕ) (k : ℕ) (f : Feeding old piece k now) where
   module _ (z : List ℕ) (stage : old.stage ≡ taking z) (p : Reaches old now (z ++ take k piece) [] []) (between : now.stage ≡ taking [])
     where
-      feeds_now : (r : Result (ℕ × Option ReturnedEvent) Fault) → Feeds now (drop k piece) new r → FeedsOn now [] (drop k piece) new r
+      feeds_now : (r : Result (ℕ × Option Event) Fault) → Feeds now (drop k piece) new r → FeedsOn now [] (drop k piece) new r
       feeds_now r h = subst (λ s. FeedsAt now s (drop k piece) new r) between h
 
-      feeds_old : (r : Result (ℕ × Option ReturnedEvent) Fault) → FeedsOn old z piece new r → Feeds old piece new r
+      feeds_old : (r : Result (ℕ × Option Event) Fault) → FeedsOn old z piece new r → Feeds old piece new r
       feeds_old r h = subst (λ s. FeedsAt old s piece new r) (sym stage) h
 
-      on_then : (r : Result (ℕ × Option ReturnedEvent) Fault) → FeedsOn now [] (drop k piece) new r → FeedsOn old z piece new (Behind k r)
+      on_then : (r : Result (ℕ × Option Event) Fault) → FeedsOn now [] (drop k piece) new r → FeedsOn old z piece new (Behind k r)
       on_then (Ok (n, None)) h = (
         omega (arith, h.0, length-drop k piece, f.within),
         subst (Waits old new) (all_bytes z piece k) (waits_then old now new (z ++ take k piece) [] (drop k piece) f.same_limits p h.1),
@@ -157,15 +158,15 @@ module _ (old now new : Decoding) (piece : List ℕ) (k : ℕ) (f : Feeding old 
         ),
       )
 
-      feeds_then : (r : Result (ℕ × Option ReturnedEvent) Fault) → Feeds now (drop k piece) new r → Feeds old piece new (Behind k r)
+      feeds_then : (r : Result (ℕ × Option Event) Fault) → Feeds now (drop k piece) new r → Feeds old piece new (Behind k r)
       feeds_then r h = feeds_old (Behind k r) (on_then r (feeds_now r h))
 
-  first_piece : (r : Result (ℕ × Option ReturnedEvent) Fault) → k ≡ 0 → Behind k r ≡ r
+  first_piece : (r : Result (ℕ × Option Event) Fault) → k ≡ 0 → Behind k r ≡ r
   first_piece (Ok (n, found)) none = ap (λ m. Ok (m, found)) (omega (arith, none))
   first_piece (Err e) none = refl
 
   -- what is answered of the rest is answered of the whole
-  pub fed_then : (r : Result (ℕ × Option ReturnedEvent) Fault) → Feeds now (drop k piece) new r → Feeds old piece new (Behind k r)
+  pub fed_then : (r : Result (ℕ × Option Event) Fault) → Feeds now (drop k piece) new r → Feeds old piece new (Behind k r)
   fed_then r h = by_cases f.so_far
     where
       by_cases : ((k ≡ 0) × (now ≡ old))

@@ -9,13 +9,14 @@ use Rattle.ipc_column.specs.Contents.{Contents}
 use Rattle.ipc_frame.specs.Frames.{end_of_stream}
 use Rattle.ipc_stream_read.specs.declared.end.End.{End}
 use Rattle.ipc_stream_read.specs.declared.end.End.TheVariants.{Mark}
-use Rattle.ipc_stream_read.specs.declared.event.Event.{Event as ReturnedEvent}
+use Rattle.ipc_stream_read.specs.declared.event.Event.{Event}
 use Rattle.ipc_stream_read.specs.declared.event.Event.TheVariants as report
 use Rattle.ipc_stream_read.specs.Decoding.{Decoding, Stage, taking, over, refused, HasColumns, Reaches, ReportsEvent, schema_of}
 use Rattle.ipc_stream_read.specs.Found.{batch_rows}
 use Rattle.ipc_stream_read.specs.Reader.{schema_in}
 use Rattle.ipc_stream_read.specs.Reasons.{NeedsMemory, Reads}
-use Rattle.ipc_stream_read.specs.Stream.{State, Event, schema, batch, Step, first, came, sets, Run, done, more, initial_state}
+use Rattle.ipc_stream_read.specs.Stream.{State, MessageEvent, schema, batch, Step, schema_message, record_batch, dictionary_batch, Run}
+use Rattle.ipc_stream_read.specs.Stream.{done, more, initial_state}
 use Rattle.ipc_stream_read.specs.Taken.{Pulls, StopsAt, TakesSchema}
 use Rattle.ipc_stream_read.proofs.Reasons.{run_open, step_open}
 use Rattle.ipc_stream_read.proofs.Runs.{messages_none, told_run}
@@ -27,14 +28,14 @@ pub record SameSchema (σ τ : State) : Type 0 where
   pub of_state : schema_of τ ≡ schema_of σ
   pub in_state : schema_in τ ≡ schema_in σ
 
-step_keeps : {limits : Limits} → {σ τ : State} {g : Head} {body : List ℕ} {es : List Event} → Step limits σ g body es τ → σ ≢ None
+step_keeps : {limits : Limits} → {σ τ : State} {g : Head} {body : List ℕ} {es : List MessageEvent} → Step limits σ g body es τ → σ ≢ None
     → SameSchema σ τ
-step_keeps first some = absurd (some refl)
-step_keeps (came r) some = record { of_state = refl; in_state = refl }
-step_keeps (sets found r) some = record { of_state = refl; in_state = refl }
+step_keeps schema_message some = absurd (some refl)
+step_keeps (record_batch r) some = record { of_state = refl; in_state = refl }
+step_keeps (dictionary_batch found r) some = record { of_state = refl; in_state = refl }
 
 -- the schema in force stays
-pub run_keeps : {limits : Limits} → {σ τ : State} {x : List ℕ} {es : List Event} → Run limits σ x es τ → σ ≢ None → SameSchema σ τ
+pub run_keeps : {limits : Limits} → {σ τ : State} {x : List ℕ} {es : List MessageEvent} → Run limits σ x es τ → σ ≢ None → SameSchema σ τ
 run_keeps done some = record { of_state = refl; in_state = refl }
 run_keeps (more frame step rest) some =
     let here = step_keeps step some in
@@ -42,32 +43,32 @@ run_keeps (more frame step rest) some =
     record { of_state = behind.of_state ∙ here.of_state; in_state = behind.in_state ∙ here.in_state }
 
 -- messages that tell nothing are none before a schema
-pub run_closed : {limits : Limits} → {σ τ : State} {x : List ℕ} {es : List Event} → Run limits σ x es τ → σ ≡ None → es ≡ []
+pub run_closed : {limits : Limits} → {σ τ : State} {x : List ℕ} {es : List MessageEvent} → Run limits σ x es τ → σ ≡ None → es ≡ []
     → (x ≡ []) × (τ ≡ None)
 run_closed done none is = (refl, none)
-run_closed (more {fs = fs} frame (first {s = t}) rest) none is = absurd (cc)
-run_closed (more frame (came r) rest) none is = absurd (cc)
-run_closed (more frame (sets found r) rest) none is = absurd (cc)
+run_closed (more {fs = fs} frame (schema_message {s = t}) rest) none is = absurd (cc)
+run_closed (more frame (record_batch r) rest) none is = absurd (cc)
+run_closed (more frame (dictionary_batch found r) rest) none is = absurd (cc)
 
 -- a message before a schema tells the schema that it puts in force
-step_schema : {limits : Limits} → {σ τ : State} {g : Head} {body : List ℕ} {es : List Event} (s : Schema) → Step limits σ g body es τ
+step_schema : {limits : Limits} → {σ τ : State} {g : Head} {body : List ℕ} {es : List MessageEvent} (s : Schema) → Step limits σ g body es τ
     → σ ≡ None → es ≡ schema s ∷ [] → τ ≡ Some (initial_state s)
-step_schema s (first {s = t}) none is = let same : t ≡ s = cc in ap (λ u. Some (initial_state u)) same
-step_schema s (came r) none is = absurd (cc)
-step_schema s (sets found r) none is = absurd (cc)
+step_schema s (schema_message {s = t}) none is = let same : t ≡ s = cc in ap (λ u. Some (initial_state u)) same
+step_schema s (record_batch r) none is = absurd (cc)
+step_schema s (dictionary_batch found r) none is = absurd (cc)
 
 -- a batch comes behind a schema alone, and no schema does
-step_no_batch : {limits : Limits} → {σ τ : State} {g : Head} {body : List ℕ} {es : List Event} (b : BatchRows) → Step limits σ g body es τ
-    → σ ≡ None → es ≡ batch b ∷ [] → ⊥
-step_no_batch b first none is = absurd (cc)
-step_no_batch b (came r) none is = absurd (cc)
-step_no_batch b (sets found r) none is = absurd (cc)
+step_no_batch : {limits : Limits} → {σ τ : State} {g : Head} {body : List ℕ} {es : List MessageEvent} (b : BatchRows)
+    → Step limits σ g body es τ → σ ≡ None → es ≡ batch b ∷ [] → ⊥
+step_no_batch b schema_message none is = absurd (cc)
+step_no_batch b (record_batch r) none is = absurd (cc)
+step_no_batch b (dictionary_batch found r) none is = absurd (cc)
 
-step_no_schema : {limits : Limits} → {σ τ : State} {g : Head} {body : List ℕ} {es : List Event} (s : Schema) → Step limits σ g body es τ
-    → σ ≢ None → es ≡ schema s ∷ [] → ⊥
-step_no_schema s first some is = some refl
-step_no_schema s (came r) some is = absurd (cc)
-step_no_schema s (sets found r) some is = absurd (cc)
+step_no_schema : {limits : Limits} → {σ τ : State} {g : Head} {body : List ℕ} {es : List MessageEvent} (s : Schema)
+    → Step limits σ g body es τ → σ ≢ None → es ≡ schema s ∷ [] → ⊥
+step_no_schema s schema_message some is = some refl
+step_no_schema s (record_batch r) some is = absurd (cc)
+step_no_schema s (dictionary_batch found r) some is = absurd (cc)
 
 -- what stops behind messages that tell nothing is read
 abbrev pub stops_reads : (old new : Decoding) (x : List ℕ) (left : Option (List ℕ)) (stage : Stage) (r : Result End Fault)
@@ -113,7 +114,7 @@ next_columns before after x found pairs some h columns =
     columns_of (Some o) some h = h
 
 -- what was pulled is what an equal answer says
-pub pulls_at : (old new : Option (List ℕ)) (n0 n1 : ℕ) (before after : Decoding) (r q : Result (Option ReturnedEvent) Fault) → r ≡ q
+pub pulls_at : (old new : Option (List ℕ)) (n0 n1 : ℕ) (before after : Decoding) (r q : Result (Option Event) Fault) → r ≡ q
     → Pulls old new n0 n1 before after r → Pulls old new n0 n1 before after q
 pulls_at old new n0 n1 before after r q is p = subst (Pulls old new n0 n1 before after) is p
 
@@ -154,14 +155,10 @@ module _ (old new : Option (List ℕ)) (n0 n1 : ℕ) (before after : Decoding) (
   nothing_open h some = some (run_closed h.reached.run none refl).1
 
   -- nothing else comes first
-  pub nothing_first : Pulls old new n0 n1 before after (Ok None) → ⊥
-  nothing_first p = nothing_open p.gives.reaches p.gives.ends.1
-
-  pub batch_first : (found : Contents) (pairs : List (List ℕ × List ℕ))
-      → Pulls old new n0 n1 before after (Ok (Some (report.Batch found pairs))) → ⊥
-  batch_first found pairs p =
+  pub schema_first : (found : Option Event) → Pulls old new n0 n1 before after (Ok found) → found ≡ Some report.Schema
+  schema_first None p = absurd (nothing_open p.gives.reaches p.gives.ends.1)
+  schema_first (Some report.Schema) p = refl
+  schema_first (Some (report.Batch found pairs)) p =
       let last = p.gives.0.last in
-      step_no_batch (batch_rows (found, pairs)) last.report.step (run_closed last.run none refl).1 refl
-
-  pub mark_first : Pulls old new n0 n1 before after (Ok (Some report.End)) → ⊥
-  mark_first p = nothing_open p.gives.0 p.gives.1
+      absurd (step_no_batch (batch_rows (found, pairs)) last.report.step (run_closed last.run none refl).1 refl)
+  schema_first (Some report.End) p = absurd (nothing_open p.gives.0 p.gives.1)

@@ -5,49 +5,50 @@ use Rattle.std.proofs.lemmas.List.{append-nil, append_cancel_left, append_cancel
 use Rattle.ipc_model.specs.declared.table.BatchRows.{BatchRows}
 use Rattle.ipc_model.specs.declared.table.Table.{Table}
 use Rattle.ipc_meta.specs.declared.head.Head.{Head}
-use Rattle.ipc_frame.specs.Frames.{end_of_stream, Frame}
+use Rattle.ipc_frame.specs.Frames.{end_of_stream, Encapsulates}
 use Rattle.ipc_frame.proofs.OneFrame.{frame_one, no_frame_at_end}
 use Rattle.ipc_model.specs.declared.value.Value.{Value}
 use Rattle.ipc_column.specs.Rows.{Rows}
 use Rattle.ipc_column.proofs.Laws.{one_list}
 use Rattle.ipc_stream_read.specs.declared.end.End.{End}
 use Rattle.ipc_stream_read.specs.declared.end.End.TheVariants.{Mark, Closed}
-use Rattle.ipc_stream_read.specs.Stream.{State, Event, schema, batch, Step, first, came, sets, Run, done, more, events_of, Denotes}
-use Rattle.ipc_stream_read.specs.Stream.{with_dictionary}
+use Rattle.ipc_stream_read.specs.Stream.{State, MessageEvent, schema, batch, Step, schema_message, record_batch, dictionary_batch, Run}
+use Rattle.ipc_stream_read.specs.Stream.{done, more, events_of, Denotes}
+use Rattle.ipc_stream_read.specs.Stream.{set_dictionary}
 use Rattle.ipc_model.specs.declared.limits.Limits.{Limits}
 
 -- a message tells one list of events at most, and leaves one state
-pub step_one : {limits : Limits} → {σ τ υ : State} {g : Head} {body : List ℕ} {es fs : List Event} → Step limits σ g body es τ
+pub step_one : {limits : Limits} → {σ τ υ : State} {g : Head} {body : List ℕ} {es fs : List MessageEvent} → Step limits σ g body es τ
     → Step limits σ g body fs υ
     → (es ≡ fs) × (τ ≡ υ)
-step_one first first = (refl, refl)
-step_one (came {pairs = pairs} r) (came q) =
+step_one schema_message schema_message = (refl, refl)
+step_one (record_batch {pairs = pairs} r) (record_batch q) =
     (ap (λ rows. batch (record { pairs = pairs; rows = rows }) ∷ []) (one_list _ _ _ _ _ _ _ _ r q), refl)
-step_one {limits} (sets {o = o} {id = id} {b = b} {body = body} {columns = columns} {rows = rows} found r)
-    (sets {columns = others} {rows = others_rows} known q) =
+step_one {limits} (dictionary_batch {o = o} {id = id} {b = b} {body = body} {columns = columns} {rows = rows} found r)
+    (dictionary_batch {columns = others} {rows = others_rows} known q) =
     let same : columns ≡ others = (let both : Some columns ≡ Some others = sym found ∙ known in cc) in
     let here : Rows limits [] columns b body others_rows = subst (λ c. Rows limits [] c b body others_rows) (sym same) q in
-    (refl, ap (λ (z : List (List Value)). Some (with_dictionary o id z (length body))) (one_list _ _ _ _ _ _ _ _ r here))
+    (refl, ap (λ (z : List (List Value)). Some (set_dictionary o id z (length body))) (one_list _ _ _ _ _ _ _ _ r here))
 
 -- where a run of messages may stop: at the end, or before the end mark
 abbrev pub IsStop : List ℕ → Type 0
 IsStop a = (a ≡ []) ⊎ ((c : List ℕ) × (a ≡ end_of_stream ++ c))
 
 -- no message begins where a run stops
-pub frame_stop : {limits : Limits} → (x m body u a : List ℕ) (g : Head) → Frame limits x m g body → x ++ u ≡ a → IsStop a → ⊥
+pub frame_stop : {limits : Limits} → (x m body u a : List ℕ) (g : Head) → Encapsulates limits x m g body → x ++ u ≡ a → IsStop a → ⊥
 frame_stop x m body u a g f e (inl none) = omega (arith, f.prefix, length-append x u, ap length e, ap length none)
 frame_stop x m body u a g f e (inr (c, is)) = no_frame_at_end x m body u c g f (e ∙ is)
 
 -- of two runs over the same bytes the second goes on with these messages where the first ends
-pub record GoesOn (limits : Limits) (σ τ : State) (es fs : List Event) (a b : List ℕ) : Type 0 where
+pub record GoesOn (limits : Limits) (σ τ : State) (es fs : List MessageEvent) (a b : List ℕ) : Type 0 where
   pub bytes : List ℕ
-  pub events : List Event
+  pub events : List MessageEvent
   pub run : Run limits σ bytes events τ
   pub rest : a ≡ bytes ++ b
   pub told : fs ≡ es ++ events
 
 -- of two runs over the same bytes one goes on where the other ends
-pub overlap : {limits : Limits} → {σ τ υ : State} {x y : List ℕ} {es fs : List Event} (a b : List ℕ) → Run limits σ x es τ
+pub overlap : {limits : Limits} → {σ τ υ : State} {x y : List ℕ} {es fs : List MessageEvent} (a b : List ℕ) → Run limits σ x es τ
     → Run limits σ y fs υ → x ++ a ≡ y ++ b → GoesOn limits τ υ es fs a b ⊎ GoesOn limits υ τ fs es b a
 overlap {y = y} {fs = fs} a b done q e = inl (record { bytes = y; events = fs; run = q; rest = e; told = refl })
 overlap {limits} a b (more {x = x} {y = y} {es = es} {fs = fs} f p q) done e =
@@ -79,32 +80,32 @@ overlap {limits} a b (more {σ = σ} {τ = τ} {υ = υ} {x = x} {metadata = m} 
     ]
 
 -- two runs tell the same events and leave the same rest and the same state
-pub record SameEnd (σ τ : State) (a b : List ℕ) (es fs : List Event) : Type 0 where
+pub record SameEnd (σ τ : State) (a b : List ℕ) (es fs : List MessageEvent) : Type 0 where
   pub rest : a ≡ b
   pub events : es ≡ fs
   pub state : σ ≡ τ
 
-no_more : {limits : Limits} → {σ τ : State} {x : List ℕ} {ds : List Event} (a b : List ℕ) → Run limits σ x ds τ → a ≡ x ++ b → IsStop a
-    → SameEnd σ τ a b ds []
+no_more : {limits : Limits} → {σ τ : State} {x : List ℕ} {ds : List MessageEvent} (a b : List ℕ) → Run limits σ x ds τ → a ≡ x ++ b
+    → IsStop a → SameEnd σ τ a b ds []
 no_more a b done rest stop = record { rest = rest; events = refl; state = refl }
 no_more a b (more {x = x} {metadata = m} {body = body} {y = y} {h = h} f p q) rest stop =
     absurd (frame_stop x m body (y ++ b) a h f (sym (append_assoc x y b) ∙ sym rest) stop)
 
 -- no run goes on where the other may stop
-pub stops_there : {limits : Limits} → {σ τ : State} {es fs : List Event} {a b : List ℕ} → GoesOn limits σ τ es fs a b → IsStop a
+pub stops_there : {limits : Limits} → {σ τ : State} {es fs : List MessageEvent} {a b : List ℕ} → GoesOn limits σ τ es fs a b → IsStop a
     → SameEnd σ τ a b es fs
 stops_there {es = es} {a = a} {b = b} g stop =
     let same = no_more a b g.run g.rest stop in
     record { rest = same.rest; events = sym (g.told ∙ (ap (λ l. es ++ l) same.events ∙ append-nil es)); state = same.state }
 
 -- two runs of messages over the same bytes are the same bytes, tell the same events and leave the same rest
-pub record SameRun (x y a b : List ℕ) (es fs : List Event) : Type 0 where
+pub record SameRun (x y a b : List ℕ) (es fs : List MessageEvent) : Type 0 where
   pub bytes : x ≡ y
   pub rest : a ≡ b
   pub events : es ≡ fs
 
 -- of the messages from a state on there is one run at most up to where it may stop
-pub one_run : {limits : Limits} → {σ τ υ : State} {x y : List ℕ} {es fs : List Event} (a b : List ℕ) → Run limits σ x es τ
+pub one_run : {limits : Limits} → {σ τ υ : State} {x y : List ℕ} {es fs : List MessageEvent} (a b : List ℕ) → Run limits σ x es τ
     → Run limits σ y fs υ → IsStop a → IsStop b → x ++ a ≡ y ++ b → SameRun x y a b es fs
 one_run {x = x} {y = y} {es = es} {fs = fs} a b r q s t e = elim (overlap a b r q e) [
   | inl g ↦ let same = stops_there g s in by_rest same.rest same.events

@@ -11,26 +11,26 @@ use Rattle.ipc_stream_read.specs.declared.end.End.TheVariants.{Mark}
 use Rattle.ipc_frame.specs.Frames.{end_of_stream, Pending}
 use Rattle.ipc_frame.proofs.Decided.{pending_not_end, pending_not_frame}
 use Rattle.ipc_frame.proofs.Exact.{pending_none}
-use Rattle.ipc_stream_read.specs.declared.event.Event.{Event as ReturnedEvent}
+use Rattle.ipc_stream_read.specs.declared.event.Event.{Event}
 use Rattle.ipc_stream_read.specs.declared.event.Event.TheVariants as report
 use Rattle.ipc_stream_read.specs.Decoding.{Decoding, FeedsAt, FeedsOn, ReportsEvent, ReportsOneEvent, taking}
 use Rattle.ipc_stream_read.specs.PieceFeeds.{AnyPieces, AreReported, Call, EndsWithMark, GoesOn, HasRefusal, HasVerdict, LeavesBytes}
 use Rattle.ipc_stream_read.specs.PieceFeeds.{RefusesByVerdict}
 use Rattle.ipc_stream_read.specs.PieceFeeds.{TablePieces, ReportsVerdict, after_event, after_none, ended, fails, goes_on, kept, none}
 use Rattle.ipc_stream_read.specs.Found.{batch_rows}
-use Rattle.ipc_stream_read.specs.Stream.{Denotes, Event, Run, State, batch, done, events_of, more as then, schema}
-use Rattle.ipc_stream_read.specs.Verdicts.{Decides, Out, Reached, Reason, Verdict}
+use Rattle.ipc_stream_read.specs.Stream.{Denotes, MessageEvent, Run, State, batch, done, events_of, more as then, schema}
+use Rattle.ipc_stream_read.specs.Verdicts.{IsOutcome, Out, Reached, Reason, Verdict}
 use Rattle.ipc_stream_read.specs.Verdicts as out
 use Rattle.ipc_stream_read.proofs.OneReading.{at_eos, one_run, overlap, stops_there}
 use Rattle.ipc_stream_read.proofs.Runs.{run_then, told_reached}
 
 -- what a call does where these bytes are kept
-feeds_on : (d e : Decoding) (z piece : List ℕ) (r : Result (ℕ × Option ReturnedEvent) Fault) → d.stage ≡ taking z → Call d piece e r
+feeds_on : (d e : Decoding) (z piece : List ℕ) (r : Result (ℕ × Option Event) Fault) → d.stage ≡ taking z → Call d piece e r
     → FeedsOn d z piece e r
 feeds_on d e z piece r stage call = subst (λ s. FeedsAt d s piece e r) stage call.0
 
 -- whole messages, and then what is known of the bytes behind them
-reached_behind : {limits : Limits} → (σ τ υ : State) (whole x rest : List ℕ) (es fs : List Event) → Run limits σ whole es τ
+reached_behind : {limits : Limits} → (σ τ υ : State) (whole x rest : List ℕ) (es fs : List MessageEvent) → Run limits σ whole es τ
     → Reached limits τ x fs υ rest → Reached limits σ (whole ++ x) (es ++ fs) υ rest
 reached_behind σ τ υ whole x rest es fs run r = record {
   whole = whole ++ r.whole;
@@ -38,7 +38,7 @@ reached_behind σ τ υ whole x rest es fs run r = record {
   run = run_then σ τ υ whole r.whole es fs run r.run;
 }
 
-verdict_behind : {limits : Limits} → (σ τ : State) (whole x : List ℕ) (es fs : List Event) (o : Out) → Run limits σ whole es τ
+verdict_behind : {limits : Limits} → (σ τ : State) (whole x : List ℕ) (es fs : List MessageEvent) (o : Out) → Run limits σ whole es τ
     → Verdict limits τ x fs o → Verdict limits σ (whole ++ x) (es ++ fs) o
 verdict_behind σ τ whole x es fs o run v = record {
   state = v.state;
@@ -55,9 +55,9 @@ cut_at z piece behind n =
     ∙ sym (append_assoc z (take n piece) (drop n piece ++ behind)))
 
 -- messages that are whole, and what is told behind them
-module _ (d e : Decoding) (front behind left : List ℕ) (rest : List ℕ) (es : List Event)
+module _ (d e : Decoding) (front behind left : List ℕ) (rest : List ℕ) (es : List MessageEvent)
     (h : Reached d.limits d.state front es e.state rest)
-    (same : e.limits ≡ d.limits) (pieces : List (List ℕ)) (report : List ReturnedEvent) (v : HasVerdict e rest pieces report left) where
+    (same : e.limits ≡ d.limits) (pieces : List (List ℕ)) (report : List Event) (v : HasVerdict e rest pieces report left) where
   all_joined : front ++ concat pieces ≡ (h.whole ++ v.x) ++ left
   all_joined =
       ap (λ y. y ++ concat pieces) h.joined
@@ -70,7 +70,7 @@ module _ (d e : Decoding) (front behind left : List ℕ) (rest : List ℕ) (es :
       (subst (λ l. Verdict l e.state v.x v.events v.out) same v.verdict)
 
 -- one more event before others leaves the same bytes
-leaves_on : (o : Out) (e : ReturnedEvent) (report : List ReturnedEvent) (left : List ℕ) → GoesOn e → LeavesBytes o report left
+leaves_on : (o : Out) (e : Event) (report : List Event) (left : List ℕ) → GoesOn e → LeavesBytes o report left
     → LeavesBytes o (e ∷ report) left
 leaves_on (out.more k) e report left on h = h
 leaves_on out.end report.Schema report left on h = h
@@ -79,12 +79,12 @@ leaves_on out.end report.End report left on h = absurd on
 leaves_on (out.refused c) e report left on h = h
 
 -- an event that is not the end is one of the stream
-record Reported (d e : Decoding) (x : List ℕ) (event : ReturnedEvent) : Type 0 where
-  told : Event
+record Reported (d e : Decoding) (x : List ℕ) (event : Event) : Type 0 where
+  told : MessageEvent
   one : ReportsOneEvent d e x told
-  are : (report : List ReturnedEvent) (events : List Event) → AreReported report events → AreReported (event ∷ report) (told ∷ events)
+  are : (report : List Event) (events : List MessageEvent) → AreReported report events → AreReported (event ∷ report) (told ∷ events)
 
-reported : (d e : Decoding) (x : List ℕ) (event : ReturnedEvent) → GoesOn event → ReportsEvent d e x event → Reported d e x event
+reported : (d e : Decoding) (x : List ℕ) (event : Event) → GoesOn event → ReportsEvent d e x event → Reported d e x event
 reported d e x report.Schema on h = record { told = schema h.0; one = h.1; are = λ report events a. a }
 reported d e x (report.Batch found pairs) on h =
     record { told = batch (batch_rows (found, pairs)); one = h.0; are = λ report events a. (refl, a) }
@@ -148,10 +148,10 @@ told_pieces d g z left k pieces events stage pending (ended {e = e} {piece = pie
     }
 
 -- messages that are whole, and what is refused behind them
-module _ (d e : Decoding) (front rest : List ℕ) (es : List Event) (h : Reached d.limits d.state front es e.state rest)
-    (same : e.limits ≡ d.limits) (pieces : List (List ℕ)) (report : List ReturnedEvent) (fault : Fault)
+module _ (d e : Decoding) (front rest : List ℕ) (es : List MessageEvent) (h : Reached d.limits d.state front es e.state rest)
+    (same : e.limits ≡ d.limits) (pieces : List (List ℕ)) (report : List Event) (fault : Fault)
     (v : HasRefusal e rest pieces report fault)
-    (z : List ℕ) (all : List (List ℕ)) (cut : z ++ concat all ≡ front ++ concat pieces) (tells : List ReturnedEvent)
+    (z : List ℕ) (all : List (List ℕ)) (cut : z ++ concat all ≡ front ++ concat pieces) (tells : List Event)
     (are : AreReported tells (es ++ v.events)) where
   refused_behind : HasRefusal d z all tells fault
   refused_behind =
@@ -210,7 +210,7 @@ any_pieces = (told_pieces, refused_pieces)
 
 -- ---- a table with its mark
 
-run_pending : {limits : Limits} → {σ τ : State} {x : List ℕ} {es : List Event} (w rest : List ℕ) (k : ℕ) → Run limits σ x es τ
+run_pending : {limits : Limits} → {σ τ : State} {x : List ℕ} {es : List MessageEvent} (w rest : List ℕ) (k : ℕ) → Run limits σ x es τ
     → rest ≡ x ++ (end_of_stream ++ w) → Pending limits rest k → ⊥
 run_pending {limits} w rest k done is pending = pending_not_end w k (subst (λ z. Pending limits z k) is pending)
 run_pending {limits} w rest k (then {x = x} {metadata = m} {body = body} {y = y} {h = g} frame step later) is pending =
@@ -218,7 +218,7 @@ run_pending {limits} w rest k (then {x = x} {metadata = m} {body = body} {y = y}
     (subst (λ z. Pending limits z k) (is ∙ append_assoc x y (end_of_stream ++ w)) pending)
 
 -- where messages end before the mark, no bytes with these at their front are undecided behind messages
-stop_pending : {limits : Limits} → {σ τ υ : State} {y u : List ℕ} {es fs : List Event} (w rest : List ℕ) (k : ℕ)
+stop_pending : {limits : Limits} → {σ τ υ : State} {y u : List ℕ} {es fs : List MessageEvent} (w rest : List ℕ) (k : ℕ)
     → Run limits σ y es τ → Run limits σ u fs υ → Pending limits rest k
     → y ++ (end_of_stream ++ w) ≡ u ++ rest → ⊥
 stop_pending {limits} w rest k p q pending e = elim (overlap (end_of_stream ++ w) rest p q e) [
@@ -226,7 +226,7 @@ stop_pending {limits} w rest k p q pending e = elim (overlap (end_of_stream ++ w
   | inr g ↦ run_pending w rest k g.run g.rest pending
 ]
 
-module _ (d : Decoding) (x w left : List ℕ) (t : Table) (pieces : List (List ℕ)) (report : List ReturnedEvent)
+module _ (d : Decoding) (x w left : List ℕ) (t : Table) (pieces : List (List ℕ)) (report : List Event)
     (h : HasVerdict d [] pieces report left)
     (empty : d.state ≡ None) (denotes : Denotes d.limits x t Mark) (joined : concat pieces ≡ x ++ w) where
   run_told : Run d.limits d.state denotes.0 (events_of t) denotes.2.0
@@ -251,11 +251,11 @@ module _ (d : Decoding) (x w left : List ℕ) (t : Table) (pieces : List (List �
   by_out : (o : Out) → h.out ≡ o → (h.events ≡ events_of t) × (left ≡ w) × EndsWithMark report
   by_out (out.more k) is =
       absurd (undecided k (subst (λ o. LeavesBytes o report left) is h.leaves)
-      (subst (λ o. Decides d.limits h.verdict.state h.verdict.rest o)
+      (subst (λ o. IsOutcome d.limits h.verdict.state h.verdict.rest o)
       is
       h.verdict.decides))
   by_out out.end is =
-      let all = told_mark (subst (λ o. Decides d.limits h.verdict.state h.verdict.rest o) is h.verdict.decides).0 in
+      let all = told_mark (subst (λ o. IsOutcome d.limits h.verdict.state h.verdict.rest o) is h.verdict.decides).0 in
       (all.0, all.1, subst (λ o. LeavesBytes o report left) is h.leaves)
   by_out (out.refused c) is = absurd (subst (λ o. LeavesBytes o report left) is h.leaves)
 

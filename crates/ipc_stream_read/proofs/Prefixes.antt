@@ -6,7 +6,7 @@ use Rattle.std.proofs.lemmas.List.{drop_at, length-take-le, take-append-drop, ta
 use Rattle.ipc_model.specs.declared.limits.Limits.{Limits}
 use Rattle.ipc_meta.specs.declared.head.Head.{Head}
 use Rattle.ipc_meta.specs.Heads.{HeadOf}
-use Rattle.ipc_frame.specs.Frames.{Begins, Frame, in_body, in_metadata}
+use Rattle.ipc_frame.specs.Frames.{Begins, Encapsulates, in_body, in_metadata}
 use Rattle.ipc_frame.proofs.Exact.{begins_longer}
 use Rattle.ipc_frame.proofs.OneFrame.{front_number}
 use Rattle.ipc_frame.proofs.Sized.{some_metadata}
@@ -21,7 +21,7 @@ begins_front z c n long b = record {
   fits = b.fits;
 }
 
-module _ {limits : Limits} (x metadata body : List ℕ) (head : Head) (frame : Frame limits x metadata head body) where
+module _ {limits : Limits} (x metadata body : List ℕ) (head : Head) (frame : Encapsulates limits x metadata head body) where
   eight : length (take 8 x) ≡ 8
   eight = length-take-le 8 x frame.prefix
 

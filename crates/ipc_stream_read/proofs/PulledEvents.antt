@@ -16,18 +16,19 @@ use Rattle.ipc_frame.specs.Failures.{UnlessOutside}
 use Rattle.ipc_frame.proofs.Exact.{pending_none}
 use Rattle.ipc_stream_read.specs.declared.end.End.{End}
 use Rattle.ipc_stream_read.specs.declared.end.End.TheVariants.{Closed}
-use Rattle.ipc_stream_read.specs.declared.event.Event.{Event as ReturnedEvent}
+use Rattle.ipc_stream_read.specs.declared.event.Event.{Event}
 use Rattle.ipc_stream_read.specs.declared.event.Event.TheVariants as report
 use Rattle.ipc_stream_read.specs.Counts.{count_up}
 use Rattle.ipc_stream_read.specs.Found.{batch_rows}
-use Rattle.ipc_stream_read.specs.Decoding.{IsFew, EndsAt, Decoding, taking, over, Reaches, ReportsEvent, ReportsOneEvent, Gives, Draws}
-use Rattle.ipc_stream_read.specs.Decoding.{FailsWhile}
+use Rattle.ipc_frame.specs.Pieces as frames
+use Rattle.ipc_frame.specs.Pulled.{IsFew, EndsAt, FailsWhile}
+use Rattle.ipc_stream_read.specs.Decoding.{Decoding, taking, over, Reaches, ReportsEvent, ReportsOneEvent, Gives, Draws, progress_at}
 use Rattle.ipc_stream_read.specs.Decoding.{ClosesAt}
 use Rattle.ipc_stream_read.specs.Reasons as reasons
 use Rattle.ipc_stream_read.specs.Reasons.{EndsReading, IsOutside, IsUndecidedPrefix}
-use Rattle.ipc_stream_read.specs.Stream.{State, Event, schema, batch}
+use Rattle.ipc_stream_read.specs.Stream.{State, MessageEvent, schema, batch}
 use Rattle.ipc_stream_read.specs.Taken.{Takes, Pulls}
-use Rattle.ipc_stream_read.specs.Verdicts.{Decision, Reason}
+use Rattle.ipc_stream_read.specs.Verdicts.{DecisionPoint, Reason}
 use Rattle.ipc_stream_read.proofs.Decoders.{still}
 use Rattle.ipc_stream_read.proofs.Feeding.{reaches_then, tells_then}
 
@@ -59,7 +60,7 @@ not_outside e g h t p = let q : true ≡ false = sym t ∙ (ap is_outside (sym p
 
 -- why the bytes z that were kept and those that came are refused
 breaks : (limits : Limits) (σ : State) (x : List ℕ) (left : Option (List ℕ)) (e : Fault) → IsUndecidedPrefix limits x
-    → UnlessOutside e ((d : Decision) × Reason limits e d σ x) → EndsReading limits σ x left e
+    → UnlessOutside e ((d : DecisionPoint) × Reason limits e d σ x) → EndsReading limits σ x left e
 unfolding is_outside
 breaks limits σ x left e wanted reason = elim (is_outside e) as (λ b. is_outside e ≡ b → EndsReading limits σ x left e) [
   | true ↦ λ h. reasons.aside (outside_only e h) wanted
@@ -95,19 +96,19 @@ pulls_none source b f n d fits counts between = record {
 }
 
 module _ (old now new : Option (List ℕ)) (b0 b1 f0 f1 n0 n1 n2 : ℕ) (before decoder after : Decoding) (count : ℕ)
-    (r : Result (Option ReturnedEvent) Fault) (p : Pulling old now b0 b1 f0 f1 n0 n1 before decoder)
+    (r : Result (Option Event) Fault) (p : Pulling old now b0 b1 f0 f1 n0 n1 before decoder)
     (t : Draws now new decoder after count r)
     (counted : n2 ≡ count_up n1 count) where
   takes_now : Takes old new n0 n2 (p.x ++ t.came)
   takes_now = takes_then old now new n0 n1 n2 p.x t.came p.takes
       (record { bytes = t.bytes; counted = counted ∙ ap (count_up n1) (sym t.counted) })
 
-  gives_now : (s : Result (Option ReturnedEvent) Fault) → r ≡ s → Gives decoder (taking p.z) t.came after s
+  gives_now : (s : Result (Option Event) Fault) → r ≡ s → Gives decoder (taking p.z) t.came after s
   gives_now s is = subst (λ q. Gives decoder (taking p.z) t.came after q) is (subst (λ q. Gives decoder q t.came after r) p.kept t.gives)
 
   wanted_now : IsUndecidedPrefix before.limits (p.z ++ t.came)
   wanted_now =
-      let few = subst (λ q. IsFew decoder.limits q t.came) p.kept t.few in
+      let few = subst (λ q. IsFew decoder.limits (progress_at q) t.came) p.kept t.few in
       record {
         front = p.z;
         behind = t.came;
@@ -117,14 +118,14 @@ module _ (old now new : Option (List ℕ)) (b0 b1 f0 f1 n0 n1 n2 : ℕ) (before 
         few = few.2;
       }
 
-  told_now : (e : ReturnedEvent) → ReportsEvent decoder after (p.z ++ t.came) e → ReportsEvent before after (p.x ++ t.came) e
+  told_now : (e : Event) → ReportsEvent decoder after (p.z ++ t.came) e → ReportsEvent before after (p.x ++ t.came) e
   told_now e h = tells_then before decoder after p.x p.z t.came p.same_limits p.reaches e h
 
   counts_fit : decoder.messages ≤ 2 ^ 64 - 1
   counts_fit = omega (arith, p.reaches.counted)
 
   -- an event that is told of what came is the next one
-  pub pulled : (e : ReturnedEvent) → r ≡ Ok (Some e) → Pulls old new n0 n2 before after (Ok (Some e))
+  pub pulled : (e : Event) → r ≡ Ok (Some e) → Pulls old new n0 n2 before after (Ok (Some e))
   pulled e is =
       let g = gives_now (Ok (Some e)) is in
       record {
@@ -138,7 +139,7 @@ module _ (old now new : Option (List ℕ)) (b0 b1 f0 f1 n0 n1 n2 : ℕ) (before 
   pull_refused e is =
       let g = gives_now (Err e) is in
       let rest = p.z ++ t.came in
-      let reason = subst (λ l. UnlessOutside e ((d : Decision) × Reason l e d decoder.state rest)) p.same_limits g.3 in
+      let reason = subst (λ l. UnlessOutside e ((d : DecisionPoint) × Reason l e d decoder.state rest)) p.same_limits g.3 in
       record {
         x = p.x ++ t.came;
         takes = takes_now;
@@ -147,20 +148,20 @@ module _ (old now new : Option (List ℕ)) (b0 b1 f0 f1 n0 n1 n2 : ℕ) (before 
           reaches = reaches_then before decoder after p.x p.z t.came p.same_limits p.reaches rest []
               (still decoder after counts_fit rest g.1 g.2);
           ends = breaks before.limits after.state rest new e wanted_now
-              (subst (λ σ. UnlessOutside e ((d : Decision) × Reason before.limits e d σ rest)) (sym g.1) reason);
+              (subst (λ σ. UnlessOutside e ((d : DecisionPoint) × Reason before.limits e d σ rest)) (sym g.1) reason);
           memory = λ out. subst (λ l. IsSized l rest) p.same_limits (g.4 out);
           at = g.0;
         };
       }
 
   -- where nothing is decided, what came is kept
-  pub pulls_more : (b2 f2 : ℕ) → r ≡ Ok None → OnOk r (b2 + count ≤ b1) → FailsWhile decoder.stage f1 f2 r
+  pub pulls_more : (b2 f2 : ℕ) → r ≡ Ok None → OnOk r (b2 + count ≤ b1) → FailsWhile (progress_at decoder.stage) f1 f2 r
       → after.limits ≡ decoder.limits → Pulling old new b0 b2 f0 f2 n0 n2 before after
   pulls_more b2 f2 is less fails limits =
       let g = (gives_now (Ok None) is).1 in
       let rest = g.0 in
       let fewer = subst (λ q. OnOk q (b2 + count ≤ b1)) is less in
-      let works = subst (λ q. FailsWhile (taking p.z) f1 f2 q) is (subst (λ q. FailsWhile q f1 f2 r) p.kept fails) in
+      let works = subst (λ q. FailsWhile (frames.taking p.z) f1 f2 q) is (subst (λ q. FailsWhile (progress_at q) f1 f2 r) p.kept fails) in
       record {
         x = p.x ++ t.came;
         z = rest;
@@ -176,11 +177,11 @@ module _ (old now new : Option (List ℕ)) (b0 b1 f0 f1 n0 n1 n2 : ℕ) (before 
 -- ---- an event is some bytes
 
 -- where the stream told something, bytes came
-told_bytes : (before after : Decoding) (x : List ℕ) (event : Event) → ReportsOneEvent before after x event → 0 < length x
+told_bytes : (before after : Decoding) (x : List ℕ) (event : MessageEvent) → ReportsOneEvent before after x event → 0 < length x
 told_bytes before after x event h =
     omega (arith, h.last.report.frame.prefix, ap length h.last.joined, length-append h.last.silent h.last.message)
 
-told_some : (before after : Decoding) (x : List ℕ) (e : ReturnedEvent) → ReportsEvent before after x e → 0 < length x
+told_some : (before after : Decoding) (x : List ℕ) (e : Event) → ReportsEvent before after x e → 0 < length x
 told_some before after x report.Schema h = told_bytes before after x (schema h.0) h.1
 told_some before after x (report.Batch found pairs) h = told_bytes before after x (batch (batch_rows (found, pairs))) h.0
 told_some before after x report.End h =
@@ -188,9 +189,9 @@ told_some before after x report.End h =
 
 -- so the source has fewer left
 pub fewer_left : (old now new : Option (List ℕ)) (b0 b1 b2 f0 f1 n0 n1 n2 : ℕ) (before decoder after : Decoding) (count : ℕ)
-    (r : Result (Option ReturnedEvent) Fault) (p : Pulling old now b0 b1 f0 f1 n0 n1 before decoder)
+    (r : Result (Option Event) Fault) (p : Pulling old now b0 b1 f0 f1 n0 n1 before decoder)
     (t : Draws now new decoder after count r)
-    (counted : n2 ≡ count_up n1 count) (e : ReturnedEvent) → r ≡ Ok (Some e) → OnOk r (b2 + count ≤ b1) → b2 < b0
+    (counted : n2 ≡ count_up n1 count) (e : Event) → r ≡ Ok (Some e) → OnOk r (b2 + count ≤ b1) → b2 < b0
 unfolding pulled
 fewer_left old now new b0 b1 b2 f0 f1 n0 n1 n2 before decoder after count r p t counted e is less =
     let all = pulled old now new b0 b1 f0 f1 n0 n1 n2 before decoder after count r p t counted e is in
@@ -252,8 +253,8 @@ module _ (old now : Option (List ℕ)) (b0 b1 f0 f1 n0 n1 : ℕ) (before decoder
       }
 
 -- where no byte came, the source is at its end
-pub none_came : (now new : Option (List ℕ)) (decoder after : Decoding) (count : ℕ) (r : Result (Option ReturnedEvent) Fault) (z : List ℕ)
+pub none_came : (now new : Option (List ℕ)) (decoder after : Decoding) (count : ℕ) (r : Result (Option Event) Fault) (z : List ℕ)
     → Draws now new decoder after count r → decoder.stage ≡ taking z → r ≡ Ok None → count ≡ 0 → IsAtEnd new
 none_came now new decoder after count r z t kept is none =
-    subst (λ q. EndsAt (taking z) t.came new q) is (subst (λ s. EndsAt s t.came new r) kept t.at_end)
+    subst (λ q. EndsAt (frames.taking z) t.came new q) is (subst (λ s. EndsAt (progress_at s) t.came new r) kept t.at_end)
     (nil_from_length t.came (t.counted ∙ none))

@@ -5,17 +5,18 @@ use Rattle.ipc_model.specs.declared.fault.Fault.{Fault}
 use Rattle.ipc_model.specs.declared.limits.Limits.{Limits}
 use Rattle.ipc_stream_read.specs.declared.end.End.{End}
 use Rattle.ipc_stream_read.specs.declared.end.End.TheVariants.{Closed, Mark}
-use Rattle.ipc_stream_read.specs.declared.event.Event.{Event as ReturnedEvent}
+use Rattle.ipc_stream_read.specs.declared.event.Event.{Event}
 use Rattle.ipc_stream_read.specs.declared.event.Event.TheVariants as report
 use Rattle.ipc_stream_read.specs.Counts.{count_up, messages_in}
-use Rattle.ipc_stream_read.specs.Decoding.{Decoding, Stage, ReportsLastEvent, ReportsOneEvent, Wants, taking, over, refused}
+use Rattle.ipc_frame.specs.Pieces.{Wants}
+use Rattle.ipc_stream_read.specs.Decoding.{Decoding, Stage, ReportsLastEvent, ReportsOneEvent, taking, over, refused, progress_at}
 use Rattle.ipc_stream_read.specs.Found.{ReadRows, batch_rows}
-use Rattle.ipc_stream_read.specs.Reader.{EndsBehind, LeadsTo, NextAnswer, NextCall, OpenFails, Opens, Reader, WorksWhile}
-use Rattle.ipc_stream_read.specs.Reader.{KeepsNone, Reading, dictionaries_in, in_force_of, phase_of, schema_in}
+use Rattle.ipc_stream_read.specs.Reader.{EndsAfter, LeadsTo, NextAnswer, NextCall, OpenFails, Opens, Reader, WorksWhile}
+use Rattle.ipc_stream_read.specs.Reader.{KeepsNone, Reading, dictionaries_in_force, in_force_of, phase_of, schema_in}
 use Rattle.ipc_stream_read.specs.Failures.{FailsAs}
 use Rattle.ipc_stream_read.specs.ReadBatches.{IsReadFrom}
 use Rattle.ipc_stream_read.specs.Reasons.{Ends, NeedsMemory, Reads}
-use Rattle.ipc_stream_read.specs.Stream.{State, Event, schema, batch, Run}
+use Rattle.ipc_stream_read.specs.Stream.{State, MessageEvent, schema, batch, Run}
 use Rattle.ipc_stream_read.specs.Taken.{Pulls, StopsAt, Takes, TakesSchema}
 use Rattle.ipc_stream_read.proofs.Nexts.{mark_stops, no_second, run_keeps}
 use Rattle.ipc_stream_read.proofs.Reasons.{run_open}
@@ -29,19 +30,19 @@ reader_of remaining failures bound d taken = record {
   bound = bound;
   limits = d.limits;
   schema = schema_in d.state;
-  dictionaries = dictionaries_in d.state;
+  dictionaries = dictionaries_in_force d.state;
   phase = phase_of d.stage;
   messages = d.messages;
   taken = taken;
 }
 
 -- what is in force where something is
-some_is : (σ : State) → σ ≢ None → σ ≡ Some (record { schema = schema_in σ; dictionaries = dictionaries_in σ })
+some_is : (σ : State) → σ ≢ None → σ ≡ Some (record { schema = schema_in σ; dictionaries = dictionaries_in_force σ })
 some_is None some = absurd (some refl)
 some_is (Some o) some = refl
 
 -- what `next` answers of what was pulled
-abbrev pub found_of : Result (Option ReturnedEvent) Fault → Result (Option ReadRows) Fault
+abbrev pub found_of : Result (Option Event) Fault → Result (Option ReadRows) Fault
 found_of (Ok (Some (report.Batch found pairs))) = Ok (Some (found, pairs))
 found_of (Ok found) = Ok None
 found_of (Err fault) = Err fault
@@ -50,7 +51,7 @@ found_of (Err fault) = Err fault
 abbrev CountedRun : Limits → State → List ℕ → State → ℕ → Type 0
 CountedRun limits σ x τ n = (r : Run limits σ x [] τ) × (messages_in r ≡ n)
 
-abbrev CountedLast : Limits → State → List ℕ → Event → State → ℕ → Type 0
+abbrev CountedLast : Limits → State → List ℕ → MessageEvent → State → ℕ → Type 0
 CountedLast limits σ x e τ n = (t : ReportsLastEvent limits σ x e τ) × (messages_in t.run ≡ n)
 
 module _ (old new : Option (List ℕ)) (f0 f1 b0 b1 n0 n1 : ℕ) (before after : Decoding) (some : before.state ≢ None)
@@ -64,7 +65,7 @@ module _ (old new : Option (List ℕ)) (f0 f1 b0 b1 n0 n1 : ℕ) (before after :
   abbrev Call : Result (Option ReadRows) Fault → Type 0
   Call r = NextCall reader now r
 
-  leads : (x : List ℕ) (e : Event) → ReportsOneEvent before after x e → LeadsTo reader now x e
+  leads : (x : List ℕ) (e : MessageEvent) → ReportsOneEvent before after x e → LeadsTo reader now x e
   leads x e t =
       let open_after = run_open (told_run before.state after.state x e t.last) some in
       let from = subst (λ σ. CountedLast before.limits σ x e after.state (messages_in t.last.run)) (some_is before.state some)
@@ -74,7 +75,7 @@ module _ (old new : Option (List ℕ)) (f0 f1 b0 b1 n0 n1 : ℕ) (before after :
       record { last = all.0; messages = omega (arith, t.counted, all.1) }
 
   behind : (x : List ℕ) (stage : Stage) (answer : Result End Fault) → StopsAt before after x new stage answer
-      → EndsBehind reader now x answer
+      → EndsAfter reader now x answer
   behind x stage answer h =
       let run = h.reaches.reached.run in
       let open_after = run_open run some in
@@ -110,7 +111,7 @@ module _ (old new : Option (List ℕ)) (f0 f1 b0 b1 n0 n1 : ℕ) (before after :
   }
 
   -- what is pulled is what the reader answers
-  pub next_answers : (r : Result (Option ReturnedEvent) Fault) → Pulls old new n0 n1 before after r → Call (found_of r)
+  pub next_answers : (r : Result (Option Event) Fault) → Pulls old new n0 n1 before after r → Call (found_of r)
   next_answers (Ok (Some report.Schema)) t = absurd (no_second before after t.x some t.gives)
   next_answers (Ok (Some (report.Batch found pairs))) t =
       let b = batch (batch_rows (found, pairs)) in
@@ -139,7 +140,7 @@ module _ (old new : Option (List ℕ)) (f0 f1 b0 b1 n0 n1 : ℕ) (before after :
 -- the same of a reader that is so
 pub seen_answers : (old new : Option (List ℕ)) (f0 f1 b0 b1 n0 n1 : ℕ) (before after : Decoding) (some : before.state ≢ None)
     (reading : phase_of before.stage ≡ Reading) (same_limits : after.limits ≡ before.limits) (o : Reader)
-    → reader_of old f0 b0 before n0 ≡ o → (q r : Result (Option ReturnedEvent) Fault) → q ≡ r
+    → reader_of old f0 b0 before n0 ≡ o → (q r : Result (Option Event) Fault) → q ≡ r
     → Pulls old new n0 n1 before after q → NextCall o (reader_of new f1 b1 after n1) (found_of r)
 seen_answers old new f0 f1 b0 b1 n0 n1 before after some reading same_limits o seen q r is t =
     subst (λ p. NextCall p (reader_of new f1 b1 after n1) (found_of r)) seen
@@ -165,7 +166,7 @@ module _ (old new : Option (List ℕ)) (f0 f1 n0 n1 : ℕ) (before after : Decod
   }
 
   -- it does so behind what was pulled
-  pub ready : (r : Result (Option ReturnedEvent) Fault) → Pulls old new n0 n1 before after r → FailsAs f0 f1 r → Ready f1 n1 after
+  pub ready : (r : Result (Option Event) Fault) → Pulls old new n0 n1 before after r → FailsAs f0 f1 r → Ready f1 n1 after
   ready (Ok (Some report.Schema)) t fails = absurd (no_second before after t.x some t.gives)
   ready (Ok (Some (report.Batch found pairs))) t fails = record {
     is_open = run_open (told_run before.state after.state t.x (batch (batch_rows (found, pairs))) t.gives.0.last) some;
@@ -180,7 +181,7 @@ module _ (old new : Option (List ℕ)) (f0 f1 n0 n1 : ℕ) (before after : Decod
   ready (Err e) t fails = stopped t.x refused (Err e) t.gives (λ is. absurd (cc)) (omega (arith, t.takes.counted))
 
 -- where some are wanted, it reads
-pub wants_some : (limits : Limits) (s : Stage) (k : ℕ) → Wants limits s k → (k ≡ 0 → ⊥) → phase_of s ≡ Reading
+pub wants_some : (limits : Limits) (s : Stage) (k : ℕ) → Wants limits (progress_at s) k → (k ≡ 0 → ⊥) → phase_of s ≡ Reading
 wants_some limits (taking z) k w some = refl
 wants_some limits (over end) k w some = absurd (some w)
 wants_some limits refused k w some = absurd (some w)
@@ -198,10 +199,10 @@ opens old new f b n0 n1 before after limits none same t = record {
   x = t.x;
   bytes = t.takes.bytes;
   run = subst (λ l. Run l None t.x (schema (schema_in after.state) ∷ [])
-      (Some (record { schema = schema_in after.state; dictionaries = dictionaries_in after.state }))) same
+      (Some (record { schema = schema_in after.state; dictionaries = dictionaries_in_force after.state }))) same
       (subst (λ (d : Decoding). Run before.limits None t.x (schema (schema_in d.state) ∷ [])
-      (Some (record { schema = schema_in d.state; dictionaries = dictionaries_in d.state }))) (sym t.gives.2) t.gives.1);
-  no_dictionary = ap (λ d. dictionaries_in d.state) t.gives.2;
+      (Some (record { schema = schema_in d.state; dictionaries = dictionaries_in_force d.state }))) (sym t.gives.2) t.gives.1);
+  no_dictionary = ap (λ d. dictionaries_in_force d.state) t.gives.2;
   same_limits = ap (λ d. d.limits) t.gives.2 ∙ same;
   fresh = ap (λ d. phase_of d.stage) t.gives.2;
   one_message = ap (λ d. d.messages) t.gives.2;

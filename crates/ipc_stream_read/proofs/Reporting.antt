@@ -1,6 +1,7 @@
 -- Batches that are read one after another, and the reports of them.
 use Rattle.std.proofs.Common.{◌≡◌, ◌∙◌, refl, sym, ap, subst, ℕ, ◌+◌, inl, inr, List, [], ◌∷◌, ◌++◌, length, Option}
 use Rattle.std.proofs.Common.{Some, None, Result, Ok, Err, append_assoc, append-nil, arith, length-append}
+use Rattle.std.specs.Prelude.{IsSome}
 use Rattle.std.specs.Io.KnownBytes.{Consumes}
 use Rattle.std.proofs.KnownBytes.{Consumes-trans}
 use Rattle.ipc_device.specs.Reports.{AreAppended, Report}
@@ -12,12 +13,26 @@ use Rattle.ipc_stream_read.specs.declared.end.End.TheVariants.{Closed}
 use Rattle.ipc_stream_read.specs.Counts.{count_up}
 use Rattle.ipc_stream_read.specs.Decoding.{ReportsLastEvent}
 use Rattle.ipc_stream_read.specs.Found.{ReadRows, batch_rows}
-use Rattle.ipc_stream_read.specs.Reader.{EndsBehind, NextCall, OpenFails, Opens, Reader, Reading, in_force_of}
+use Rattle.ipc_stream_read.specs.Reader.{EndsAfter, NextAnswer, NextCall, OpenFails, Opens, Reader, StreamPhase, in_force_of}
+use Rattle.ipc_stream_read.specs.Reader.{Reading, Ended, Refused, end_of}
 use Rattle.ipc_stream_read.specs.Reasons.{Reads}
 use Rattle.ipc_stream_read.specs.Stream.{batch}
 use Rattle.ipc_stream_read.specs.Progress.{AreReports, opened, more, unopened, ReportsAll}
 use Rattle.ipc_stream_read.specs.Progress.{ReportsBefore, ReportsSome, ReportsTo, all_rows, report_of}
 use Rattle.ipc_stream_read.proofs.Calls.{read_gives}
+
+ended_by : (old new : Reader) (p q : StreamPhase) (x : List ℕ) → NextAnswer old new p x (Ok None) q → IsSome (end_of q)
+ended_by old new p (Ended e) x h = refl
+ended_by old new Reading Reading x h = absurd h
+ended_by old new Reading Refused x h = absurd h
+ended_by old new (Ended e) Reading x h = absurd h
+ended_by old new (Ended e) Refused x h = absurd h
+ended_by old new Refused Reading x h = absurd h
+ended_by old new Refused Refused x h = absurd h
+
+-- a reader that has no more batches has an end
+pub next_ended : (old new : Reader) (found : Option End) → NextCall old new (Ok None) → found ≡ end_of new.phase → IsSome found
+next_ended old new found t is = subst IsSome (sym is) (ended_by old new old.phase new.phase t.x t.gives)
 
 -- batches of a source were read and reported: so many, with so many rows
 pub record Progressed (limits : Limits) (before : Option (List ℕ)) (batches rows : ℕ) (now : Reader)
@@ -134,7 +149,7 @@ module _ {limits : Limits} (before : Option (List ℕ)) (batches rows : ℕ) (no
     )
 
     -- reading ended after them
-    ended_all : (x : List ℕ) (answer : Result End Fault) → Consumes now.remaining new.remaining x → EndsBehind now new x answer
+    ended_all : (x : List ℕ) (answer : Result End Fault) → Consumes now.remaining new.remaining x → EndsAfter now new x answer
         → ReportsTo limits before new.remaining a b answer
     ended_all x answer bytes h = (
       record {

@@ -4,38 +4,38 @@ use Rattle.std.proofs.Common.{arith, length-append}
 use Rattle.std.proofs.lemmas.List.{append-nil}
 use Rattle.ipc_model.specs.declared.fault.Fault.{Fault}
 use Rattle.ipc_meta.specs.declared.head.Head.{Head}
-use Rattle.ipc_frame.specs.Frames.{Frame}
+use Rattle.ipc_frame.specs.Frames.{Encapsulates}
 use Rattle.ipc_stream_read.specs.declared.end.End.{End}
 use Rattle.ipc_stream_read.specs.Counts.{messages_in}
 use Rattle.ipc_stream_read.specs.Decoding.{ReportsLastEvent}
 use Rattle.ipc_stream_read.specs.Reasons.{Breaks, Reads}
 use Rattle.ipc_stream_read.specs.Verdicts.{Reached}
-use Rattle.ipc_stream_read.specs.Stream.{State, Event, Step, Run, done, more}
+use Rattle.ipc_stream_read.specs.Stream.{State, MessageEvent, Step, Run, done, more}
 use Rattle.ipc_model.specs.declared.limits.Limits.{Limits}
 
 -- a run of so many messages
-abbrev Counted : Limits → State → List ℕ → List Event → State → ℕ → Type 0
+abbrev Counted : Limits → State → List ℕ → List MessageEvent → State → ℕ → Type 0
 Counted limits σ x es τ n = (r : Run limits σ x es τ) × (messages_in r ≡ n)
 
-one_counted : {limits : Limits} → {σ τ : State} {x metadata body : List ℕ} {h : Head} {es : List Event} → Frame limits x metadata h body
-    → Step limits σ h body es τ → Counted limits σ x es τ 1
+one_counted : {limits : Limits} → {σ τ : State} {x metadata body : List ℕ} {h : Head} {es : List MessageEvent}
+    → Encapsulates limits x metadata h body → Step limits σ h body es τ → Counted limits σ x es τ 1
 one_counted {limits} {σ} {τ} {x} {metadata} {body} {h} {es} frame step =
     subst (λ y. Counted limits σ y es τ 1) (append-nil x) (subst (λ fs. Counted limits σ (x ++ []) fs τ 1) (append-nil es)
     (more frame step done, refl))
 
 -- one message
-pub run_one : {limits : Limits} → {σ τ : State} {x metadata body : List ℕ} {h : Head} {es : List Event} → Frame limits x metadata h body
-    → Step limits σ h body es τ
+pub run_one : {limits : Limits} → {σ τ : State} {x metadata body : List ℕ} {h : Head} {es : List MessageEvent}
+    → Encapsulates limits x metadata h body → Step limits σ h body es τ
     → Run limits σ x es τ
 run_one frame step = (one_counted frame step).0
 
 -- is one
-pub messages_one : {limits : Limits} → {σ τ : State} {x metadata body : List ℕ} {h : Head} {es : List Event}
-    (frame : Frame limits x metadata h body) (step : Step limits σ h body es τ) → messages_in (run_one frame step) ≡ 1
+pub messages_one : {limits : Limits} → {σ τ : State} {x metadata body : List ℕ} {h : Head} {es : List MessageEvent}
+    (frame : Encapsulates limits x metadata h body) (step : Step limits σ h body es τ) → messages_in (run_one frame step) ≡ 1
 unfolding run_one
 messages_one frame step = (one_counted frame step).1
 
-then_counted : {limits : Limits} → (σ τ υ : State) (x y : List ℕ) (es fs : List Event) (m : ℕ) (r : Run limits σ x es τ)
+then_counted : {limits : Limits} → (σ τ υ : State) (x y : List ℕ) (es fs : List MessageEvent) (m : ℕ) (r : Run limits σ x es τ)
     → Counted limits τ y fs υ m → Counted limits σ (x ++ y) (es ++ fs) υ (messages_in r + m)
 then_counted {limits} σ τ υ x y es fs m done q = (q.0, omega (arith, q.1))
 then_counted {limits} σ τ υ x y es fs m
@@ -47,35 +47,36 @@ then_counted {limits} σ τ υ x y es fs m
     (more frame step tail.0, here))
 
 -- messages and then others
-pub run_then : {limits : Limits} → (σ τ υ : State) (x y : List ℕ) (es fs : List Event) → Run limits σ x es τ → Run limits τ y fs υ
+pub run_then : {limits : Limits} → (σ τ υ : State) (x y : List ℕ) (es fs : List MessageEvent) → Run limits σ x es τ → Run limits τ y fs υ
     → Run limits σ (x ++ y) (es ++ fs) υ
 run_then σ τ υ x y es fs r q = (then_counted σ τ υ x y es fs (messages_in q) r (q, refl)).0
 
 -- are as many as both
-pub messages_then : {limits : Limits} → (σ τ υ : State) (x y : List ℕ) (es fs : List Event) (r : Run limits σ x es τ)
+pub messages_then : {limits : Limits} → (σ τ υ : State) (x y : List ℕ) (es fs : List MessageEvent) (r : Run limits σ x es τ)
     (q : Run limits τ y fs υ) → messages_in (run_then σ τ υ x y es fs r q) ≡ messages_in r + messages_in q
 unfolding run_then
 messages_then σ τ υ x y es fs r q = (then_counted σ τ υ x y es fs (messages_in q) r (q, refl)).1
 
 -- no bytes are no message
-pub messages_none : {limits : Limits} → {σ τ : State} {x : List ℕ} {es : List Event} (r : Run limits σ x es τ) → x ≡ []
+pub messages_none : {limits : Limits} → {σ τ : State} {x : List ℕ} {es : List MessageEvent} (r : Run limits σ x es τ) → x ≡ []
     → messages_in r ≡ 0
 messages_none done is = refl
 messages_none (more {x = x} {y = y} frame step rest) is = absurd (omega (arith, frame.prefix, length-append x y, ap length is))
 
 -- messages that tell nothing, and behind them one that tells an event
-pub told_run : {limits : Limits} → (σ τ : State) (x : List ℕ) (e : Event) → ReportsLastEvent limits σ x e τ → Run limits σ x (e ∷ []) τ
+pub told_run : {limits : Limits} → (σ τ : State) (x : List ℕ) (e : MessageEvent) → ReportsLastEvent limits σ x e τ
+    → Run limits σ x (e ∷ []) τ
 told_run {limits} σ τ x e t =
     subst (λ y. Run limits σ y (e ∷ []) τ) (sym t.joined)
     (run_then σ t.between τ t.silent t.message [] (e ∷ []) t.run (run_one t.report.frame t.report.step))
 
-pub told_reached : {limits : Limits} → (σ τ : State) (x : List ℕ) (e : Event) → ReportsLastEvent limits σ x e τ
+pub told_reached : {limits : Limits} → (σ τ : State) (x : List ℕ) (e : MessageEvent) → ReportsLastEvent limits σ x e τ
     → Reached limits σ x (e ∷ []) τ []
 told_reached σ τ x e t = record { whole = x; joined = sym (append-nil x); run = told_run σ τ x e t }
 
 -- more messages that tell nothing before them
-pub last_after : {limits : Limits} → (σ τ υ : State) (x y : List ℕ) (e : Event) → Run limits σ x [] τ → ReportsLastEvent limits τ y e υ
-    → ReportsLastEvent limits σ (x ++ y) e υ
+pub last_after : {limits : Limits} → (σ τ υ : State) (x y : List ℕ) (e : MessageEvent) → Run limits σ x [] τ
+    → ReportsLastEvent limits τ y e υ → ReportsLastEvent limits σ (x ++ y) e υ
 last_after σ τ υ x y e r t = record {
   silent = x ++ t.silent;
   message = t.message;
@@ -85,13 +86,14 @@ last_after σ τ υ x y e r t = record {
   report = t.report;
 }
 
-pub messages_after : {limits : Limits} → (σ τ υ : State) (x y : List ℕ) (e : Event) (r : Run limits σ x [] τ)
+pub messages_after : {limits : Limits} → (σ τ υ : State) (x y : List ℕ) (e : MessageEvent) (r : Run limits σ x [] τ)
     (t : ReportsLastEvent limits τ y e υ) → messages_in (last_after σ τ υ x y e r t).run ≡ messages_in r + messages_in t.run
 unfolding last_after
 messages_after σ τ υ x y e r t = messages_then σ τ t.between x t.silent [] [] r t.run
 
 -- reading goes on behind a run
-pub reads_after : {limits : Limits} → (σ τ : State) (x y : List ℕ) (left : Option (List ℕ)) (es fs : List Event) (r : Result End Fault)
+pub reads_after : {limits : Limits} → (σ τ : State) (x y : List ℕ) (left : Option (List ℕ)) (es fs : List MessageEvent)
+    (r : Result End Fault)
     → Run limits σ x es τ
     → Reads limits τ y left fs r → Reads limits σ (x ++ y) left (es ++ fs) r
 reads_after σ τ x y left es fs r run reads = record {
@@ -104,7 +106,7 @@ reads_after σ τ x y left es fs r run reads = record {
 }
 
 -- and breaks off there
-pub breaks_after : {limits : Limits} → (σ τ : State) (x y : List ℕ) (left : Option (List ℕ)) (es fs : List Event) (e : Fault)
+pub breaks_after : {limits : Limits} → (σ τ : State) (x y : List ℕ) (left : Option (List ℕ)) (es fs : List MessageEvent) (e : Fault)
     → Run limits σ x es τ
     → Breaks limits τ y left fs e → Breaks limits σ (x ++ y) left (es ++ fs) e
 unfolding reads_after

@@ -7,7 +7,7 @@ use Rattle.ipc_model.specs.declared.limits.Limits.{Limits}
 use Rattle.ipc_model.specs.declared.schema.Schema.{Schema}
 use Rattle.ipc_meta.specs.declared.head.BatchHead.{BatchHead}
 use Rattle.ipc_meta.specs.declared.head.Head.TheVariants as h
-use Rattle.ipc_frame.specs.declared.frame.Frame.{Frame as Framed}
+use Rattle.ipc_frame.specs.declared.frame.Frame.{Frame}
 use Rattle.ipc_frame.specs.declared.frame.Frame.TheVariants as f
 use Rattle.ipc_model.specs.declared.schema.Field.{Field}
 use Rattle.ipc_column.specs.Contents.{Contents, layouts}
@@ -15,7 +15,7 @@ use Rattle.ipc_column.specs.Dictionaries.{Dictionaries}
 use Rattle.ipc_column.specs.DictionaryBatches.{dictionary_values}
 use Rattle.ipc_column.specs.Nested.{found_columns, with_children}
 use Rattle.ipc_column.specs.Shapes.{field_columns, field_layout}
-use Rattle.ipc_column.specs.checks.Rules.{slots_in, visits_in}
+use Rattle.ipc_column.specs.checks.Rules.{total_slots, visits_in}
 use Rattle.ipc_dict_read.specs.DictionariesState.{DictionariesState}
 use Rattle.ipc_dict_read.specs.InForce.{put}
 use Rattle.ipc_stream_read.specs.declared.event.Event.TheVariants as report
@@ -23,18 +23,18 @@ use Rattle.ipc_stream_read.specs.declared.scope.Scope.{Scope}
 use Rattle.ipc_stream_read.specs.ReadBatches.{IsCheckedBatch}
 use Rattle.ipc_stream_read.specs.StreamStates.{Brings, BringsScope, GivesValues, SetsValues}
 use Rattle.ipc_stream_read.specs.Scopes.{dictionaries_of, in_scope}
-use Rattle.ipc_stream_read.specs.Stream.{DictionaryInForce, InForce, Step, first, sets, schema}
+use Rattle.ipc_stream_read.specs.Stream.{DictionaryInForce, InForce, Step, schema_message, dictionary_batch, schema}
 use Rattle.ipc_stream_read.proofs.Dictionaries.{kept_put}
 
 -- a frame that brings a scope tells its schema
-pub first_brings : (limits : Limits) (frame : Framed) (scope : Scope) → BringsScope frame (Ok scope)
+pub first_brings : (limits : Limits) (frame : Frame) (scope : Scope) → BringsScope frame (Ok scope)
     → Brings limits None frame (Some (in_scope scope)) (Ok (Some report.Schema))
 first_brings limits f.End scope b = absurd b
 first_brings limits (f.Message meta head body) scope b =
     let s = scope.schema in (
       s,
       subst (λ g. Step limits None g body.items (schema s ∷ []) (Some (in_scope scope))) (sym b.0)
-          (subst (λ o. Step limits None (h.Schema s) body.items (schema s ∷ []) (Some o)) (sym b.1) first),
+          (subst (λ o. Step limits None (h.Schema s) body.items (schema s ∷ []) (Some o)) (sym b.1) schema_message),
     )
 
 -- what is in force with these batches
@@ -52,7 +52,7 @@ sets_values limits s a b id head body values (Ok x) gives after err memory =
     ap (λ (x : DictionariesState). dictionaries_of x.current) after ∙ (kept_put a.current id values
     ∙ ap (λ n. put m id (record { values = dictionary_values values; bytes = n })) gives.3) in
     subst (λ (d : List (ℤ × DictionaryInForce)). Step limits (Some (with_batches s a)) (h.Dictionary id head) body []
-    (Some (record { schema = s; dictionaries = d }))) (sym now) (sets gives.1 gives.2)
+    (Some (record { schema = s; dictionaries = d }))) (sym now) (dictionary_batch gives.1 gives.2)
 sets_values limits s a b id head body values (Err e) gives after err memory =
     (ap (with_batches s) err, λ other. absurd (other memory))
 
@@ -62,7 +62,7 @@ pub answers_checked : (r : Result Contents Fault) (m n : Dictionaries) (gs field
     → IfOk r (λ batch. layouts batch ≡ map field_layout gs)
     → IfOk r (λ batch. map with_children batch.slots ≡ found_columns (field_columns m gs head body))
     → IfOk r (λ batch. batch.body ≡ body) → IfOk r (λ batch. batch.body_len ≡ length body)
-    → IfOk r (λ batch. batch.tests ≤ visits_in (field_columns m gs head body)) → IfOk r (λ batch. batch.tests ≤ slots_in head.nodes)
+    → IfOk r (λ batch. batch.tests ≤ visits_in (field_columns m gs head body)) → IfOk r (λ batch. batch.tests ≤ total_slots head.nodes)
     → IfOk r (IsCheckedBatch n fields head body)
 answers_checked (Ok batch) m n gs fields head body same is lie buffers bytes len visits tests =
     subst (λ k. IsCheckedBatch k fields head body batch) same (subst (λ fs. IsCheckedBatch m fs head body batch) is (record {

@@ -15,7 +15,7 @@ use Rattle.ipc_stream_read.specs.declared.end.End.{End}
 use Rattle.ipc_stream_read.specs.declared.event.Event.TheVariants as report
 use Rattle.ipc_stream_read.specs.Decoding.{Decoding, ReportsLastEvent, Stage, schema_of, taking, over, refused}
 use Rattle.ipc_stream_read.specs.Found.{batch_rows}
-use Rattle.ipc_stream_read.specs.Stream.{State, Event, schema, batch, Run, done, initial_state}
+use Rattle.ipc_stream_read.specs.Stream.{State, MessageEvent, schema, batch, Run, done, initial_state}
 use Rattle.ipc_stream_read.specs.Reasons as reasons
 use Rattle.ipc_stream_read.specs.Reasons.{Breaks, Reads}
 use Rattle.ipc_stream_read.specs.Taken.{Pulls, RunsOut, StopsAt, Takes, TakesBatches, TakesSchema, TakesTable}
@@ -25,7 +25,7 @@ use Rattle.ipc_stream_read.proofs.Reasons.{run_open}
 use Rattle.ipc_stream_read.proofs.Runs.{breaks_after, run_then, reads_after, told_run}
 
 -- memory ran out for the event of the last message
-no_memory : {limits : Limits} → (σ τ : State) (x : List ℕ) (left : Option (List ℕ)) (e : Event) → ReportsLastEvent limits σ x e τ
+no_memory : {limits : Limits} → (σ τ : State) (x : List ℕ) (left : Option (List ℕ)) (e : MessageEvent) → ReportsLastEvent limits σ x e τ
     → Breaks limits σ x left [] OutOfMemory
 no_memory σ τ x left e t =
     let m = t.report in (
@@ -167,7 +167,7 @@ module _ (old now new : Option (List ℕ)) (n0 n1 : ℕ) (before opened : Decodi
   schema_is σ u found stays =
       let both : Some u ≡ Some t.gives.0 = sym found ∙ (stays ∙ ap (λ d. schema_of d.state) t.gives.2) in cc
 
-  reads_all : (x : List ℕ) (es : List Event) (end : Result End Fault) → Reads opened.limits opened.state x new es end
+  reads_all : (x : List ℕ) (es : List MessageEvent) (end : Result End Fault) → Reads opened.limits opened.state x new es end
       → Reads limits None (t.x ++ x) new (schema s ∷ es) end
   reads_all x es end reads =
       subst (λ l. Reads l None (t.x ++ x) new (schema s ∷ es) end) same
@@ -182,7 +182,7 @@ module _ (old now new : Option (List ℕ)) (n0 n1 : ℕ) (before opened : Decodi
     gives = (schema s ∷ b.gives.0, reads_all b.x b.gives.0 (Err e) b.gives.1.0);
   }
 
-  breaks_all : (x : List ℕ) (es : List Event) (e : Fault) → Breaks opened.limits opened.state x new es e
+  breaks_all : (x : List ℕ) (es : List MessageEvent) (e : Fault) → Breaks opened.limits opened.state x new es e
       → Breaks limits None (t.x ++ x) new (schema s ∷ es) e
   breaks_all x es e breaks =
       subst (λ l. Breaks l None (t.x ++ x) new (schema s ∷ es) e) same

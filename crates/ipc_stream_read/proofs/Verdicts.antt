@@ -8,15 +8,15 @@ use Rattle.ipc_meta.specs.declared.head.Head.{Head}
 use Rattle.ipc_meta.specs.declared.head.Head.TheVariants as h
 use Rattle.ipc_meta.specs.Heads.{HeadOf}
 use Rattle.ipc_meta.proofs.Empty.{no_metadata}
-use Rattle.ipc_frame.specs.Frames.{end_of_stream, Frame, Pending}
+use Rattle.ipc_frame.specs.Frames.{end_of_stream, Encapsulates, Pending}
 use Rattle.ipc_frame.specs.Sees.{RefusesStart, StatesNoHead}
 use Rattle.ipc_frame.proofs.Undecided.{pending_one, pending_refused, pending_message, pending_frame}
 use Rattle.ipc_frame.proofs.OneFrame.{no_frame_at_end}
 use Rattle.ipc_frame.proofs.Decided.{start_not_end, no_head_not_end, pending_not_end, pending_not_frame, no_head_not_frame}
-use Rattle.ipc_stream_read.specs.Stream.{State, Event, Step, Run, done, more as then}
+use Rattle.ipc_stream_read.specs.Stream.{State, MessageEvent, Step, Run, done, more as then}
 use Rattle.ipc_stream_read.specs.Reasons.{Refuses, early, no_schema, second_schema, dictionary, no_values, no_rows}
-use Rattle.ipc_stream_read.specs.Verdicts.{Decision, at_mark, at_size, at_metadata, at_body, FallsAt}
-use Rattle.ipc_stream_read.specs.Verdicts.{Out, Decides, Reached, Verdict, SameVerdict, OneVerdict, AnyCut}
+use Rattle.ipc_stream_read.specs.Verdicts.{DecisionPoint, at_mark, at_size, at_metadata, at_body, FallsAt}
+use Rattle.ipc_stream_read.specs.Verdicts.{Out, IsOutcome, Reached, Verdict, SameVerdict, OneVerdict, AnyCut}
 use Rattle.ipc_stream_read.specs.Verdicts as out
 use Rattle.ipc_stream_read.proofs.OneReading.{overlap}
 use Rattle.ipc_stream_read.proofs.Reasons.{message_refused}
@@ -36,7 +36,7 @@ pending_refuses σ z k e p (no_rows o b pairs m body is frame r) = pending_messa
 
 -- ---- what ends is neither
 
-eos_frame : {limits : Limits} → (z m body : List ℕ) (g : Head) → z ≡ end_of_stream → Frame limits z m g body → ⊥
+eos_frame : {limits : Limits} → (z m body : List ℕ) (g : Head) → z ≡ end_of_stream → Encapsulates limits z m g body → ⊥
 eos_frame z m body g is frame = no_frame_at_end z m body [] [] g frame (append-nil z ∙ is)
 
 ended_refused : {limits : Limits} → (σ : State) (z : List ℕ) (e : Fault) → z ≡ end_of_stream → σ ≢ None → Refuses limits σ z e → ⊥
@@ -50,18 +50,18 @@ ended_refused σ z e is some (no_rows o b pairs m body i frame r) = eos_frame z 
 
 -- ---- a message ends at one decision
 
-whole_some : {limits : Limits} → (z m body : List ℕ) (g : Head) → Frame limits z m g body → length z ≡ 8 → ⊥
+whole_some : {limits : Limits} → (z m body : List ℕ) (g : Head) → Encapsulates limits z m g body → length z ≡ 8 → ⊥
 whole_some {limits} z m body g frame long =
     let parts : length (drop 8 z) ≡ length m + length body = ap length frame.carried ∙ length-append m body in
     let none : m ≡ [] = nil_from_length m (omega (arith, parts, length-drop 8 z, long)) in
     no_metadata g (length body) (subst (λ x. HeadOf limits x g (length body)) none frame.states)
 
-head_whole : {limits : Limits} → (z m body : List ℕ) (g : Head) (e : Fault) → StatesNoHead limits z e → Frame limits z m g body → ⊥
+head_whole : {limits : Limits} → (z m body : List ℕ) (g : Head) (e : Fault) → StatesNoHead limits z e → Encapsulates limits z m g body → ⊥
 head_whole {limits} z m body g e s frame =
     no_head_not_frame z m body [] g e frame (subst (λ x. StatesNoHead limits x e) (sym (append-nil z)) s)
 
 -- a message ends at one decision
-falls_one : (limits : Limits) (z : List ℕ) (c d : Decision) → FallsAt limits z c → FallsAt limits z d → c ≡ d
+falls_one : (limits : Limits) (z : List ℕ) (c d : DecisionPoint) → FallsAt limits z c → FallsAt limits z d → c ≡ d
 falls_one limits z at_mark at_mark a b = refl
 falls_one limits z at_mark at_size a b = absurd (omega (arith, a, b))
 falls_one limits z at_mark at_metadata a (e, s, b) = absurd (omega (arith, a, b))
@@ -81,7 +81,7 @@ falls_one limits z at_body at_body a b = refl
 
 -- ---- one decision
 
-decides_one : (limits : Limits) (σ : State) (z : List ℕ) (o p : Out) → Decides limits σ z o → Decides limits σ z p → o ≡ p
+decides_one : (limits : Limits) (σ : State) (z : List ℕ) (o p : Out) → IsOutcome limits σ z o → IsOutcome limits σ z p → o ≡ p
 decides_one limits σ z (out.more j) (out.more k) a b = ap out.more (pending_one z j k a b)
 decides_one limits σ z (out.more j) out.end a b = absurd (pending_not_end [] j (subst (λ x. Pending limits x j) b.0 a))
 decides_one limits σ z (out.more j) (out.refused d) a b = absurd (pending_refuses σ z j b.0 a b.2.0)
@@ -93,34 +93,34 @@ decides_one limits σ z (out.refused d) out.end a b = absurd (ended_refused σ z
 decides_one limits σ z (out.refused c) (out.refused d) a b = ap out.refused (falls_one _ z c d a.2.1 b.2.1)
 
 -- where a message takes a step nothing is decided otherwise
-decides_step : {limits : Limits} → (σ τ : State) (x m body u z : List ℕ) (g : Head) (es : List Event) (o : Out) → Frame limits x m g body
-    → Step limits σ g body es τ → x ++ u ≡ z → Decides limits σ z o → ⊥
+decides_step : {limits : Limits} → (σ τ : State) (x m body u z : List ℕ) (g : Head) (es : List MessageEvent) (o : Out)
+    → Encapsulates limits x m g body → Step limits σ g body es τ → x ++ u ≡ z → IsOutcome limits σ z o → ⊥
 decides_step {limits} σ τ x m body u z g es (out.more k) frame step joined d =
     pending_not_frame x m body u g k frame (subst (λ y. Pending limits y k) (sym joined) d)
 decides_step σ τ x m body u z g es out.end frame step joined d = no_frame_at_end x m body u [] g frame (joined ∙ d.0)
 decides_step σ τ x m body u z g es (out.refused n) frame step joined d =
     d.1 (message_refused σ τ x m body u z [] g es frame step (joined ∙ sym (append-nil z)) d.0 d.2.0)
 
-record SameReach (es fs : List Event) (o p : Out) (τ υ : State) (z w : List ℕ) : Type 0 where
+record SameReach (es fs : List MessageEvent) (o p : Out) (τ υ : State) (z w : List ℕ) : Type 0 where
   same_events : es ≡ fs
   same_out : o ≡ p
   same_state : τ ≡ υ
   same_rest : z ≡ w
 
 -- nothing is decided where a run goes on
-goes_on : {limits : Limits} → {σ τ : State} {x : List ℕ} {es : List Event} (z w : List ℕ) (o p : Out) → Run limits σ x es τ
-    → Decides limits σ z o → Decides limits τ w p → z ≡ x ++ w → SameReach [] es o p σ τ z w
+goes_on : {limits : Limits} → {σ τ : State} {x : List ℕ} {es : List MessageEvent} (z w : List ℕ) (o p : Out) → Run limits σ x es τ
+    → IsOutcome limits σ z o → IsOutcome limits τ w p → z ≡ x ++ w → SameReach [] es o p σ τ z w
 goes_on {limits} {σ = σ} z w o p done a b e = record {
   same_events = refl;
-  same_out = decides_one limits σ z o p a (subst (λ x. Decides limits σ x p) (sym e) b);
+  same_out = decides_one limits σ z o p a (subst (λ x. IsOutcome limits σ x p) (sym e) b);
   same_state = refl;
   same_rest = e;
 }
 goes_on z w o p (then {σ = σ} {τ = τ} {x = x} {metadata = m} {body = body} {y = y} {h = g} {es = es} frame step rest) a b e =
     absurd (decides_step σ τ x m body (y ++ w) z g es o frame step (sym (append_assoc x y w) ∙ sym e) a)
 
-reach_one : {limits : Limits} → {σ τ υ : State} {x y : List ℕ} {es fs : List Event} (z w : List ℕ) (o p : Out)
-    → Run limits σ x es τ → Run limits σ y fs υ → Decides limits τ z o → Decides limits υ w p → x ++ z ≡ y ++ w
+reach_one : {limits : Limits} → {σ τ υ : State} {x y : List ℕ} {es fs : List MessageEvent} (z w : List ℕ) (o p : Out)
+    → Run limits σ x es τ → Run limits σ y fs υ → IsOutcome limits τ z o → IsOutcome limits υ w p → x ++ z ≡ y ++ w
     → SameReach es fs o p τ υ z w
 reach_one {es = es} {fs = fs} z w o p r q a b e = elim (overlap z w r q e) [
   | inl g ↦ let same = goes_on z w o p g.run a b g.rest in record {
@@ -147,7 +147,7 @@ verdict_one limits σ x es fs o p u v =
     record { same_events = same.same_events; same_out = same.same_out; same_state = same.same_state; same_rest = same.same_rest }
 
 -- what was reached and what is reached from there is reached at once
-pub reached_then : {limits : Limits} → (σ τ υ : State) (x z w r : List ℕ) (es fs : List Event) → Reached limits σ x es τ z
+pub reached_then : {limits : Limits} → (σ τ υ : State) (x z w r : List ℕ) (es fs : List MessageEvent) → Reached limits σ x es τ z
     → Reached limits τ (z ++ w) fs υ r → Reached limits σ (x ++ w) (es ++ fs) υ r
 reached_then σ τ υ x z w r es fs a b = record {
   whole = a.whole ++ b.whole;
@@ -157,7 +157,7 @@ reached_then σ τ υ x z w r es fs a b = record {
 }
 
 -- which is as many messages as both are
-pub messages_reached : {limits : Limits} → (σ τ υ : State) (x z w r : List ℕ) (es fs : List Event) (a : Reached limits σ x es τ z)
+pub messages_reached : {limits : Limits} → (σ τ υ : State) (x z w r : List ℕ) (es fs : List MessageEvent) (a : Reached limits σ x es τ z)
     (b : Reached limits τ (z ++ w) fs υ r)
     → messages_in (reached_then σ τ υ x z w r es fs a b).run ≡ messages_in a.run + messages_in b.run
 unfolding reached_then

@@ -8,19 +8,20 @@ use Rattle.ipc_frame.proofs.Wider.{frame_wider}
 use Rattle.ipc_column.proofs.Wider.{rows_wider}
 use Rattle.ipc_stream_read.specs.declared.end.End.{End}
 use Rattle.ipc_stream_read.specs.declared.end.End.TheVariants.{Mark, Closed}
-use Rattle.ipc_stream_read.specs.Stream.{State, Event, Step, first, came, sets, Run, done, more, Denotes, values_in}
+use Rattle.ipc_stream_read.specs.Stream.{State, MessageEvent, Step, schema_message, record_batch, dictionary_batch, Run, done, more}
+use Rattle.ipc_stream_read.specs.Stream.{Denotes, values_in_force}
 
 -- a step under some limits is one under all that cover them
-step_wider : {limits others : Limits} {σ τ : State} {h : Head} {body : List ℕ} {es : List Event} → Covers others limits
+step_wider : {limits others : Limits} {σ τ : State} {h : Head} {body : List ℕ} {es : List MessageEvent} → Covers others limits
     → Step limits σ h body es τ → Step others σ h body es τ
-step_wider c first = first
-step_wider {limits} {others} c (came {o = o} {b = b} {body = body} {rows = rows} r) =
-    came (rows_wider limits others (values_in o.dictionaries) o.schema.fields b body rows c r)
-step_wider {limits} {others} c (sets {b = b} {body = body} {columns = columns} {rows = rows} found r) =
-    sets found (rows_wider limits others [] columns b body rows c r)
+step_wider c schema_message = schema_message
+step_wider {limits} {others} c (record_batch {o = o} {b = b} {body = body} {rows = rows} r) =
+    record_batch (rows_wider limits others (values_in_force o.dictionaries) o.schema.fields b body rows c r)
+step_wider {limits} {others} c (dictionary_batch {b = b} {body = body} {columns = columns} {rows = rows} found r) =
+    dictionary_batch found (rows_wider limits others [] columns b body rows c r)
 
 -- so is a list of messages
-pub run_wider : {limits others : Limits} {σ τ : State} {x : List ℕ} {es : List Event} → Covers others limits → Run limits σ x es τ
+pub run_wider : {limits others : Limits} {σ τ : State} {x : List ℕ} {es : List MessageEvent} → Covers others limits → Run limits σ x es τ
     → Run others σ x es τ
 run_wider c done = done
 run_wider {limits} {others} c (more {x = x} {metadata = metadata} {body = body} {h = h} frame step rest) =

@@ -2,7 +2,7 @@
 -- Format").
 use Rattle.std.specs.Prelude.{◌≡◌, ◌≢◌, ◌⊎◌, ℕ, suc, ◌≤◌, List, [], ◌∷◌, ◌++◌, length, take}
 use Rattle.std.specs.Prelude.{Option, Some, None, Result, Ok, Err, ⊤}
-use Rattle.std.specs.Io.KnownBytes.{Consumes, IsAtEnd}
+use Rattle.std.specs.Io.KnownBytes.{Consumes}
 use Rattle.std.specs.List.{sum_by}
 use Rattle.std.specs.Map.{values_of}
 use Rattle.ipc_model.specs.Answers.{UnlessOutOfMemory}
@@ -10,18 +10,22 @@ use Rattle.ipc_model.specs.declared.fault.Fault.{Fault}
 use Rattle.ipc_model.specs.declared.fault.Fault.TheVariants.{Failed, OutOfMemory, Truncated}
 use Rattle.ipc_model.specs.declared.limits.Limits.{Limits}
 use Rattle.ipc_model.specs.declared.schema.Schema.{Schema}
-use Rattle.ipc_frame.specs.Failures.{FailsAs, UnlessOutside}
+use Rattle.ipc_frame.specs.Failures.{UnlessOutside}
 use Rattle.ipc_frame.specs.Frames.{end_of_stream, IsSized, Pending}
 use Rattle.ipc_frame.specs.Parts.{Capacity, no_capacity}
+use Rattle.ipc_frame.specs.Pieces.{Progress, held_of}
+use Rattle.ipc_frame.specs.Pieces as frames
+pub use Rattle.ipc_frame.specs.Pieces.{DropsBuffers, Wants}
+use Rattle.ipc_frame.specs.Pulled.{IsFew, EndsAt}
 use Rattle.ipc_stream_read.specs.declared.end.End.{End}
 use Rattle.ipc_stream_read.specs.declared.end.End.TheVariants.{Mark, Closed}
-use Rattle.ipc_stream_read.specs.declared.event.Event.{Event as ReturnedEvent}
+use Rattle.ipc_stream_read.specs.declared.event.Event.{Event}
 use Rattle.ipc_stream_read.specs.declared.event.Event.TheVariants as report
 use Rattle.ipc_stream_read.specs.Counts.{count_up, messages_in}
 use Rattle.ipc_stream_read.specs.Found.{batch_rows}
 use Rattle.ipc_stream_read.specs.ReadBatches.{IsReadFrom}
-use Rattle.ipc_stream_read.specs.Stream.{State, Event, schema, batch, Run, IsMessage}
-use Rattle.ipc_stream_read.specs.Verdicts.{Decision, Reached, Reason}
+use Rattle.ipc_stream_read.specs.Stream.{State, MessageEvent, schema, batch, Run, IsMessage}
+use Rattle.ipc_stream_read.specs.Verdicts.{DecisionPoint, Reached, Reason}
 
 -- the stage of a stream: these bytes of an unfinished message have come, or the stream ended with
 -- this `End`, or it was refused
@@ -29,6 +33,12 @@ pub data Stage : Type 0 where
   taking : List ℕ → Stage
   over : End → Stage
   refused : Stage
+
+-- the progress of the messages at this stage, however the stream ended
+abbrev pub progress_at : Stage → Progress
+progress_at (taking z) = frames.taking z
+progress_at (over end) = frames.ended
+progress_at refused = frames.refused
 
 -- the value of a decoder: its limits, what is in force, the stage of the stream, how many messages
 -- have come, and the room of the buffers that it keeps for the current message
@@ -41,13 +51,13 @@ pub record Decoding : Type 0 where
 
 -- the bytes x are whole messages and then `rest`. The messages report these events, and change a
 -- decoder's state and number of messages from the old to the new
-pub record Reaches (old new : Decoding) (x : List ℕ) (events : List Event)
+pub record Reaches (old new : Decoding) (x : List ℕ) (events : List MessageEvent)
     (rest : List ℕ) : Type 0 where
   pub reached : Reached old.limits old.state x events new.state rest
   pub counted : new.messages ≡ count_up old.messages (messages_in reached.run)
 
 -- the bytes x are whole messages without an event, followed by one message with this event
-pub record ReportsLastEvent (limits : Limits) (σ : State) (x : List ℕ) (event : Event)
+pub record ReportsLastEvent (limits : Limits) (σ : State) (x : List ℕ) (event : MessageEvent)
     (τ : State) : Type 0 where
   pub silent : List ℕ
   pub message : List ℕ
@@ -58,7 +68,7 @@ pub record ReportsLastEvent (limits : Limits) (σ : State) (x : List ℕ) (event
 
 -- the bytes x are such messages (`ReportsLastEvent`), and change a decoder from the old value to
 --   the new
-pub record ReportsOneEvent (old new : Decoding) (x : List ℕ) (event : Event) : Type 0 where
+pub record ReportsOneEvent (old new : Decoding) (x : List ℕ) (event : MessageEvent) : Type 0 where
   pub last : ReportsLastEvent old.limits old.state x event new.state
   pub counted : new.messages ≡ count_up old.messages (suc (messages_in last.run))
   pub stage : new.stage ≡ taking []
@@ -70,7 +80,7 @@ Waits old new x = (rest : List ℕ) × Reaches old new x [] rest × (new.stage �
 
 -- the last message of the bytes x, or the end mark, reports this event, and those before it none;
 -- a batch has the buffers and the body of that message
-abbrev pub ReportsEvent : Decoding → Decoding → List ℕ → ReturnedEvent → Type 0
+abbrev pub ReportsEvent : Decoding → Decoding → List ℕ → Event → Type 0
 ReportsEvent old new x report.Schema = (s : Schema) × ReportsOneEvent old new x (schema s)
 ReportsEvent old new x (report.Batch found pairs) = ReportsOneEvent old new x
     (batch (batch_rows (found, pairs))) × IsReadFrom old.limits old.state x found
@@ -81,12 +91,12 @@ ReportsEvent old new x report.End =
 -- exactly at its last byte. Memory runs out only after the first eight bytes of a message
 abbrev pub RefusesAt : Decoding → Decoding → List ℕ → Fault → Type 0
 RefusesAt old new x fault = (rest : List ℕ) × Reaches old new x [] rest
-    × UnlessOutOfMemory fault ((d : Decision) × Reason old.limits fault d new.state rest)
+    × UnlessOutOfMemory fault ((d : DecisionPoint) × Reason old.limits fault d new.state rest)
     × (fault ≡ OutOfMemory → IsSized old.limits rest)
 
 -- the stored bytes z with a beginning of the piece end with an event, or are refused at their last
 -- byte; or the whole piece is taken
-abbrev pub FeedsOn : Decoding → List ℕ → List ℕ → Decoding → Result (ℕ × Option ReturnedEvent) Fault
+abbrev pub FeedsOn : Decoding → List ℕ → List ℕ → Decoding → Result (ℕ × Option Event) Fault
     → Type 0
 FeedsOn old z piece new (Ok (n, None)) = (n ≡ length piece) × Waits old new (z ++ piece)
 FeedsOn old z piece new (Ok (n, Some event)) =
@@ -96,65 +106,38 @@ FeedsOn old z piece new (Err fault) = (new.stage ≡ refused)
 
 -- how a piece is taken at this stage: after the end no bytes are taken, and after a refusal the
 -- result is F35
-abbrev pub FeedsAt : Decoding → Stage → List ℕ → Decoding → Result (ℕ × Option ReturnedEvent) Fault
+abbrev pub FeedsAt : Decoding → Stage → List ℕ → Decoding → Result (ℕ × Option Event) Fault
     → Type 0
 FeedsAt old (taking z) piece new r = FeedsOn old z piece new r
 FeedsAt old (over end) piece new r = (new ≡ old) × (r ≡ Ok (0, None))
 FeedsAt old refused piece new r = (new ≡ old) × (r ≡ Err Failed)
 
 -- how a call takes a piece
-abbrev pub Feeds : Decoding → List ℕ → Decoding → Result (ℕ × Option ReturnedEvent) Fault → Type 0
+abbrev pub Feeds : Decoding → List ℕ → Decoding → Result (ℕ × Option Event) Fault → Type 0
 Feeds old piece new r = FeedsAt old old.stage piece new r
 
 -- the result is what `feed` returns for the bytes that came from a source. A refusal comes at the
 -- last of them and leaves what is in force; no whole message came before it. Memory runs out only
 -- after the first eight bytes of a message
-abbrev pub Gives : Decoding → Stage → List ℕ → Decoding → Result (Option ReturnedEvent) Fault
+abbrev pub Gives : Decoding → Stage → List ℕ → Decoding → Result (Option Event) Fault
     → Type 0
 Gives old stage came new (Ok found) = FeedsAt old stage came new (Ok (length came, found))
 Gives old (taking z) came new (Err fault) = (new.stage ≡ refused) × (new.state ≡ old.state)
     × (new.messages ≡ old.messages)
-    × UnlessOutside fault ((d : Decision) × Reason old.limits fault d old.state (z ++ came))
+    × UnlessOutside fault ((d : DecisionPoint) × Reason old.limits fault d old.state (z ++ came))
     × (fault ≡ OutOfMemory → IsSized old.limits (z ++ came))
 Gives old stage came new (Err fault) = FeedsAt old stage came new (Err fault)
-
--- at most the bytes up to the next decision came, and none if no message is awaited
-abbrev pub IsFew : Limits → Stage → List ℕ → Type 0
-IsFew limits (taking z) came = (k : ℕ) × Pending limits z k × (length came ≤ k)
-IsFew limits stage came = came ≡ []
-
--- a call that returns no event while messages are awaited takes no byte only if the source is at
--- its end
-abbrev pub EndsAt : Stage → List ℕ → Option (List ℕ) → Result (Option ReturnedEvent) Fault → Type 0
-EndsAt (taking z) came left (Ok None) = came ≡ [] → IsAtEnd left
-EndsAt stage came left r = ⊤
 
 -- `count` bytes were taken from a source, at most the number up to the next decision, and the
 -- result is theirs
 pub record Draws (old new : Option (List ℕ)) (before after : Decoding) (count : ℕ)
-    (r : Result (Option ReturnedEvent) Fault) : Type 0 where
+    (r : Result (Option Event) Fault) : Type 0 where
   pub came : List ℕ
   pub counted : length came ≡ count
   pub bytes : Consumes old new came
-  pub few : IsFew before.limits before.stage came
-  pub at_end : EndsAt before.stage came new r
+  pub few : IsFew before.limits (progress_at before.stage) came
+  pub at_end : EndsAt (progress_at before.stage) came new r
   pub gives : Gives before before.stage came after r
-
--- the count of failures changes as `FailsAs` states while messages are awaited; after the end or a
--- refusal it stays
-abbrev pub FailsWhile : Stage → ℕ → ℕ → Result (Option ReturnedEvent) Fault → Type 0
-FailsWhile (taking z) old new r = FailsAs old new r
-FailsWhile stage old new r = new ≡ old
-
--- k more bytes reach the next decision; k is 0 if no message is awaited
-abbrev pub Wants : Limits → Stage → ℕ → Type 0
-Wants limits (taking z) k = Pending limits z k
-Wants limits stage k = k ≡ 0
-
--- how many bytes are stored of the current message: all that have come
-abbrev pub kept_bytes : Stage → ℕ
-kept_bytes (taking z) = length z
-kept_bytes stage = 0
 
 -- how many bytes the bodies have together that set the dictionaries in force
 abbrev pub dictionary_bytes : State → ℕ
@@ -162,8 +145,8 @@ dictionary_bytes None = 0
 dictionary_bytes (Some o) = sum_by (λ d. d.bytes) (values_of o.dictionaries)
 
 -- how many bytes a decoder stores: those of the current message, and the bodies of the dictionaries
-abbrev pub held_of : Decoding → ℕ
-held_of d = count_up (dictionary_bytes d.state) (kept_bytes d.stage)
+abbrev pub stored_bytes : Decoding → ℕ
+stored_bytes d = count_up (dictionary_bytes d.state) (held_of (progress_at d.stage))
 
 -- the decoder with its stage replaced, of which no buffer is kept
 abbrev pub at_stage : Decoding → Stage → Decoding
@@ -174,11 +157,6 @@ at_stage d stage = record {
   messages = d.messages;
   room = no_capacity;
 }
-
--- no buffer is kept after the end and after a refusal
-abbrev pub DropsLists : Stage → Capacity → Type 0
-DropsLists (taking z) room = ⊤
-DropsLists stage room = room ≡ no_capacity
 
 -- no more bytes come. After a schema, and if no byte of an unfinished message has come, the stream
 -- has ended; otherwise it is cut off, which is F4. An end stays as it was; after a refusal the
@@ -192,7 +170,7 @@ ClosesAt old (over end) new r = (new ≡ old) × (r ≡ Ok end)
 ClosesAt old refused new r = (new ≡ old) × (r ≡ Err Failed)
 
 -- a batch has a column for each field of the schema in force
-abbrev pub HasColumns : State → ReturnedEvent → Type 0
+abbrev pub HasColumns : State → Event → Type 0
 HasColumns (Some o) (report.Batch found pairs) = found.columns ≡ length o.schema.fields
 HasColumns state event = ⊤
 

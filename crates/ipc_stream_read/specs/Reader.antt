@@ -10,8 +10,8 @@ use Rattle.ipc_frame.specs.Frames.{end_of_stream}
 use Rattle.ipc_stream_read.specs.declared.end.End.{End}
 use Rattle.ipc_stream_read.specs.declared.end.End.TheVariants.{Mark, Closed}
 use Rattle.ipc_stream_read.specs.Decoding.{Stage, taking, over, refused, ReportsLastEvent}
-use Rattle.ipc_stream_read.specs.Stream.{DictionaryInForce, InForce, State, Event, schema, batch}
-use Rattle.ipc_stream_read.specs.Stream.{Run}
+use Rattle.ipc_stream_read.specs.Stream.{DictionaryInForce, InForce, State, MessageEvent, schema}
+use Rattle.ipc_stream_read.specs.Stream.{batch, Run}
 use Rattle.ipc_stream_read.specs.Found.{ReadRows, batch_rows}
 use Rattle.ipc_stream_read.specs.ReadBatches.{IsReadFrom}
 use Rattle.ipc_stream_read.specs.Reasons.{Ends, NeedsMemory, Reads}
@@ -55,9 +55,9 @@ schema_in None = record { fields = []; metadata = [] }
 schema_in (Some o) = o.schema
 
 -- the dictionaries in force; there are none before a schema
-abbrev pub dictionaries_in : State → List (ℤ × DictionaryInForce)
-dictionaries_in None = []
-dictionaries_in (Some o) = o.dictionaries
+abbrev pub dictionaries_in_force : State → List (ℤ × DictionaryInForce)
+dictionaries_in_force None = []
+dictionaries_in_force (Some o) = o.dictionaries
 
 -- between two calls no bytes are stored
 abbrev pub KeepsNone : Stage → Type 0
@@ -88,13 +88,13 @@ pub record OpenFails (limits : Limits) (old new : Option (List ℕ)) (fault : Fa
 
 -- the bytes x are whole messages without an event, then one with this event; they change what is in
 -- force for a reader from the old value to the new
-pub record LeadsTo (old new : Reader) (x : List ℕ) (event : Event) : Type 0 where
+pub record LeadsTo (old new : Reader) (x : List ℕ) (event : MessageEvent) : Type 0 where
   pub last : ReportsLastEvent old.limits (Some (in_force_of old)) x event (Some (in_force_of new))
   pub messages : new.messages ≡ count_up old.messages (suc (messages_in last.run))
 
 -- the bytes x begin with whole messages without an event; these change what is in force for a
 -- reader from the old value to the new. At the bytes after them, reading ends with this result
-pub record EndsBehind (old new : Reader) (x : List ℕ) (answer : Result End Fault) : Type 0 where
+pub record EndsAfter (old new : Reader) (x : List ℕ) (answer : Result End Fault) : Type 0 where
   pub whole : List ℕ
   pub rest : List ℕ
   pub joined : x ≡ whole ++ rest
@@ -104,7 +104,7 @@ pub record EndsBehind (old new : Reader) (x : List ℕ) (answer : Result End Fau
   pub messages : new.messages ≡ count_up old.messages (messages_in run)
 
 -- no byte was taken, and what is in force stays
-pub record Stays (old new : Reader) (x : List ℕ) : Type 0 where
+pub record ChangesNothing (old new : Reader) (x : List ℕ) : Type 0 where
   pub none : x ≡ []
   pub in_force : in_force_of new ≡ in_force_of old
   pub messages : new.messages ≡ old.messages
@@ -117,10 +117,10 @@ abbrev pub NextAnswer : Reader → Reader → StreamPhase → List ℕ → Resul
 NextAnswer old new Reading x (Ok (Some found)) Reading =
     LeadsTo old new x (batch (batch_rows found))
     × IsReadFrom old.limits (Some (in_force_of old)) x found.0
-NextAnswer old new Reading x (Ok None) (Ended end) = EndsBehind old new x (Ok end)
-NextAnswer old new Reading x (Err fault) Refused = EndsBehind old new x (Err fault)
-NextAnswer old new (Ended end) x (Ok None) (Ended same) = (same ≡ end) × Stays old new x
-NextAnswer old new Refused x (Err Failed) Refused = Stays old new x
+NextAnswer old new Reading x (Ok None) (Ended end) = EndsAfter old new x (Ok end)
+NextAnswer old new Reading x (Err fault) Refused = EndsAfter old new x (Err fault)
+NextAnswer old new (Ended end) x (Ok None) (Ended same) = (same ≡ end) × ChangesNothing old new x
+NextAnswer old new Refused x (Err Failed) Refused = ChangesNothing old new x
 NextAnswer old new _ x r _ = ⊥
 
 -- the bytes that a call of `next` took, and its result

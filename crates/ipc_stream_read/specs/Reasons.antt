@@ -13,21 +13,21 @@ use Rattle.ipc_model.specs.declared.schema.Field.{Field}
 use Rattle.ipc_model.specs.declared.schema.Schema.{Schema}
 use Rattle.ipc_meta.specs.declared.head.BatchHead.{BatchHead}
 use Rattle.ipc_meta.specs.declared.head.Head.TheVariants as h
-use Rattle.ipc_frame.specs.declared.frame.Frame.{Frame as Framed}
+use Rattle.ipc_frame.specs.declared.frame.Frame.{Frame}
 use Rattle.ipc_frame.specs.declared.frame.Frame.TheVariants as f
-use Rattle.ipc_frame.specs.Frames.{end_of_stream, Frame, IsSized, Pending}
+use Rattle.ipc_frame.specs.Frames.{end_of_stream, Encapsulates, IsSized, Pending}
 use Rattle.ipc_frame.specs.Sees.{IsFrame}
 use Rattle.ipc_frame.specs.Decisions.{RefusesNow}
 use Rattle.ipc_column.specs.Rows.{RefusesParts}
 use Rattle.ipc_dict_read.specs.ValuesColumns.{dictionary_columns, columns_for}
 use Rattle.ipc_stream_read.specs.declared.end.End.{End}
 use Rattle.ipc_stream_read.specs.declared.end.End.TheVariants.{Mark, Closed}
-use Rattle.ipc_stream_read.specs.Stream.{InForce, State, Event, Run, values_in}
+use Rattle.ipc_stream_read.specs.Stream.{InForce, State, MessageEvent, Run, values_in_force}
 use Rattle.ipc_model.specs.declared.limits.Limits.{Limits}
 pub use Rattle.ipc_frame.specs.Failures.{IsOutside}
 
 -- the frame is the end mark, or a message that is not a schema's
-abbrev pub IsNoSchema : Framed → Type 0
+abbrev pub IsNoSchema : Frame → Type 0
 IsNoSchema f.End = ⊤
 IsNoSchema (f.Message meta (h.Schema s) body) = ⊥
 IsNoSchema (f.Message meta head body) = ⊤
@@ -43,22 +43,22 @@ pub record IsUnknownDictionary (id : ℤ) (s : Schema) : Type 0 where
 -- that no field names, or a body without values or rows
 pub data Refuses (limits : Limits) (σ : State) (z : List ℕ) (fault : Fault) : Type 0 where
   early : RefusesNow limits z fault → Refuses limits σ z fault
-  no_schema : (frame : Framed) → fault ≡ MissingSchema → σ ≡ None → IsFrame limits z frame
+  no_schema : (frame : Frame) → fault ≡ MissingSchema → σ ≡ None → IsFrame limits z frame
       → IsNoSchema frame → Refuses limits σ z fault
   second_schema : (o : InForce) (s : Schema) (metadata body : List ℕ) → fault ≡ SecondSchema
-      → σ ≡ Some o → Frame limits z metadata (h.Schema s) body
+      → σ ≡ Some o → Encapsulates limits z metadata (h.Schema s) body
       → Refuses limits σ z fault
   dictionary : (o : InForce) (id : ℤ) (b : BatchHead) (metadata body : List ℕ)
       → fault ≡ UnknownDictionary → σ ≡ Some o → IsUnknownDictionary id o.schema
-      → Frame limits z metadata (h.Dictionary id b) body → Refuses limits σ z fault
+      → Encapsulates limits z metadata (h.Dictionary id b) body → Refuses limits σ z fault
   no_values : (o : InForce) (id : ℤ) (b : BatchHead) (columns : List Field) (metadata body : List ℕ)
       → σ ≡ Some o → columns_for (dictionary_columns o.schema.fields) id ≡ Some columns
-      → Frame limits z metadata (h.Dictionary id b) body
+      → Encapsulates limits z metadata (h.Dictionary id b) body
       → RefusesParts limits fault [] columns b body
       → Refuses limits σ z fault
   no_rows : (o : InForce) (b : BatchHead) (pairs : List (List ℕ × List ℕ)) (metadata body : List ℕ)
-      → σ ≡ Some o → Frame limits z metadata (h.Batch b pairs) body
-      → RefusesParts limits fault (values_in o.dictionaries) o.schema.fields b body
+      → σ ≡ Some o → Encapsulates limits z metadata (h.Batch b pairs) body
+      → RefusesParts limits fault (values_in_force o.dictionaries) o.schema.fields b body
       → Refuses limits σ z fault
 
 -- z is an undecided beginning of a message, followed by at most the bytes up to the next decision
@@ -93,9 +93,8 @@ NeedsMemory limits z (Err fault) = fault ≡ OutOfMemory → IsSized limits z
 
 -- the bytes x are messages that report these events, and then reading ends with this result; `left`
 -- is still in the source
-pub record Reads (limits : Limits) (σ : State) (x : List ℕ) (left : Option (List ℕ)) (events : List
-    Event)
-    (answer : Result End Fault) : Type 0 where
+pub record Reads (limits : Limits) (σ : State) (x : List ℕ) (left : Option (List ℕ))
+    (events : List MessageEvent) (answer : Result End Fault) : Type 0 where
   pub state : State
   pub whole : List ℕ
   pub rest : List ℕ
@@ -105,6 +104,6 @@ pub record Reads (limits : Limits) (σ : State) (x : List ℕ) (left : Option (L
 
 -- the bytes x are messages that report these events, and then reading breaks off for this fault; if
 -- memory runs out, it does so after the first eight bytes of a message
-abbrev pub Breaks : Limits → State → List ℕ → Option (List ℕ) → List Event → Fault → Type 0
+abbrev pub Breaks : Limits → State → List ℕ → Option (List ℕ) → List MessageEvent → Fault → Type 0
 Breaks limits σ x left events fault =
     (r : Reads limits σ x left events (Err fault)) × NeedsMemory limits r.rest (Err fault)

@@ -9,7 +9,7 @@ use Rattle.ipc_model.specs.declared.table.Table.{Table}
 use Rattle.ipc_meta.specs.declared.head.Head.{Head}
 use Rattle.ipc_meta.specs.declared.head.Head.TheVariants as head
 use Rattle.ipc_meta.specs.declared.head.BatchHead.{BatchHead}
-use Rattle.ipc_frame.specs.Frames.{end_of_stream, Frame}
+use Rattle.ipc_frame.specs.Frames.{end_of_stream, Encapsulates}
 use Rattle.ipc_column.specs.Dictionaries.{Dictionaries}
 use Rattle.ipc_column.specs.Rows.{Rows}
 use Rattle.ipc_column.specs.Values.{first_of}
@@ -31,8 +31,8 @@ pub record InForce : Type 0 where
   pub dictionaries : List (ℤ × DictionaryInForce)
 
 -- the values of each dictionary in force, to which the indices of a batch refer
-abbrev pub values_in : List (ℤ × DictionaryInForce) → Dictionaries
-values_in dictionaries = map (λ e. (e.0, e.1.values)) dictionaries
+abbrev pub values_in_force : List (ℤ × DictionaryInForce) → Dictionaries
+values_in_force dictionaries = map (λ e. (e.0, e.1.values)) dictionaries
 
 -- what is in force; nothing before the schema
 abbrev pub State : Type 0
@@ -44,44 +44,44 @@ initial_state s = record { schema = s; dictionaries = [] }
 
 -- what is in force after the dictionary with the id is set to the values of these rows, from a body
 -- of this many bytes; its earlier values are no longer in force
-abbrev pub with_dictionary : InForce → ℤ → List (List Value) → ℕ → InForce
-with_dictionary o id rows bytes = record o {
+abbrev pub set_dictionary : InForce → ℤ → List (List Value) → ℕ → InForce
+set_dictionary o id rows bytes = record o {
   dictionaries = put o.dictionaries id (record { values = map first_of rows; bytes = bytes });
 }
 
 -- the event that a message reports to a reader
-pub data Event : Type 0 where
-  schema : Schema → Event
-  batch : BatchRows → Event
+pub data MessageEvent : Type 0 where
+  schema : Schema → MessageEvent
+  batch : BatchRows → MessageEvent
 
 -- a message with this head and body changes the state and reports these events. The first is the
--- schema's; its body is not read. A batch reports its pairs, and its rows under the dictionaries in
--- force. A dictionary that a field names reports none: the rows of its one column are set for the
--- id
-pub data Step (limits : Limits) : State → Head → List ℕ → List Event → State → Type 0 where
-  first : {s : Schema} {body : List ℕ}
+-- schema's; its body is not read. A record batch reports its pairs, and its rows under the
+-- dictionaries in force. A dictionary batch of an id that a field names reports none: the rows of
+-- its one column are set for the id
+pub data Step (limits : Limits) : State → Head → List ℕ → List MessageEvent → State → Type 0 where
+  schema_message : {s : Schema} {body : List ℕ}
       → Step limits None (head.Schema s) body (schema s ∷ []) (Some (initial_state s))
-  came : {o : InForce} {b : BatchHead} {pairs : List (List ℕ × List ℕ)} {body : List ℕ}
+  record_batch : {o : InForce} {b : BatchHead} {pairs : List (List ℕ × List ℕ)} {body : List ℕ}
       {rows : List (List Value)}
-      → Rows limits (values_in o.dictionaries) o.schema.fields b body rows
+      → Rows limits (values_in_force o.dictionaries) o.schema.fields b body rows
       → Step limits (Some o) (head.Batch b pairs) body
       (batch (record { pairs = pairs; rows = rows }) ∷ []) (Some o)
-  sets : {o : InForce} {id : ℤ} {b : BatchHead} {body : List ℕ} {columns : List Field}
-      {rows : List (List Value)} → columns_for (dictionary_columns o.schema.fields) id
-      ≡ Some columns
+  dictionary_batch : {o : InForce} {id : ℤ} {b : BatchHead} {body : List ℕ} {columns : List Field}
+      {rows : List (List Value)}
+      → columns_for (dictionary_columns o.schema.fields) id ≡ Some columns
       → Rows limits [] columns b body rows
       → Step limits (Some o) (head.Dictionary id b) body []
-      (Some (with_dictionary o id rows (length body)))
+      (Some (set_dictionary o id rows (length body)))
 
 -- a list of messages, each of them a step, with their events in order
-pub data Run (limits : Limits) : State → List ℕ → List Event → State → Type 0 where
+pub data Run (limits : Limits) : State → List ℕ → List MessageEvent → State → Type 0 where
   done : {σ : State} → Run limits σ [] [] σ
-  more : {σ τ υ : State} {x metadata body y : List ℕ} {h : Head} {es fs : List Event}
-      → Frame limits x metadata h body → Step limits σ h body es τ → Run limits τ y fs υ
+  more : {σ τ υ : State} {x metadata body y : List ℕ} {h : Head} {es fs : List MessageEvent}
+      → Encapsulates limits x metadata h body → Step limits σ h body es τ → Run limits τ y fs υ
       → Run limits σ (x ++ y) (es ++ fs) υ
 
 -- the events of a table: the schema, and then the batches in order
-abbrev pub events_of : Table → List Event
+abbrev pub events_of : Table → List MessageEvent
 events_of t = schema t.schema ∷ map batch t.batches
 
 -- the bytes are a table's messages, without an end mark
@@ -106,12 +106,12 @@ abbrev pub SetsOnly : Limits → InForce → List ℕ → InForce → Type 0
 SetsOnly limits o x p = Run limits (Some o) x [] (Some p)
 
 -- x is one message, which changes the state and reports these events
-pub record IsMessage (limits : Limits) (σ : State) (x : List ℕ) (events : List Event)
+pub record IsMessage (limits : Limits) (σ : State) (x : List ℕ) (events : List MessageEvent)
     (τ : State) : Type 0 where
   pub metadata : List ℕ
   pub head : Head
   pub body : List ℕ
-  pub frame : Frame limits x metadata head body
+  pub frame : Encapsulates limits x metadata head body
   pub step : Step limits σ head body events τ
 
 -- x is the end mark

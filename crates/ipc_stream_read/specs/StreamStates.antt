@@ -15,7 +15,7 @@ use Rattle.ipc_meta.specs.declared.head.Head.TheVariants as h
 use Rattle.ipc_frame.specs.Pieces.{Framing, Progress}
 use Rattle.ipc_frame.specs.Parts.{no_capacity}
 use Rattle.ipc_frame.specs.Pieces as frames
-use Rattle.ipc_frame.specs.declared.frame.Frame.{Frame as Framed}
+use Rattle.ipc_frame.specs.declared.frame.Frame.{Frame}
 use Rattle.ipc_frame.specs.declared.frame.Frame.TheVariants as f
 use Rattle.ipc_column.specs.Contents.{Contents}
 use Rattle.ipc_column.specs.Rows.{Rows, RefusesParts}
@@ -33,28 +33,28 @@ use Rattle.ipc_stream_read.specs.ReadBatches.{IsCheckedIn}
 use Rattle.ipc_stream_read.specs.Reader.{end_of, phase_of}
 use Rattle.ipc_stream_read.specs.Reasons.{IsNoSchema, IsUnknownDictionary}
 use Rattle.ipc_stream_read.specs.Scopes.{IsUnder, in_scope, state_of}
-use Rattle.ipc_stream_read.specs.Stream.{InForce, State, Step, initial_state, values_in, schema}
-use Rattle.ipc_stream_read.specs.Stream.{batch}
+use Rattle.ipc_stream_read.specs.Stream.{InForce, State, Step, initial_state, values_in_force}
+use Rattle.ipc_stream_read.specs.Stream.{schema, batch}
 
 -- the schema in the frame, if it has one, is well formed
-abbrev pub IsWellFormedFrame : Limits → Framed → Type 0
+abbrev pub IsWellFormedFrame : Limits → Frame → Type 0
 IsWellFormedFrame limits (f.Message meta (h.Schema s) body) = WellFormed limits s
 IsWellFormedFrame limits frame = ⊤
 
 -- the frame is a message, and not the end mark
-abbrev pub IsMessageFrame : Framed → Type 0
+abbrev pub IsMessageFrame : Frame → Type 0
 IsMessageFrame (f.Message meta head body) = ⊤
 IsMessageFrame f.End = ⊥
 
 -- the frame is a message with this schema, or it is not a schema's and the fault is MissingSchema
-abbrev pub BringsSchema : Framed → Result Schema Fault → Type 0
+abbrev pub BringsSchema : Frame → Result Schema Fault → Type 0
 BringsSchema (f.Message meta head body) (Ok s) = head ≡ h.Schema s
 BringsSchema f.End (Ok s) = ⊥
 BringsSchema frame (Err fault) = (fault ≡ MissingSchema) × IsNoSchema frame
 
 -- the frame is a message with the schema that is put in force, without dictionaries; or it is not a
 -- schema's and the fault is MissingSchema; or memory ran out
-abbrev pub BringsScope : Framed → Result Scope Fault → Type 0
+abbrev pub BringsScope : Frame → Result Scope Fault → Type 0
 BringsScope (f.Message meta head body) (Ok scope) =
     (head ≡ h.Schema scope.schema) × (in_scope scope ≡ initial_state scope.schema)
 BringsScope f.End (Ok scope) = ⊥
@@ -84,22 +84,22 @@ SetsValues limits old new id b body (Err fault) =
     (new ≡ old) × UnlessOutOfMemory fault (RefusesValues limits old id b body fault)
 
 -- why a frame is refused after the schema
-abbrev pub RefusesNext : Limits → InForce → Framed → Fault → Type 0
-RefusesNext limits o f.End fault = ⊥
-RefusesNext limits o (f.Message meta (h.Schema t) body) fault = fault ≡ SecondSchema
-RefusesNext limits o (f.Message meta (h.Dictionary id b) body) fault =
+abbrev pub RefusesLater : Limits → InForce → Frame → Fault → Type 0
+RefusesLater limits o f.End fault = ⊥
+RefusesLater limits o (f.Message meta (h.Schema t) body) fault = fault ≡ SecondSchema
+RefusesLater limits o (f.Message meta (h.Dictionary id b) body) fault =
     RefusesValues limits o id b body.items fault
-RefusesNext limits o (f.Message meta (h.Batch b pairs) body) fault =
-    RefusesParts limits fault (values_in o.dictionaries) o.schema.fields b body.items
+RefusesLater limits o (f.Message meta (h.Batch b pairs) body) fault =
+    RefusesParts limits fault (values_in_force o.dictionaries) o.schema.fields b body.items
 
 -- why a frame is refused in this state
-abbrev pub RefusesFrame : Limits → State → Framed → Fault → Type 0
+abbrev pub RefusesFrame : Limits → State → Frame → Fault → Type 0
 RefusesFrame limits None frame fault = (fault ≡ MissingSchema) × IsNoSchema frame
-RefusesFrame limits (Some o) frame fault = RefusesNext limits o frame fault
+RefusesFrame limits (Some o) frame fault = RefusesLater limits o frame fault
 
 -- the effect of a frame in a state. A message reports an event, or none if it sets a dictionary;
 -- the end mark is accepted only after a schema. A refusal leaves the state as it was
-abbrev pub Brings : Limits → State → Framed → State → Result (Option Event) Fault → Type 0
+abbrev pub Brings : Limits → State → Frame → State → Result (Option Event) Fault → Type 0
 Brings limits σ (f.Message meta head body) τ (Ok None) = Step limits σ head body.items [] τ
 Brings limits σ (f.Message meta head body) τ (Ok (Some event.Schema)) =
     (s : Schema) × Step limits σ head body.items (schema s ∷ []) τ
@@ -145,4 +145,4 @@ decoding_of framing stream = record {
 pub record IsSound (framing : Framing) (stream : StreamState) : Type 0 where
   pub under : IsUnder framing.limits stream.scope
   pub ends : stream.end ≡ end_of (phase_of (stage_of framing.progress stream.end))
-  pub let_go : frames.DropsLists framing.progress framing.room
+  pub let_go : frames.DropsBuffers framing.progress framing.room

@@ -11,12 +11,13 @@ use Rattle.ipc_model.specs.declared.table.BatchRows.{BatchRows}
 use Rattle.ipc_model.specs.declared.table.Table.{Table}
 use Rattle.ipc_stream_read.specs.declared.end.End.{End}
 use Rattle.ipc_stream_read.specs.declared.end.End.TheVariants.{Closed}
-use Rattle.ipc_stream_read.specs.declared.event.Event.{Event as ReturnedEvent}
+use Rattle.ipc_stream_read.specs.declared.event.Event.{Event}
 use Rattle.ipc_stream_read.specs.Counts.{count_up}
 use Rattle.ipc_stream_read.specs.Decoding.{Decoding, Stage, taking, over, refused, Reaches}
 use Rattle.ipc_stream_read.specs.Decoding.{ReportsEvent}
 use Rattle.ipc_stream_read.specs.Reasons.{Breaks, Ends, NeedsMemory, Reads}
-use Rattle.ipc_stream_read.specs.Stream.{State, Event, schema, batch, Run, initial_state, events_of}
+use Rattle.ipc_stream_read.specs.Stream.{State, MessageEvent, schema, batch, Run, initial_state}
+use Rattle.ipc_stream_read.specs.Stream.{events_of}
 
 -- a call took these bytes and counted them
 pub record Takes (old new : Option (List ℕ)) (count_old count_new : ℕ) (x : List ℕ) : Type 0 where
@@ -36,14 +37,14 @@ pub record StopsAt (old new : Decoding) (x : List ℕ) (left : Option (List ℕ)
 -- the bytes x report this event, or the source is at its end after whole messages, or reading
 -- breaks off
 abbrev pub PullAnswer : Decoding → Decoding → List ℕ → Option (List ℕ)
-    → Result (Option ReturnedEvent) Fault → Type 0
+    → Result (Option Event) Fault → Type 0
 PullAnswer old new x left (Ok (Some event)) = ReportsEvent old new x event
 PullAnswer old new x left (Ok None) = StopsAt old new x left (over Closed) (Ok Closed)
 PullAnswer old new x left (Err fault) = StopsAt old new x left refused (Err fault)
 
 -- the bytes that were taken from the source for the next event, and the result
 pub record Pulls (old new : Option (List ℕ)) (count_old count_new : ℕ) (before after : Decoding)
-    (r : Result (Option ReturnedEvent) Fault) : Type 0 where
+    (r : Result (Option Event) Fault) : Type 0 where
   pub x : List ℕ
   pub takes : Takes old new count_old count_new x
   pub gives : PullAnswer before after x new r
@@ -72,7 +73,7 @@ pub record TakesSchema (old new : Option (List ℕ)) (count_old count_new : ℕ)
 abbrev pub GivesBatches : Limits → State → List ℕ → Option (List ℕ)
     → Result (List BatchRows × End) Fault → Type 0
 GivesBatches limits σ x left (Ok b) = Reads limits σ x left (map batch b.0) (Ok b.1)
-GivesBatches limits σ x left (Err fault) = (events : List Event)
+GivesBatches limits σ x left (Err fault) = (events : List MessageEvent)
     × Breaks limits σ x left events fault
 
 -- the bytes that were taken from a source after the schema, and the result
@@ -85,7 +86,7 @@ pub record TakesBatches (old new : Option (List ℕ)) (before : Decoding)
 -- the bytes are this table and its end, or some messages, after which reading broke off
 abbrev pub GivesTable : Limits → List ℕ → Option (List ℕ) → Result (Table × End) Fault → Type 0
 GivesTable limits x left (Ok t) = Reads limits None x left (events_of t.0) (Ok t.1)
-GivesTable limits x left (Err fault) = (events : List Event)
+GivesTable limits x left (Err fault) = (events : List MessageEvent)
     × Reads limits None x left events (Err fault)
 
 -- the bytes that were taken from a source for a table, and the result
@@ -99,5 +100,5 @@ pub record TakesTable (limits : Limits) (old new : Option (List ℕ)) (r : Resul
 pub record RunsOut (limits : Limits) (old new : Option (List ℕ)) : Type 0 where
   pub x : List ℕ
   pub bytes : Consumes old new x
-  pub events : List Event
+  pub events : List MessageEvent
   pub breaks : Breaks limits None x new events OutOfMemory

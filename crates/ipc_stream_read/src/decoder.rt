@@ -52,9 +52,10 @@ impl Decoder {
     ghost use Rattle.std.specs.Prelude.{◌≡◌, ◌≤◌, ◌+◌, [], None, IfOk, IfSome, MatchResult, OnOk};
     ghost use Rattle.std.specs.Prelude.{option_copied};
     ghost use Rattle.ipc_frame.specs.Parts.{GrowsWithBytes, no_capacity};
-    ghost use Rattle.ipc_stream_read.specs.Decoding.{ClosesAt, Draws, FailsWhile, Feeds};
-    ghost use Rattle.ipc_stream_read.specs.Decoding.{HasColumns, DropsLists, Wants, held_of};
-    ghost use Rattle.ipc_stream_read.specs.Decoding.{kept_bytes, schema_of, taking};
+    ghost use Rattle.ipc_frame.specs.Pieces.{DropsBuffers, Wants, held_of};
+    ghost use Rattle.ipc_frame.specs.Pulled.{FailsWhile};
+    ghost use Rattle.ipc_stream_read.specs.Decoding.{ClosesAt, Draws, Feeds, HasColumns};
+    ghost use Rattle.ipc_stream_read.specs.Decoding.{progress_at, schema_of, stored_bytes, taking};
     ghost use Rattle.ipc_stream_read.specs.Reader.{end_of, phase_of};
 
     /// Creates a decoder at the beginning of a stream. All that it accepts, in each call, is within
@@ -109,7 +110,8 @@ impl Decoder {
             (λ _. self.new.room ≡ no_capacity))
             (λ _. self.new.room ≡ no_capacity) }
         // Buffers grow as bytes come, whatever the message states.
-        ensures grown { GrowsWithBytes self.old.room self.new.room (kept_bytes self.new.stage) }
+        ensures grown { GrowsWithBytes self.old.room self.new.room
+            (held_of (progress_at self.new.stage)) }
     {
         feed_on(self.alloc, &mut self.frames, &mut self.stream, piece)
     }
@@ -129,7 +131,7 @@ impl Decoder {
             result.0 result.1 }
         ensures limits { self.new.limits ≡ self.old.limits }
         ensures fewer { OnOk result.1 ((R.bound source.new + result.0) ≤ R.bound source.old) }
-        ensures failures { FailsWhile self.old.stage (R.failures source.old)
+        ensures failures { FailsWhile (progress_at self.old.stage) (R.failures source.old)
             (R.failures source.new) result.1 }
         // A batch has a column for each field of the schema.
         ensures columns { IfOk result.1 (λ found. IfSome found (HasColumns self.new.state)) }
@@ -138,7 +140,8 @@ impl Decoder {
             (λ _. self.new.room ≡ no_capacity))
             (λ _. self.new.room ≡ no_capacity) }
         // Buffers grow as bytes come, whatever the message states.
-        ensures grown { GrowsWithBytes self.old.room self.new.room (kept_bytes self.new.stage) }
+        ensures grown { GrowsWithBytes self.old.room self.new.room
+            (held_of (progress_at self.new.stage)) }
     {
         let (count, result) = self.frames.feed_from(source);
         match result {
@@ -160,7 +163,7 @@ impl Decoder {
         ensures same { self.new ≡ record self.old { room = self.new.room } }
         // One buffer is kept for the next body, and none after the end or a refusal.
         ensures metadata { self.new.room.metadata ≡ self.old.room.metadata }
-        ensures let_go { DropsLists self.new.stage self.new.room }
+        ensures let_go { DropsBuffers (progress_at self.new.stage) self.new.room }
     {
         if let Some(body) = batch.into_body() {
             self.frames.reuse(body);
@@ -182,7 +185,7 @@ impl Decoder {
     /// the end of its metadata, or to the end of its body. Returns 0 after the end-of-stream mark,
     /// after a refusal, and after a `close` that returned `Ok`. It never fails and takes no memory.
     pub fn wants(&self) -> usize
-        ensures { Wants self.now.limits self.now.stage result }
+        ensures { Wants self.now.limits (progress_at self.now.stage) result }
     {
         self.frames.wants()
     }
@@ -193,7 +196,7 @@ impl Decoder {
     /// kept, between two messages. The count saturates at 2^64 - 1. It never fails and takes no
     /// memory.
     pub fn held(&self) -> usize
-        ensures { result ≡ held_of self.now }
+        ensures { result ≡ stored_bytes self.now }
     {
         let dictionaries = match &self.stream.scope {
             Some(scope) => scope.held(),

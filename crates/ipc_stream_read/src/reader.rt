@@ -37,7 +37,8 @@ impl<R: Source> Model for StreamReader<R> {
     ghost use Rattle.std.specs.Coded.{codes};
     ghost use Rattle.ipc_model.specs.contracts.schema.Field as field;
     ghost use Rattle.ipc_model.specs.contracts.value.Value as value;
-    ghost use Rattle.ipc_stream_read.specs.Reader.{Reader, dictionaries_in, phase_of, schema_in};
+    ghost use Rattle.ipc_stream_read.specs.Reader.{Reader, dictionaries_in_force, phase_of};
+    ghost use Rattle.ipc_stream_read.specs.Reader.{schema_in};
 
     ghost Value = { Reader };
 
@@ -49,7 +50,7 @@ impl<R: Source> Model for StreamReader<R> {
       bound = R.bound s.source;
       limits = s.decoder.limits;
       schema = schema_in s.decoder.state;
-      dictionaries = dictionaries_in s.decoder.state;
+      dictionaries = dictionaries_in_force s.decoder.state;
       phase = phase_of s.decoder.stage;
       messages = s.decoder.messages;
       taken = s.taken;
@@ -148,7 +149,7 @@ impl<R: Source> StreamReader<R> {
             };
         }
         match pull(&mut self.source, &mut self.decoder, &mut self.taken)? {
-            Some(Event::Schema) => Err(Fault::SecondSchema),
+            Some(Event::Schema) => unreachable!(),
             Some(Event::Batch(batch, pairs)) => Ok(Some((batch, pairs))),
             Some(Event::End) => Ok(None),
             None => Ok(None),

@@ -8,7 +8,7 @@ ghost use Rattle.ipc_stream_read.specs.StreamStates.{GivesValues, RefusesValues,
 ghost use Rattle.ipc_stream_read.specs.Decoding.{dictionary_bytes};
 ghost use Rattle.ipc_stream_read.specs.ReadBatches.{IsCheckedBatch};
 ghost use Rattle.ipc_stream_read.specs.Scopes.{in_scope, state_of};
-ghost use Rattle.ipc_stream_read.specs.Stream.{initial_state, values_in};
+ghost use Rattle.ipc_stream_read.specs.Stream.{initial_state, values_in_force};
 
 use crate::scope::Scope;
 use ipc_column::Batch;
@@ -41,15 +41,16 @@ impl Scope {
     /// Errors: those of `Batch::check`.
     pub fn read_batch(&self, alloc: Global, head: BatchHead, body: Vec<u8>) -> Result<Batch, Fault>
         ensures rows { IfOk result (λ batch. Rows self.now.limits
-            (values_in (in_scope self.now).dictionaries)
+            (values_in_force (in_scope self.now).dictionaries)
             self.now.schema.fields head body.items batch.rows) }
         ensures refused { IfErr result (λ fault. RefusesParts self.now.limits fault
-            (values_in (in_scope self.now).dictionaries) self.now.schema.fields head body.items) }
+            (values_in_force (in_scope self.now).dictionaries) self.now.schema.fields head
+            body.items) }
         ensures columns { IfOk result (λ batch. batch.columns ≡ length self.now.schema.fields) }
         // The batch has the buffers that the head locates in the body, and keeps the body.
         ensures checked { IfOk result (λ batch. IsCheckedBatch
-            (values_in (in_scope self.now).dictionaries) self.now.schema.fields head body.items
-            batch) }
+            (values_in_force (in_scope self.now).dictionaries) self.now.schema.fields head
+            body.items batch) }
     {
         Batch::check(
             alloc,

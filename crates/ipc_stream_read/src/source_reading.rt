@@ -53,10 +53,7 @@ pub fn read_schema<R: Source>(
     ensures fewer { IfOk result (λ done. R.bound source.new < R.bound source.old) }
     ensures failures { FailsAs (R.failures source.old) (R.failures source.new) result }
 {
-    match pull(source, decoder, taken)? {
-        Some(Event::Schema) => Ok(()),
-        Some(Event::Batch(_batch, _pairs)) => Err(Fault::MissingSchema),
-        Some(Event::End) => Err(Fault::MissingSchema),
-        None => Err(Fault::MissingSchema),
-    }
+    // The decoder refuses a stream that begins with anything else, so the event is the schema's.
+    pull(source, decoder, taken)?;
+    Ok(())
 }

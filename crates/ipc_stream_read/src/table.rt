@@ -54,7 +54,7 @@ fn read_batches<R: Source>(
     let mut batches = Vec::new(alloc);
     loop {
         match pull(source, decoder, taken)? {
-            Some(Event::Schema) => return Err(Fault::SecondSchema),
+            Some(Event::Schema) => unreachable!(),
             Some(Event::Batch(batch, pairs)) => keep_batch(alloc, &mut batches, &batch, pairs)?,
             Some(Event::End) => return Ok((Items::from_vec(batches), End::Mark)),
             None => return Ok((Items::from_vec(batches), End::Closed)),
@@ -77,10 +77,8 @@ fn read_messages<R: Source>(
     let mut taken = 0;
     read_schema(source, &mut decoder, &mut taken)?;
     let (batches, end) = read_batches(alloc, source, &mut decoder, &mut taken)?;
-    match decoder.into_schema() {
-        Some(schema) => Ok((Table { schema, batches }, end)),
-        None => Err(Fault::MissingSchema),
-    }
+    let schema = decoder.into_schema().unwrap();
+    Ok((Table { schema, batches }, end))
 }
 
 /// Reads a whole stream. Returns its table and how the stream ended (Arrow Columnar Format, "IPC

@@ -3,12 +3,12 @@ use Rattle.std.proofs.Common.{◌≡◌, refl, sym, ap, subst, ◌∙◌, ℕ, �
 use Rattle.std.specs.Prelude.{min}
 use Rattle.std.proofs.Math.Nat.{min-le_left}
 use Rattle.std.proofs.lemmas.List.{take-append-drop, drop-drop, length-take-le}
-use Rattle.ipc_stream_session.specs.Tables.{Moves}
+use Rattle.ipc_stream_session.specs.Tables.{MovesBytes}
 
 -- the bytes from a place on are moved up to a later place
 pub moved : (items report part : List ℕ) (at count : ℕ) → part ≡ take count (drop at items)
     → count ≡ min (length (drop at items)) (length report)
-    → Moves (drop at items) (drop (at + count) items) report (part ++ drop count report) count
+    → MovesBytes (drop at items) (drop (at + count) items) report (part ++ drop count report) count
 moved items report part at count is size =
     let few : count ≤ length (drop at items) = subst (λ n. n ≤ length (drop at items)) (sym size)
     (min-le_left (length (drop at items)) (length report)) in

@@ -75,9 +75,9 @@ key_of None = None
 key_of (Some pair) = Some pair.0
 
 -- the value of a pair, if there is one
-abbrev pub value_of : Option (List ℕ × List ℕ) → Option (List ℕ)
-value_of None = None
-value_of (Some pair) = Some pair.1
+abbrev pub pair_value : Option (List ℕ × List ℕ) → Option (List ℕ)
+pair_value None = None
+pair_value (Some pair) = Some pair.1
 
 -- one of the texts of a schema as a whole, which has no name and the type of a struct
 abbrev pub text_of_schema : Schema → FieldText → Option (List ℕ)
@@ -85,7 +85,7 @@ text_of_schema s text.Name = Some []
 text_of_schema s text.Format = Some (codes "+s")
 text_of_schema s text.ValuesFormat = None
 text_of_schema s (text.Key number) = key_of (slice_get s.metadata number)
-text_of_schema s (text.Value number) = value_of (slice_get s.metadata number)
+text_of_schema s (text.Value number) = pair_value (slice_get s.metadata number)
 
 -- one of the texts of a field
 abbrev pub text_of_field : Field-F Field → FieldText → Option (List ℕ)
@@ -93,7 +93,7 @@ text_of_field f text.Name = Some f.name
 text_of_field f text.Format = Some (slots_format f.kind f.dictionary)
 text_of_field f text.ValuesFormat = values_format f.kind f.dictionary
 text_of_field f (text.Key number) = key_of (slice_get f.metadata number)
-text_of_field f (text.Value number) = value_of (slice_get f.metadata number)
+text_of_field f (text.Value number) = pair_value (slice_get f.metadata number)
 
 -- one of the texts of a field, if there is one
 abbrev pub text_of : Option Field → FieldText → Option (List ℕ)

@@ -14,6 +14,7 @@ use Rattle.ipc_stream_read.specs.declared.end.End.{End}
 use Rattle.ipc_stream_read.specs.declared.event.Event.{Event}
 use Rattle.ipc_stream_read.specs.declared.event.Event.TheVariants as report
 use Rattle.ipc_stream_read.specs.Decoding as d
+use Rattle.ipc_stream_read.specs.Decoding.{DropsBuffers, progress_at}
 use Rattle.ipc_stream_read.specs.Stream.{State}
 use Rattle.ipc_stream_session.specs.declared.arrival.Arrival.{Arrival}
 use Rattle.ipc_stream_session.specs.declared.arrival.Arrival.TheVariants as arrival
@@ -49,8 +50,8 @@ with_refusal None fault message = Some (record { fault = fault; message = messag
 with_refusal (Some first) fault message = Some first
 
 -- no buffer is kept, as after a refusal
-abbrev pub KeepsNoList : d.Decoding → Type 0
-KeepsNoList decoder = d.DropsLists d.refused decoder.room
+abbrev pub KeepsNoBuffer : d.Decoding → Type 0
+KeepsNoBuffer decoder = DropsBuffers (progress_at d.refused) decoder.room
 
 -- all that `Decoder::feed` promises: how the piece is taken, that the limits stay, that a batch has
 -- a column for each field of the schema, and that no buffer is kept with an event or a refusal
@@ -59,7 +60,8 @@ pub record FeedsDecoder (old : d.Decoding) (piece : List ℕ) (new : d.Decoding)
   pub fed : d.Feeds old piece new r
   pub limits : new.limits ≡ old.limits
   pub columns : IfOk r (λ found. IfSome found.1 (d.HasColumns new.state))
-  pub moved : MatchResult r (λ found. IfSome found.1 (λ _. KeepsNoList new)) (λ _. KeepsNoList new)
+  pub moved : MatchResult r (λ found. IfSome found.1 (λ _. KeepsNoBuffer new))
+      (λ _. KeepsNoBuffer new)
 
 -- the decoder takes the piece as `Decoder::feed` does. The session has the batch of the event, and
 -- the first refusal
@@ -79,14 +81,14 @@ refusal_after old new (Err fault) = with_refusal old.refusal fault new.decoder.m
 -- first refusal
 abbrev pub Closes : ReadSession → ReadSession → Result End Fault → Type 0
 Closes old new r = d.ClosesAt old.decoder old.decoder.stage new.decoder r
-    × KeepsNoList new.decoder × (new.batch ≡ old.batch)
+    × KeepsNoBuffer new.decoder × (new.batch ≡ old.batch)
     × (new.refusal ≡ refusal_after old new r)
 
 -- only the buffer for the next body may change, and there is none after the end or a refusal
 pub record TakesBack (old new : ReadSession) : Type 0 where
   pub same : new ≡ record old { decoder = record old.decoder { room = new.decoder.room } }
   pub metadata : new.decoder.room.metadata ≡ old.decoder.room.metadata
-  pub let_go : d.DropsLists new.decoder.stage new.decoder.room
+  pub let_go : DropsBuffers (progress_at new.decoder.stage) new.decoder.room
 
 -- the text of the schema in force, if one came
 abbrev pub GivesSchemaText : State → Result (Option (String Global)) Fault → Type 0

@@ -16,7 +16,7 @@ emptied t = record t { stream = record t.stream { written = Some []; failures = 
 
 -- the first of the old bytes are at the beginning of the target, and the others remain: all are
 -- moved, or those for which the target has room
-pub record Moves (old new target_old target_new : List ℕ) (count : ℕ) : Type 0 where
+pub record MovesBytes (old new target_old target_new : List ℕ) (count : ℕ) : Type 0 where
   pub moved : List ℕ
   pub size : length moved ≡ count
   pub counted : count ≡ min (length old) (length target_old)

@@ -20,7 +20,7 @@ use Rattle.ipc_stream.specs.PendingBatches.{with_rows}
 use Rattle.ipc_stream.specs.Writer.{StartsWriter}
 use Rattle.ipc_stream_session.specs.Cells.{nested_cell}
 use Rattle.ipc_stream_session.specs.Stages.{HasWritten, IsNotOpen, SendsBatch, emptied_stage}
-use Rattle.ipc_stream_session.specs.Tables.{FinishesTable, Moves, StopsAtStart, TableState}
+use Rattle.ipc_stream_session.specs.Tables.{FinishesTable, MovesBytes, StopsAtStart, TableState}
 use Rattle.ipc_stream_session.specs.WriteErrors.{error_line, error_number}
 use Rattle.ipc_stream_session.specs.declared.batch.ReadBatch.{ReadBatch}
 use Rattle.ipc_stream_session.specs.declared.cells.OpenNesting.{OpenNesting}
@@ -49,8 +49,8 @@ abbrev pub HasEnded : Stage → Stage → Type 0
 HasEnded old new = (ready : List ℕ) × HasWritten old ready × (new ≡ stage.Ended ready)
 
 -- nothing more is written, and the rest of the session is as it was
-abbrev pub Ends : WriteSession → WriteSession → Type 0
-Ends old new = (ready : List ℕ) × HasWritten old.stage ready
+abbrev pub EndsSession : WriteSession → WriteSession → Type 0
+EndsSession old new = (ready : List ℕ) × HasWritten old.stage ready
     × (new ≡ record old { stage = stage.Ended ready })
 
 -- a call with this error leaves the session as it was
@@ -58,8 +58,8 @@ abbrev pub IsRefused : WriteError → WriteSession → WriteSession → Result �
 IsRefused e old new r = (r ≡ Err e) × (new ≡ old)
 
 -- memory ran out, and nothing more is written: what can be taken is as it was
-abbrev pub RunsOut : WriteSession → WriteSession → WriteError → Type 0
-RunsOut old new e = (e ≡ error.Refused w.OutOfMemory) × (new.front ≡ old.front)
+abbrev pub StopsForMemory : WriteSession → WriteSession → WriteError → Type 0
+StopsForMemory old new e = (e ≡ error.Refused w.OutOfMemory) × (new.front ≡ old.front)
     × HasEnded old.stage new.stage
 
 -- a call that needs an open table: before its schema it is a misuse, after the end it is W10
@@ -70,10 +70,10 @@ OnStage (stage.Open table) Call old new r = Call table
 OnStage (stage.Ended ready) Call old new r = IsRefused (error.Refused w.Failed) old new r
 
 -- the table leaves the session, for a call that needs one
-abbrev pub TakesTable : WriteSession → WriteSession → Result TableState WriteError → Type 0
-TakesTable old new (Ok t) =
+abbrev pub TakesTableOut : WriteSession → WriteSession → Result TableState WriteError → Type 0
+TakesTableOut old new (Ok t) =
     (old.stage ≡ stage.Open t) × (new ≡ record old { stage = stage.New })
-TakesTable old new (Err e) = IsNotOpen old.stage e × (new ≡ old)
+TakesTableOut old new (Err e) = IsNotOpen old.stage e × (new ≡ old)
 
 -- ---- the schema
 
@@ -107,15 +107,15 @@ BeginsAt (stage.Open table) text old new r = IsRefused error.Misuse old new r
 BeginsAt (stage.Ended ready) text old new r = IsRefused (error.Refused w.Failed) old new r
 
 -- the call that begins the stream of the schema that a text states
-abbrev pub Begins : List ℕ → WriteSession → WriteSession → Result ⊤ WriteError → Type 0
-Begins text old new r = BeginsAt old.stage text old new r
+abbrev pub BeginsSession : List ℕ → WriteSession → WriteSession → Result ⊤ WriteError → Type 0
+BeginsSession text old new r = BeginsAt old.stage text old new r
 
 -- ---- cells
 
 -- the cell is the next one of the row, or of the list or struct that was begun last
 abbrev pub AddsTo : Value → WriteSession → WriteSession → Result ⊤ WriteError → Type 0
 AddsTo cell old new (Ok x) = new ≡ record old { cells = old.cells ++ cell ∷ [] }
-AddsTo cell old new (Err e) = RunsOut old new e
+AddsTo cell old new (Err e) = StopsForMemory old new e
 
 -- the call that adds a cell
 abbrev pub Adds : Value → WriteSession → WriteSession → Result ⊤ WriteError → Type 0
@@ -138,7 +138,7 @@ BeginsIn kind old new (Ok x) = (length old.nestings < 64) × (new ≡ record old
   cells = [];
 })
 BeginsIn kind old new (Err error.Misuse) = (64 ≤ length old.nestings) × (new ≡ old)
-BeginsIn kind old new (Err e) = RunsOut old new e
+BeginsIn kind old new (Err e) = StopsForMemory old new e
 
 -- the call that begins a list or a struct
 abbrev pub BeginsCell : Nesting → WriteSession → WriteSession → Result ⊤ WriteError → Type 0
@@ -153,7 +153,7 @@ EndsIn old new (Ok x) = (outer : List OpenNesting) × ((last : OpenNesting)
       cells = last.cells ++ nested_cell last.kind old.cells ∷ [];
     }))
 EndsIn old new (Err error.Misuse) = (old.nestings ≡ []) × (new ≡ old)
-EndsIn old new (Err e) = RunsOut old new e
+EndsIn old new (Err e) = StopsForMemory old new e
 
 -- the call that ends the list or struct that was begun last
 abbrev pub EndsCell : WriteSession → WriteSession → Result ⊤ WriteError → Type 0
@@ -170,7 +170,7 @@ TakesRow t old new (Err (error.Refused (w.Row row fault))) = (old.nestings ≡ [
     × (row ≡ length old.rows) × IsFirstRowFault t.schema.fields old.cells fault
     × (new ≡ record old { cells = [] })
 TakesRow t old new (Err error.Misuse) = (old.nestings ≢ []) × (new ≡ old)
-TakesRow t old new (Err e) = RunsOut old new e
+TakesRow t old new (Err e) = StopsForMemory old new e
 
 -- the call that ends the row
 abbrev pub EndsRow : WriteSession → WriteSession → Result ⊤ WriteError → Type 0
@@ -196,7 +196,7 @@ MakesPair key value (Err e) = IsUtf8 key × IsUtf8 value
 -- the pair is the last one of those that are sent with the rows
 abbrev pub AddsPairTo : List ℕ → List ℕ → WriteSession → WriteSession → Result ⊤ WriteError → Type 0
 AddsPairTo key value old new (Ok x) = new ≡ record old { pairs = old.pairs ++ (key, value) ∷ [] }
-AddsPairTo key value old new (Err e) = RunsOut old new e
+AddsPairTo key value old new (Err e) = StopsForMemory old new e
 
 -- two texts are a pair if both are UTF-8
 pub record AddsUtf8Pair (key value : List ℕ) (old new : WriteSession) (r : Result ⊤ WriteError) :
@@ -247,7 +247,7 @@ SendsRows old new r = OnStage old.stage
 abbrev pub SendsRead : ReadBatch → TableState → WriteSession → WriteSession → Result ⊤ WriteError
     → Type 0
 SendsRead b t old new r = Sends (with_rows b.pairs b.batch.rows) (pending old) t old new r
-    ⊎ ((r ≡ Err (error.Refused w.OutOfMemory)) × Ends old new)
+    ⊎ ((r ≡ Err (error.Refused w.OutOfMemory)) × EndsSession old new)
 
 -- the call that sends a batch that was read
 abbrev pub SendsColumns : ReadBatch → WriteSession → WriteSession → Result ⊤ WriteError → Type 0
@@ -292,7 +292,7 @@ IsStatusOf s (Err e) new status = (status ≡ error_number e)
     × (new ≡ record s { error = error_after s.error e })
 
 -- the call is made, and the status is that of its answer
-pub record Reports (Call : WriteSession → WriteSession → Result ⊤ WriteError → Type 0)
+pub record ReportsStatus (Call : WriteSession → WriteSession → Result ⊤ WriteError → Type 0)
     (old new : WriteSession) (status : ℕ) : Type 0 where
   pub after : WriteSession
   pub answer : Result ⊤ WriteError
@@ -316,7 +316,7 @@ pub record TakesBytes (old new : WriteSession) (target_old target_new : List ℕ
   pub gathered : WriteSession
   pub gathers : Gathers old gathered
   pub left : List ℕ
-  pub moves : Moves gathered.front left target_old target_new count
+  pub moves : MovesBytes gathered.front left target_old target_new count
   pub new_is : new ≡ record gathered { front = left }
 
 -- the line of the last error, if there is one

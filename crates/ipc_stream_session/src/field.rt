@@ -5,7 +5,8 @@ ghost use Rattle.ipc_model.specs.declared.schema.Field.{out-Field};
 ghost use Rattle.ipc_stream_session.specs.Fields.{Describes, DescribesField, DescribesSchema};
 ghost use Rattle.ipc_stream_session.specs.Fields.{FindsField, FindsText, IsCopy, IsFieldAt};
 ghost use Rattle.ipc_stream_session.specs.Fields.{IsOptional, LeadsBelow, StopsBelow, key_of};
-ghost use Rattle.ipc_stream_session.specs.Fields.{text_of, text_of_field, text_of_schema, value_of};
+ghost use Rattle.ipc_stream_session.specs.Fields.{pair_value, text_of, text_of_field};
+ghost use Rattle.ipc_stream_session.specs.Fields.{text_of_schema};
 
 use crate::format::{slots_format, type_format};
 use ipc_model::{Dictionary, Fault, Field, Schema, Text};
@@ -141,7 +142,7 @@ fn key_at(alloc: Global, pairs: &[(Text, Text)], number: u64) -> Result<Option<S
 
 // A copy of the value of a pair.
 fn value_at(alloc: Global, pairs: &[(Text, Text)], number: u64) -> Result<Option<String>, Fault>
-    ensures { IsCopy (value_of (slice_get pairs.now number)) result }
+    ensures { IsCopy (pair_value (slice_get pairs.now number)) result }
 {
     if number >= pairs.len() as u64 {
         return Ok(None);

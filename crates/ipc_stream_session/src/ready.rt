@@ -1,6 +1,6 @@
 //! The bytes of a stream that wait to be taken.
 ghost use Rattle.std.specs.Prelude.{◌≡◌, ◌≤◌, length, vec_len};
-ghost use Rattle.ipc_stream_session.specs.Tables.{Moves};
+ghost use Rattle.ipc_stream_session.specs.Tables.{MovesBytes};
 
 use std::marker::Model;
 
@@ -39,7 +39,7 @@ impl Ready {
 
     // Moves the first bytes to the beginning of `target`: all, or as many as it has room for.
     pub(crate) fn take(&mut self, target: &mut [u8]) -> usize
-        ensures { Moves self.old self.new target.old target.new result }
+        ensures { MovesBytes self.old self.new target.old target.new result }
     {
         let count = self.len().min(target.len());
         let end = self.taken + count;

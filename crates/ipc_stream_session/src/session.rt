@@ -1,6 +1,6 @@
 //! A stream that is read, as a value between the calls of a program in another language.
 ghost use Rattle.std.specs.Prelude.{◌≡◌, None};
-ghost use Rattle.ipc_stream_read.specs.Decoding.{Wants, schema_of};
+ghost use Rattle.ipc_stream_read.specs.Decoding.{Wants, progress_at, schema_of};
 ghost use Rattle.ipc_stream_session.specs.Fields.{FindsFieldIn, FindsTextIn};
 ghost use Rattle.ipc_stream_session.specs.Sessions.{Closes, Feeds, GivesLine, GivesSchemaText};
 ghost use Rattle.ipc_stream_session.specs.Sessions.{IsNew, TakesBack, arrival_of, batch_in};
@@ -106,7 +106,7 @@ impl ReadSession {
     /// Returns the number of bytes before the next decision, or 0 after the end and after a
     /// refusal.
     pub fn wants(&self) -> usize
-        ensures { Wants self.now.decoder.limits self.now.decoder.stage result }
+        ensures { Wants self.now.decoder.limits (progress_at self.now.decoder.stage) result }
     {
         self.decoder.wants()
     }

@@ -60,7 +60,7 @@ fn pair_of(alloc: Global, key: &[u8], value: &[u8]) -> Result<Option<(Text, Text
 impl WriteSession {
     // Ends the stream, for this cause.
     fn end(&mut self, fault: WriteFault) -> WriteError
-        ensures ended { w.Ends self.old self.new }
+        ensures ended { w.EndsSession self.old self.new }
         ensures cause { result ≡ WriteError.Refused fault }
     {
         let stage = mem::replace(&mut self.stage, Stage::New);
@@ -69,7 +69,7 @@ impl WriteSession {
     }
 
     fn try_begin(&mut self, text: &[u8]) -> Result<(), WriteError>
-        ensures { w.Begins text.now self.old self.new result }
+        ensures { w.BeginsSession text.now self.old self.new result }
     {
         self.stage.check_new()?;
         let schema = match schema_from_json_bytes(self.alloc, text) {
@@ -205,7 +205,7 @@ impl WriteSession {
 
     // Takes the open table out of the session. The caller then sets `stage`.
     fn take_table(&mut self) -> Result<OpenTable, WriteError>
-        ensures { w.TakesTable self.old self.new result }
+        ensures { w.TakesTableOut self.old self.new result }
     {
         match mem::replace(&mut self.stage, Stage::New) {
             Stage::New => Err(WriteError::Misuse),
@@ -296,7 +296,7 @@ impl WriteSession {
     /// the number of the error. X6, W1 and W6 leave the writer as it was; W9 and W11 end it. It is
     /// a misuse if the stream has begun.
     pub fn begin(&mut self, text: &[u8]) -> u32
-        ensures { w.Reports (w.Begins text.now) self.old self.new result }
+        ensures { w.ReportsStatus (w.BeginsSession text.now) self.old self.new result }
     {
         let answer = self.try_begin(text);
         self.report(answer)
@@ -304,7 +304,7 @@ impl WriteSession {
 
     /// Adds a null cell. Returns 0, or the number of the error. W11 ends the writer.
     pub fn add_null(&mut self) -> u32
-        ensures { w.Reports (w.Adds Value.Null) self.old self.new result }
+        ensures { w.ReportsStatus (w.Adds Value.Null) self.old self.new result }
     {
         let answer = self.try_add(Value::Null);
         self.report(answer)
@@ -312,7 +312,7 @@ impl WriteSession {
 
     /// Adds a boolean cell. Returns as `add_null`.
     pub fn add_bool(&mut self, value: bool) -> u32
-        ensures { w.Reports (w.Adds (Value.Bool value)) self.old self.new result }
+        ensures { w.ReportsStatus (w.Adds (Value.Bool value)) self.old self.new result }
     {
         let answer = self.try_add(Value::Bool(value));
         self.report(answer)
@@ -321,7 +321,7 @@ impl WriteSession {
     /// Adds a cell that is a signed integer, a date, a time, a timestamp or a duration. Returns as
     /// `add_null`.
     pub fn add_int(&mut self, value: i64) -> u32
-        ensures { w.Reports (w.Adds (Value.Int value)) self.old self.new result }
+        ensures { w.ReportsStatus (w.Adds (Value.Int value)) self.old self.new result }
     {
         let answer = self.try_add(Value::Int(value));
         self.report(answer)
@@ -329,7 +329,7 @@ impl WriteSession {
 
     /// Adds a cell that is an unsigned integer. Returns as `add_null`.
     pub fn add_uint(&mut self, value: u64) -> u32
-        ensures { w.Reports (w.Adds (Value.UInt value)) self.old self.new result }
+        ensures { w.ReportsStatus (w.Adds (Value.UInt value)) self.old self.new result }
     {
         let answer = self.try_add(Value::UInt(value));
         self.report(answer)
@@ -337,7 +337,7 @@ impl WriteSession {
 
     /// Adds a cell with a copy of the bytes. Returns as `add_null`.
     pub fn add_bytes(&mut self, bytes: &[u8]) -> u32
-        ensures { w.Reports (w.Adds (Value.Bytes bytes.now)) self.old self.new result }
+        ensures { w.ReportsStatus (w.Adds (Value.Bytes bytes.now)) self.old self.new result }
     {
         let answer = self.try_add_bytes(bytes);
         self.report(answer)
@@ -345,7 +345,7 @@ impl WriteSession {
 
     /// Adds a cell with a copy of the text. Returns as `add_null`, or 66 if the text is not UTF-8.
     pub fn add_text(&mut self, text: &[u8]) -> u32
-        ensures { w.Reports (w.AddsText text.now) self.old self.new result }
+        ensures { w.ReportsStatus (w.AddsText text.now) self.old self.new result }
     {
         let answer = self.try_add_text(text);
         self.report(answer)
@@ -354,7 +354,7 @@ impl WriteSession {
     /// Begins a list or a struct, whose cells follow. It is a misuse if 64 lists and structs are
     /// open. Returns as `add_null`.
     pub fn begin_cell(&mut self, kind: Nesting) -> u32
-        ensures { w.Reports (w.BeginsCell kind) self.old self.new result }
+        ensures { w.ReportsStatus (w.BeginsCell kind) self.old self.new result }
     {
         let answer = self.try_begin_cell(kind);
         self.report(answer)
@@ -363,7 +363,7 @@ impl WriteSession {
     /// Ends the list or struct that was begun last. It is a misuse if there is none. Returns as
     /// `add_null`.
     pub fn end_cell(&mut self) -> u32
-        ensures { w.Reports w.EndsCell self.old self.new result }
+        ensures { w.ReportsStatus w.EndsCell self.old self.new result }
     {
         let answer = self.try_end_cell();
         self.report(answer)
@@ -373,7 +373,7 @@ impl WriteSession {
     /// the number of the error: for W2 to W5 the row is dropped, and the pending rows remain. W11
     /// ends the writer.
     pub fn end_row(&mut self) -> u32
-        ensures { w.Reports w.EndsRow self.old self.new result }
+        ensures { w.ReportsStatus w.EndsRow self.old self.new result }
     {
         let answer = self.try_end_row();
         self.report(answer)
@@ -382,7 +382,7 @@ impl WriteSession {
     /// Drops the cells of the row that has not ended, with the lists and structs that were begun in
     /// it. The pending rows remain. Returns 0, or the number of the error.
     pub fn drop_row(&mut self) -> u32
-        ensures { w.Reports w.DropsRow self.old self.new result }
+        ensures { w.ReportsStatus w.DropsRow self.old self.new result }
     {
         let answer = self.try_drop_row();
         self.report(answer)
@@ -391,7 +391,7 @@ impl WriteSession {
     /// Adds a pair of key and value to those that are sent with the pending rows. Their limits are
     /// checked by `send`. Returns as `add_null`, or 66 if one of the texts is not UTF-8.
     pub fn add_pair(&mut self, key: &[u8], value: &[u8]) -> u32
-        ensures { w.Reports (w.AddsPair key.now value.now) self.old self.new result }
+        ensures { w.ReportsStatus (w.AddsPair key.now value.now) self.old self.new result }
     {
         let answer = self.try_add_pair(key, value);
         self.report(answer)
@@ -399,7 +399,7 @@ impl WriteSession {
 
     /// Drops the pending rows and pairs, and the row that has not ended. Returns as `drop_row`.
     pub fn drop_batch(&mut self) -> u32
-        ensures { w.Reports w.DropsBatch self.old self.new result }
+        ensures { w.ReportsStatus w.DropsBatch self.old self.new result }
     {
         let answer = self.try_drop_batch();
         self.report(answer)
@@ -409,7 +409,7 @@ impl WriteSession {
     /// Returns 0, or the number of the error: W6, W7 and W8, after which the writer goes on, and W9
     /// and W11, which end it. The pending rows and pairs are dropped in all cases.
     pub fn send(&mut self) -> u32
-        ensures { w.Reports w.SendsRows self.old self.new result }
+        ensures { w.ReportsStatus w.SendsRows self.old self.new result }
     {
         let answer = self.try_send();
         self.report(answer)
@@ -419,7 +419,7 @@ impl WriteSession {
     /// the number of the error: W2 to W8, after which the writer goes on, and W9 and W11, which end
     /// it. The pending rows and pairs remain.
     pub fn send_columns(&mut self, batch: &ReadBatch) -> u32
-        ensures { w.Reports (w.SendsColumns batch.now) self.old self.new result }
+        ensures { w.ReportsStatus (w.SendsColumns batch.now) self.old self.new result }
     {
         let answer = self.try_send_columns(batch);
         self.report(answer)
@@ -428,7 +428,7 @@ impl WriteSession {
     /// Sends the end-of-stream mark, and ends the writer. It is a misuse if rows, pairs or cells
     /// are pending. Returns 0, or the number of the error: W9 ends the writer too.
     pub fn finish(&mut self) -> u32
-        ensures { w.Reports w.Finishes self.old self.new result }
+        ensures { w.ReportsStatus w.Finishes self.old self.new result }
     {
         let answer = self.try_finish();
         self.report(answer)

@@ -100,9 +100,9 @@ abbrev pub IsDialectOf : CsvDialect → Dialect → Type 0
 IsDialectOf c d = (d.delimiter ≡ c.delimiter) × (null_text d ≡ string_bytes c.null)
 
 -- the shape of rows: objects or arrays
-abbrev pub shape_of : Bool → RowShape
-shape_of true = Object
-shape_of false = Array
+abbrev pub row_shape : Bool → RowShape
+row_shape true = Object
+row_shape false = Array
 
 -- how a stream is rewritten with these limits of what is written, and whether the mark is required
 abbrev pub rewrite_options : OutputLimits → Bool → RewriteOptions
@@ -206,7 +206,7 @@ Answers (job.Check limits mark) bytes failures old new written_old written_new s
     written_old written_new source_old source_new sink_old sink_new r
 Answers (job.Show limits objects pairs count mark) bytes failures old new written_old written_new
     source_old source_new sink_old sink_new r = AnswersPrint (record {
-      form = Rows (shape_of objects) pairs;
+      form = Rows (row_shape objects) pairs;
       require_mark = mark;
       limit = count;
     }) limits old new written_old written_new source_old source_new sink_old sink_new r
@@ -252,8 +252,8 @@ ReportsBatches (job.Schema limits) old new reports_old reports_new r = reports_n
 ReportsBatches (job.FromCsv path size dialect) old new reports_old reports_new r =
     reports_new ≡ reports_old
 
--- what is answered after a stream of so many messages, if nothing may follow it: one byte that
--- follows is taken, and refused as F1 at the number of the next message; or the input fails
+-- what is answered after a stream with this number of messages, if nothing may follow it: one byte
+-- that follows is taken, and refused as F1 at the number of the next message; or the input fails
 abbrev pub MeetsEnd : Option (List ℕ) → Option (List ℕ) → ℕ → ℕ → Result ⊤ Stop → Type 0
 MeetsEnd old new failures messages (Ok done) =
     Consumes old new [] × IsAtEnd new × (failures ≡ 0)

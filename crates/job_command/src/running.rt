@@ -4,7 +4,7 @@ ghost use Rattle.std.specs.Prelude.{◌≡◌, ◌≢◌, ◌⊎◌, ◌++◌, �
 ghost use Rattle.std.specs.Prelude.{ℕ, IfSome, IsOk, IsTrue, List, Option};
 ghost use Rattle.ipc_device.specs.Failures.{CountsFailures};
 ghost use Rattle.job_command.specs.Jobs.{Answers, AnswersCsv, AnswersPrint, AnswersRewrite};
-ghost use Rattle.job_command.specs.Jobs.{AnswersSchemaJob, shape_of, file_bytes, exit_status};
+ghost use Rattle.job_command.specs.Jobs.{AnswersSchemaJob, row_shape, file_bytes, exit_status};
 ghost use Rattle.job_command.specs.Jobs.{ReportsBatches, ReportsPrint, ReportsRewrite};
 ghost use Rattle.job_command.specs.Jobs.{EndsJob, GivesFileBack, MeetsEnd, no_messages};
 ghost use Rattle.job_command.specs.Jobs.{failures_of, job_result, rewrite_options, stop_of_csv};
@@ -144,7 +144,7 @@ fn csv_job<P: Source, S: Source, W: Sink>(
 
 // The form of rows that are printed as objects or as arrays, with the metadata of batches or not.
 fn rows_form(objects: bool, pairs: bool) -> Form<'static>
-    ensures { result ≡ Rows (shape_of objects) pairs }
+    ensures { result ≡ Rows (row_shape objects) pairs }
 {
     let shape = if objects {
         RowShape::Object
@@ -247,7 +247,7 @@ fn do_job<P: Source, S: Source, W: Sink, N: Progress>(
     (result, input, sink, schema)
 }
 
-// Asks the input for a byte more, after a stream of so many messages. If one comes, it is F1.
+// Asks the input for a byte after a stream with this number of messages. If one comes, it is F1.
 fn check_at_end<S: Source>(input: &mut S, messages: u64) -> Result<(), Stop>
     ensures { MeetsEnd (S.remaining input.old) (S.remaining input.new) (S.failures input.new)
         messages result }

@@ -4,8 +4,8 @@ use Rattle.std.proofs.Common.{None, Some, Result, Ok, Err, IfOk}
 use Rattle.std.proofs.Math.Seq.{take-length, take-nil}
 use Rattle.ipc_model.specs.declared.fault.Fault.{Fault}
 use Rattle.ipc_model.specs.declared.limits.Limits.{Limits}
-use Rattle.ipc_frame.specs.Pieces.{Progress, taking, ended, refused, Feeds, behind}
-use Rattle.ipc_frame.specs.declared.frame.Frame.{Frame as Framed}
+use Rattle.ipc_frame.specs.Pieces.{Progress, taking, ended, refused, FeedsFrames, progress_after}
+use Rattle.ipc_frame.specs.declared.frame.Frame.{Frame}
 use Rattle.ipc_frame.specs.declared.frame.Frame.TheVariants as f
 use Rattle.job_explain.specs.Kept.{KeepsFed, front_of, kept_of}
 
@@ -23,14 +23,14 @@ longer limits z piece kept after n before all kept_now =
     limits.metadata) z piece
 
 -- nothing is kept before a message and after the end
-fresh : (limits : Limits) (frame : Framed) (after : List ℕ) → after ≡ [] → after ≡ kept_of limits (behind frame) after
+fresh : (limits : Limits) (frame : Frame) (after : List ℕ) → after ≡ [] → after ≡ kept_of limits (progress_after frame) after
 fresh limits (f.Message meta head body) after none = none ∙ sym (take-nil (8 + limits.metadata))
 fresh limits f.End after none = none
 
 -- the bytes that are kept are those of the message that is being read
-pub front_after : (limits : Limits) (old new : Progress) (kept piece after : List ℕ) (last : Option Framed) (r : Result (ℕ × Option Framed)
+pub front_after : (limits : Limits) (old new : Progress) (kept piece after : List ℕ) (last : Option Frame) (r : Result (ℕ × Option Frame)
     Fault)
-    → kept ≡ kept_of limits old kept → Feeds limits old piece new r → KeepsFed limits kept piece after last r
+    → kept ≡ kept_of limits old kept → FeedsFrames limits old piece new r → KeepsFed limits kept piece after last r
     → after ≡ kept_of limits new after
 front_after limits (taking z) new kept piece after last (Ok (n, None)) before fed keeps =
     subst (λ p. after ≡ kept_of limits p after) (sym fed.1) (longer limits z piece kept after n before fed.0 keeps.0)
@@ -46,8 +46,8 @@ front_after limits refused new kept piece after last r before fed keeps =
     subst (λ p. after ≡ kept_of limits p after) (sym fed.0) refl
 
 -- at most the piece is taken
-pub taken_few : (limits : Limits) (old new : Progress) (piece : List ℕ) (r : Result (ℕ × Option Framed) Fault)
-    → Feeds limits old piece new r
+pub taken_few : (limits : Limits) (old new : Progress) (piece : List ℕ) (r : Result (ℕ × Option Frame) Fault)
+    → FeedsFrames limits old piece new r
     → IfOk r (λ taken. taken.0 ≤ length piece)
 taken_few limits (taking z) new piece (Ok (n, None)) fed = omega (arith, fed.0)
 taken_few limits (taking z) new piece (Ok (n, Some frame)) fed = fed.0

@@ -13,12 +13,12 @@ use Rattle.ipc_model.specs.declared.schema.Field.{Field}
 use Rattle.ipc_meta.specs.declared.head.BatchHead.{BatchHead}
 use Rattle.ipc_meta.specs.declared.head.Head.TheVariants as h
 use Rattle.ipc_frame.specs.Pieces.{Wants, held_of}
-use Rattle.ipc_frame.specs.declared.frame.Frame.{Frame as Framed}
+use Rattle.ipc_frame.specs.declared.frame.Frame.{Frame}
 use Rattle.ipc_frame.specs.declared.frame.Frame.TheVariants as f
 use Rattle.ipc_column.specs.Dictionaries.{Dictionaries}
 use Rattle.ipc_column.specs.Shapes.{buffer_count, node_count, shape_of}
 use Rattle.ipc_stream_read.specs.Scopes.{in_scope}
-use Rattle.ipc_stream_read.specs.Stream.{values_in}
+use Rattle.ipc_stream_read.specs.Stream.{values_in_force}
 use Rattle.ipc_stream_read.specs.declared.scope.Scope.{Scope}
 use Rattle.ipc_dict_read.specs.ValuesColumns.{columns_for, dictionary_columns}
 use Rattle.job_explain.specs.declared.message_record.MessageRecord.{MessageRecord}
@@ -68,9 +68,9 @@ unknown_line id = codes "no field has dictionary " ++ signed_decimal id ++ codes
 -- the line for a later message than the first, by what is in force and what is kept: a record batch
 -- has the columns of the schema, and a dictionary batch the one column of its values, if a field
 -- names the dictionary
-abbrev pub ExplainsLater : Option Scope → Option Framed → Fault → List ℕ → Type 0
+abbrev pub ExplainsLater : Option Scope → Option Frame → Fault → List ℕ → Type 0
 ExplainsLater (Some scope) (Some (f.Message meta (h.Batch head pairs) body)) fault out =
-    ExplainsBatch scope.limits fault (values_in (in_scope scope).dictionaries)
+    ExplainsBatch scope.limits fault (values_in_force (in_scope scope).dictionaries)
     scope.schema.fields head body.items [] out
 ExplainsLater (Some scope) (Some (f.Message meta (h.Dictionary id head) body)) fault out =
     MatchOption (columns_for (dictionary_columns scope.schema.fields) id) (out ≡ unknown_line id)

@@ -4,7 +4,7 @@ use Rattle.std.specs.Prelude.{◌≡◌, List, [], ℕ, Option, None, Some}
 use Rattle.ipc_model.specs.declared.limits.Limits.{Limits}
 use Rattle.ipc_meta.specs.declared.head.Head.{Head}
 use Rattle.ipc_meta.specs.declared.head.Head.TheVariants as h
-use Rattle.ipc_frame.specs.declared.frame.Frame.{Frame as Framed}
+use Rattle.ipc_frame.specs.declared.frame.Frame.{Frame}
 use Rattle.ipc_frame.specs.declared.frame.Frame.TheVariants as f
 use Rattle.ipc_stream_read.specs.Scopes.{in_scope}
 use Rattle.ipc_stream_read.specs.Stream.{Step, initial_state}
@@ -25,7 +25,7 @@ UpdatesScopeByMessage limits None (h.Dictionary id head) body new = new ≡ None
 UpdatesScopeByMessage limits old (h.Batch head pairs) body new = new ≡ old
 
 -- what was known, and is known after a frame, if there is one
-abbrev pub UpdatesScope : Limits → Option Scope → Option Framed → Option Scope → Type 0
+abbrev pub UpdatesScope : Limits → Option Scope → Option Frame → Option Scope → Type 0
 UpdatesScope limits old (Some (f.Message meta head body)) new =
     UpdatesScopeByMessage limits old head body.items new
 UpdatesScope limits old (Some f.End) new = new ≡ old

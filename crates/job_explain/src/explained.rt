@@ -6,7 +6,7 @@ ghost use Rattle.ipc_column.specs.DictionaryBatches.{AreDictionaries, dictionari
 ghost use Rattle.job_explain.specs.Explained.{ExplainsBatch, ExplainsContent, ExplainsFirst};
 ghost use Rattle.job_explain.specs.Explained.{ExplainsLater, ExplainsMessage};
 ghost use Rattle.ipc_stream_read.specs.Scopes.{in_scope};
-ghost use Rattle.ipc_stream_read.specs.Stream.{values_in};
+ghost use Rattle.ipc_stream_read.specs.Stream.{values_in_force};
 ghost use Rattle.ipc_dict_read.specs.ValuesColumns.{columns_for, dictionary_columns};
 ghost use Rattle.job_explain.specs.Explained as spec;
 
@@ -123,9 +123,8 @@ fn explain_rows(
     body: &[u8],
 ) -> Result<Vec<u8>, AllocError>
     ensures line { IfOk result (λ line. ExplainsBatch scope.now.limits fault.now
-        (values_in (in_scope scope.now).dictionaries) scope.now.schema.fields head.now body.now
-        []
-        line.items) }
+        (values_in_force (in_scope scope.now).dictionaries) scope.now.schema.fields head.now
+        body.now [] line.items) }
 {
     explain_batch(
         alloc,

@@ -14,7 +14,7 @@ use Rattle.ipc_model.specs.declared.layout.Layout.{Layout}
 use Rattle.ipc_model.specs.declared.layout.Layout.TheVariants as l
 use Rattle.ipc_model.specs.declared.limits.Limits.{Limits}
 use Rattle.ipc_model.specs.Layouts.{layout}
-use Rattle.ipc_column.specs.Shapes.{Shape, bare, field, field_shape, field_step, shape_of}
+use Rattle.ipc_column.specs.Shapes.{Shape, bare, field, field_shape, shape_step, shape_of}
 use Rattle.ipc_encode.specs.Buffers.{child_values, row_columns}
 use Rattle.ipc_encode.specs.Limits.{HasLongItems, HasLongNode, IsTooMany, SomeColumn}
 use Rattle.ipc_encode.proofs.Steps.{below_none, cells_length}
@@ -73,7 +73,7 @@ neither true b e = absurd (cc)
 flat_field : (f : Field) → is_nested (out-Field f).kind ≡ false → (vs : List Value) (j : ℕ) → child_values (field_shape f).0 vs j ≡ []
 flat_field f flat =
     let laid : layout (out-Field f).kind (out-Field f).dictionary ≡ (field_shape f).0 =
-    ap (λ (s : Layout × Shape). s.0) (sym (fold_out-Field (Layout × Shape) field_step f)) in
+    ap (λ (s : Layout × Shape). s.0) (sym (fold_out-Field (Layout × Shape) shape_step f)) in
     subst (λ (l : Layout). (vs : List Value) (j : ℕ) → child_values l vs j ≡ []) laid
     (λ vs j. flat_below (out-Field f).kind (out-Field f).dictionary vs j flat)
 
@@ -100,7 +100,7 @@ flat_long most (f ∷ fs) given flat few h =
     let dictionary = (out-Field f).dictionary in
     let both = neither (is_nested kind) (list_any (λ g. is_nested (out-Field g).kind) fs) flat in
     let laid : layout kind dictionary ≡ (field_shape f).0 =
-    ap (λ (s : Layout × Shape). s.0) (sym (fold_out-Field (Layout × Shape) field_step f)) in
+    ap (λ (s : Layout × Shape). s.0) (sym (fold_out-Field (Layout × Shape) shape_step f)) in
     one (field_shape f).0 (field_shape f).1
     (subst (λ (l : Layout). (vs : List Value) (j : ℕ) → child_values l vs j ≡ []) laid (λ vs j. flat_below kind dictionary vs j both.0))
     (λ more. flat_long most fs (λ j. given (suc j)) both.1 (λ j. few (suc j)) more) h

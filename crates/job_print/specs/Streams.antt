@@ -16,9 +16,8 @@ use Rattle.ipc_model.specs.declared.table.Table.{Table}
 use Rattle.ipc_model.specs.declared.value.Value.{Value}
 use Rattle.ipc_stream_read.specs.declared.end.End.{End}
 use Rattle.ipc_stream_read.specs.declared.end.End.TheVariants.{Closed, Mark}
-use Rattle.ipc_stream_read.specs.Stream.{State, Event, schema, batch, initial_state, Run, events_of}
-use Rattle.ipc_stream_read.specs.Stream.{Denotes}
-use Rattle.ipc_stream_read.specs.Stream.{OpensStream}
+use Rattle.ipc_stream_read.specs.Stream.{State, MessageEvent, schema, batch, initial_state, Run}
+use Rattle.ipc_stream_read.specs.Stream.{events_of, Denotes, OpensStream}
 use Rattle.ipc_frame.specs.Failures.{CountsFault, CountsSinkFault}
 use Rattle.ipc_stream_read.specs.Ends.{as_required}
 use Rattle.ipc_stream_read.specs.Reasons.{Ends, IsOutside, Reads}
@@ -81,7 +80,7 @@ HasMessages limits old new t end messages =
     × (messages ≡ count_up 1 (messages_in reads.run)))
 
 -- no shorter beginning of these bytes is messages that report these events
-abbrev pub AreShortest : Limits → State → List ℕ → List Event → Type 0
+abbrev pub AreShortest : Limits → State → List ℕ → List MessageEvent → Type 0
 AreShortest limits σ x events =
     (y z : List ℕ) (τ : State) → x ≡ y ++ z → Run limits σ y events τ → z ≡ []
 

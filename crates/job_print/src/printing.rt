@@ -70,9 +70,8 @@ fn print_batches<R: Source, W: Sink, P: Progress>(
                 progress.batch_done(stream.taken(), tally.batches, tally.rows);
                 stream.reuse(batch);
             }
-            // `next` returned None, so `end` is Some: the default is never used.
             Ok(None) => {
-                let end = stream.end().unwrap_or(End::Closed);
+                let end = stream.end().unwrap();
                 match end.check_mark(options.require_mark) {
                     Ok(_) => return Ok(Outcome::Whole(end, tally)),
                     Err(missing) => return Ok(Outcome::Broken(missing)),
@@ -294,10 +293,10 @@ pub fn print<R: Source, W: Sink, P: Progress>(
     // At Ok the sink holds nothing back.
     ensures handed_on { OnOk result.0 (W.held_back sink.new ≡ Some []) }
     // At Ok with a number the bytes that were taken denote a table with its end, which is the mark
-    // if that is required, in so many messages, and exactly its text was printed. At Ok without one
-    // they are the messages up to the batch in which the rows reach the limit, and exactly the text
-    // up to that row was printed. At a fault its cause is true, and exactly what came before was
-    // printed. The number of the message is the count of the messages before it.
+    // if that is required, in that number of messages, and exactly its text was printed. At Ok
+    // without one they are the messages up to the batch in which the rows reach the limit, and
+    // exactly the text up to that row was printed. At a fault its cause is true, and exactly what
+    // came before was printed. The number of the message is the count of the messages before it.
     ensures prints { Prints options.entry limits (R.remaining source) (R.remaining result.1)
         (W.written sink.old) (W.written sink.new) result.0 }
     // Whatever the answer, a beginning of the text of what was read was printed, up to the limit.

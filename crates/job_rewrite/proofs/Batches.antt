@@ -1,7 +1,7 @@
 -- Batches that are read and sent.
 use Rattle.std.proofs.Common.{◌≡◌, ◌∙◌, refl, sym, ap, subst, ℕ, suc, ◌+◌, List, [], ◌∷◌, ◌++◌, map, Some, None, Result, Ok}
 use Rattle.std.proofs.Common.{Err, Option, append-nil, append_assoc, arith, false, length, true}
-use Rattle.std.specs.Prelude.{Bool, IsTrue, unwrap_or}
+use Rattle.std.specs.Prelude.{Bool, IsTrue}
 use Rattle.std.specs.List.{AllByRecursion}
 use Rattle.std.specs.Io.KnownBytes.{Consumes}
 use Rattle.std.proofs.KnownBytes.{Appends-nil, Appends-trans, Consumes-nil, Consumes-trans}
@@ -16,9 +16,9 @@ use Rattle.ipc_stream_read.specs.Reader.{StreamPhase}
 use Rattle.ipc_stream_read.specs.Reader.{Reading, Ended, Refused}
 use Rattle.ipc_stream_read.specs.Found.{ReadRows, batch_rows}
 use Rattle.ipc_stream_read.specs.Decoding.{ReportsLastEvent}
-use Rattle.ipc_stream_read.specs.Reader.{EndsBehind, LeadsTo, Reader, end_of, in_force_of, NextAnswer, NextCall}
+use Rattle.ipc_stream_read.specs.Reader.{EndsAfter, LeadsTo, Reader, end_of, in_force_of, NextAnswer, NextCall}
 use Rattle.ipc_stream_read.specs.Reasons.{Ends}
-use Rattle.ipc_stream_read.specs.Stream.{State, Event, batch, Run, done}
+use Rattle.ipc_stream_read.specs.Stream.{State, MessageEvent, batch, Run, done}
 use Rattle.ipc_stream_read.specs.Counts.{count_up, messages_in}
 use Rattle.ipc_stream_read.specs.Progress.{all_rows}
 use Rattle.ipc_stream.specs.Dictionaries.{SendsBatch, SendsBatches, kept_after, sends_none}
@@ -104,7 +104,7 @@ gave now new (Ended e) q x found is h = absurd (cc)
 gave now new Refused q x found is h = absurd (cc)
 
 ended : (now new : Reader) (p q : StreamPhase) (x : List ℕ) → p ≡ Reading → NextAnswer now new p x (Ok None) q
-    → (e : End) × EndsBehind now new x (Ok e) × (q ≡ Ended e)
+    → (e : End) × EndsAfter now new x (Ok e) × (q ≡ Ended e)
 ended now new Reading Reading x is h = absurd h
 ended now new Reading (Ended e) x is h = (e, h, refl)
 ended now new Reading Refused x is h = absurd h
@@ -112,7 +112,7 @@ ended now new (Ended e) q x is h = absurd (cc)
 ended now new Refused q x is h = absurd (cc)
 
 broke : (now new : Reader) (p q : StreamPhase) (x : List ℕ) (f : Fault) → p ≡ Reading → NextAnswer now new p x (Err f) q
-    → EndsBehind now new x (Err f)
+    → EndsAfter now new x (Err f)
 broke now new Reading Reading x f is h = absurd h
 broke now new Reading (Ended e) x f is h = absurd h
 broke now new Reading Refused x f is h = h
@@ -131,11 +131,11 @@ all_last P [] x all one = (one, tt)
 all_last P (y ∷ ys) x all one = (all.0, all_last P ys x all.1 one)
 
 -- a run of `n` messages
-abbrev Counted : Limits → State → List ℕ → List Event → State → ℕ → Type 0
+abbrev Counted : Limits → State → List ℕ → List MessageEvent → State → ℕ → Type 0
 Counted limits σ x es τ n = (r : Run limits σ x es τ) × (messages_in r ≡ n)
 
 -- messages that tell nothing and one that tells an event are one more
-told_counted : {limits : Limits} → (σ τ : State) (x : List ℕ) (e : Event) (t : ReportsLastEvent limits σ x e τ)
+told_counted : {limits : Limits} → (σ τ : State) (x : List ℕ) (e : MessageEvent) (t : ReportsLastEvent limits σ x e τ)
     → Counted limits σ x (e ∷ []) τ (suc (messages_in t.run))
 told_counted {limits} σ τ x e t =
     let last = run_one t.report.frame t.report.step in
@@ -150,7 +150,7 @@ counted_then : (limits : Limits) (σ τ υ : State) (batches : List BatchRows) (
     → Counted limits σ (x ++ y) (map batch (batches ++ last ∷ [])) υ (messages_in run + n)
 counted_then limits σ τ υ batches last x y n run next =
     let both = messages_then σ τ υ x y (map batch batches) (batch last ∷ []) run next.0 in
-    subst (λ (es : List Event). Counted limits σ (x ++ y) es υ (messages_in run + n)) (sym (map-append batch batches (last ∷ [])))
+    subst (λ (es : List MessageEvent). Counted limits σ (x ++ y) es υ (messages_in run + n)) (sym (map-append batch batches (last ∷ [])))
     (run_then σ τ υ x y (map batch batches) (batch last ∷ []) run next.0, omega (arith, both, next.1))
 
 -- the messages of a batch that came, and how many they are
@@ -286,7 +286,7 @@ module _ (options : RewriteOptions) (count rows : ℕ) (old now new : Reader) (b
   }
 
   -- the messages that tell nothing behind the batches, and how many all are
-  behind : (y : List ℕ) (r : Result End Fault) (h : EndsBehind now new y r)
+  behind : (y : List ℕ) (r : Result End Fault) (h : EndsAfter now new y r)
       → Counted old.limits (Some (in_force_of old)) (b.x ++ h.whole) (map batch b.batches) (Some (in_force_of new))
       (messages_in b.run + messages_in h.run)
   behind y r h =
@@ -302,7 +302,7 @@ module _ (options : RewriteOptions) (count rows : ℕ) (old now new : Reader) (b
       )
 
   -- where reading ends behind the batches that were sent, so much was read and sent
-  rest : (y : List ℕ) (r : Result End Fault) → Consumes now.remaining new.remaining y → EndsBehind now new y r
+  rest : (y : List ℕ) (r : Result End Fault) → Consumes now.remaining new.remaining y → EndsAfter now new y r
       → CopiesRest options old new before after r
   rest y r bytes h = record {
     x = b.x ++ y;
@@ -323,23 +323,23 @@ module _ (options : RewriteOptions) (count rows : ℕ) (old now new : Reader) (b
   }
 
   -- where the stream's end is read, all its batches were sent
-  copied_rest : (found : Option End) (e : End) → NextCall now new (Ok None) → found ≡ end_of new.phase → e ≡ unwrap_or found Closed
+  copied_rest : (found : Option End) (e : End) → NextCall now new (Ok None) → found ≡ end_of new.phase → found ≡ Some e
       → CopiesRest options old new before after (Ok e)
   copied_rest found e t is given =
       let h = ended now new now.phase new.phase t.x b.reading t.gives in
-      let same : e ≡ h.0 =
-      given ∙ (ap (λ (o : Option End). unwrap_or o Closed) is ∙ ap (λ (q : StreamPhase). unwrap_or (end_of q) Closed) h.2) in
+      let both : Some e ≡ Some h.0 = sym given ∙ (is ∙ ap end_of h.2) in
+      let same : e ≡ h.0 = cc in
       subst (λ (e : End). CopiesRest options old new before after (Ok e)) (sym same) (rest t.x (Ok h.0) t.bytes h.1)
 
   -- also where the mark is required and there is one
   pub copied_end : (found : Option End) (e f : End) → NextCall now new (Ok None) → found ≡ end_of new.phase
-      → e ≡ unwrap_or found Closed → as_required options.require_mark (Ok e) ≡ Ok f
+      → found ≡ Some e → as_required options.require_mark (Ok e) ≡ Ok f
       → CopiesBatches options old new before after (Ok new.messages)
   copied_end found e f t is given ends = (e, copied_rest found e t is given, marked options.require_mark e f ends, refl)
 
   -- where it has no mark, that is the fault
   pub copied_unmarked : (found : Option End) (e : End) (fault : Fault) → NextCall now new (Ok None) → found ≡ end_of new.phase
-      → e ≡ unwrap_or found Closed → as_required options.require_mark (Ok e) ≡ Err fault
+      → found ≡ Some e → as_required options.require_mark (Ok e) ≡ Err fault
       → CopiesBatches options old new before after (Err (stop.Read fault new.messages))
   copied_unmarked found e fault t is given ends = (Ok e, copied_rest found e t is given, ends, refl)
 

@@ -21,7 +21,7 @@ use crate::options::RewriteOptions;
 use crate::stop::RewriteStop;
 use ipc_device::{Progress, Sink, Source};
 use ipc_model::{Items, Limits, Schema, Text, WriteFault};
-use ipc_stream::{Batch, End, Seed, StreamReader, StreamWriter};
+use ipc_stream::{Batch, Seed, StreamReader, StreamWriter};
 use std::alloc::Global;
 
 // Writes the rows of a batch, with these pairs.
@@ -88,12 +88,7 @@ fn copy_batches<R: Source, W: Sink, P: Progress>(
                 progress.batch_done(stream.taken(), batches, rows);
                 stream.reuse(batch);
             }
-            // `next` returned None, so `end` is Some: the default is never used.
-            Ok(None) => match stream
-                .end()
-                .unwrap_or(End::Closed)
-                .check_mark(options.require_mark)
-            {
+            Ok(None) => match stream.end().unwrap().check_mark(options.require_mark) {
                 Ok(_) => return Ok(stream.messages()),
                 Err(missing) => return Err(RewriteStop::Read(missing, stream.messages())),
             },
@@ -175,10 +170,10 @@ pub fn rewrite<R: Source, W: Sink, P: Progress>(
     sink: W,
     progress: &mut P,
 ) -> (Result<u64, RewriteStop>, R, W)
-    // At Ok what was taken denotes a table, with its mark if that is required, in so many messages,
-    // and what was sent is that table with the mark. At a fault, why reading or writing broke off
-    // there, and the messages that were sent before. At a total, the batch that would exceed it,
-    // and those before, which were sent and are within the totals.
+    // At Ok what was taken denotes a table, with its mark if that is required, in the returned
+    // number of messages, and what was sent is that table with the mark. At a fault, why reading or
+    // writing broke off there, and the messages that were sent before. At a total, the batch that
+    // would exceed it, and those before, which were sent and are within the totals.
     ensures rewrites { Rewrites options limits (R.remaining source) (R.remaining result.1)
         (W.written sink) (W.written result.2) (W.failures sink) (W.failures result.2) result.0 }
     // At Ok the sink holds nothing back.

@@ -39,7 +39,7 @@ use denote.Triple.Table.{framed}
 use denote.Triple.Walked.{Stays, walk_of, says, stay_dropped, Goes-dropped, gave_ref, Goes-gave_ref, ends_at}
 use Rattle.ipc_stream_session.specs.contracts.batch.ReadBatch as held
 use Rattle.arrowstream_c.specs.contracts.answers.Column as answer
-use Rattle.arrowstream_c.specs.Handles.{OfHandle, Refuses, held_or_null}
+use Rattle.arrowstream_c.specs.Handles.{OfHandle, RefusesMisuse, held_or_null}
 use Rattle.arrowstream_c.specs.Calls.{DescribesColumn}
 use Rattle.arrowstream_c.proofs.Handles.{on_handle}
 use Rattle.arrowstream_c.specs.contracts.arrowstream_batch_column as f
@@ -121,7 +121,7 @@ arrowstream_batch_column_spec 𝓤 𝓛 𝓜 𝓡 wired =
     (and_then ! (get ! refl) (no_more !)) (λ v.
     use1 𝓛 (later (some (λ (r : ℕ). ((‵ (flft κs.1.0 qs.1.0) ⊛ ‵ ftrue) ⊛ ‵ (u32.own_val r (v ∷ []))) ⊛
     some (λ (vs : (V.Denot × Unit {0})). ‵ (lasts n.ended z₀.0.0 z₀.0.3 vs) ⊛
-    raw (fact 𝓤 (Refuses a1.now vs.0 r)))))) (id⊢ 𝓤 _) $
+    raw (fact 𝓤 (RefusesMisuse a1.now vs.0 r)))))) (id⊢ 𝓤 _) $
     await ! tt $ pick ! (λ r. split ! $ split ! $ move ! (2 ∷ []) $ pick ! (λ vs. split ! $ move ! (1 ∷ []) $ heard ! _ (λ told.
     -- [what is left of the others; the tokens; the result]
     move ! (2 ∷ []) $ peeks ! u32 (Is u32) (shows 𝓛 u32) r (v ∷ []) (λ is. lands_as ! refl refl ((uint_Lawful 𝓛 w32).typed r _ is).0 $
@@ -130,7 +130,7 @@ arrowstream_batch_column_spec 𝓤 𝓛 𝓜 𝓡 wired =
     suffices ! _ (ends_at 𝓛 f.ended stayed c (y null_ptr None) v r (tt, (tt, (vs.0, tt))) (tt, (tt, (tt, tt)))) $
     nothing ! $ join ! $ nothing ! $ join ! $ move ! (1 ∷ 0 ∷ []) $ group ! 3 $
     frame ! $ show ! (λ (is : Option R.Denot). sep 𝓤 (sem 𝓛 (held_or_null R null_ptr is))
-    (fact 𝓤 (OfHandle (λ was is. DescribesColumn was a0.now is a1.now vs.0 r) (Refuses a1.now vs.0 r) None is))) None $
+    (fact 𝓤 (OfHandle (λ was is. DescribesColumn was a0.now is a1.now vs.0 r) (RefusesMisuse a1.now vs.0 r) None is))) None $
     says ! told $ feq_i ! Ptr null_ptr null_ptr refl $ done !))))))
     (λ t. absurd t)))
     (λ b o x h may.
@@ -173,6 +173,6 @@ arrowstream_batch_column_spec 𝓤 𝓛 𝓜 𝓡 wired =
     suffices ! _ (ends_at 𝓛 f.ended stayed c (y (block_ptr b o) (Some x)) v r (tt, (tt, (ws.1.1.0, tt))) (tt, (tt, (tt, tt)))) $
     nothing ! $ move ! (0 ∷ 2 ∷ []) $ join ! $ move ! (1 ∷ 0 ∷ []) $ group ! 3 $
     frame ! $ show ! (λ (is : Option R.Denot). sep 𝓤 (sem 𝓛 (held_or_null R (block_ptr b o) is))
-    (fact 𝓤 (OfHandle (λ was is. DescribesColumn was a0.now is a1.now ws.1.1.0 r) (Refuses a1.now ws.1.1.0 r) (Some x) is))) (Some
+    (fact 𝓤 (OfHandle (λ was is. DescribesColumn was a0.now is a1.now ws.1.1.0 r) (RefusesMisuse a1.now ws.1.1.0 r) (Some x) is))) (Some
     ws.0) $ says ! told $
     fjoin ! $ fpack ! Global (λ d. box_owns (ghosts.dealloc_token d) R (block_ptr b o) ws.0) h $ done !)))))))))))

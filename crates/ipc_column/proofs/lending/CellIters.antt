@@ -7,19 +7,19 @@ use Rattle.ipc_model.specs.declared.fault.Fault.TheVariants as fault
 use Rattle.ipc_column.specs.declared.ranges.ColumnRanges.{ColumnRanges}
 use Rattle.ipc_column.specs.Columns.{Columns}
 use Rattle.ipc_column.specs.Lent.{HaveValues, HasValue}
-use Rattle.ipc_column.specs.Values.{items}
+use Rattle.ipc_column.specs.Values.{values_from}
 use Rattle.ipc_column.specs.Views.{part_columns, column_of, children_of}
 use Rattle.ipc_column.proofs.visited.Goods.{good_within}
 use Rattle.ipc_column.proofs.lending.Slots.{slot_value, slots_first, slots_within}
 
 -- the first of the values of a range, and those behind it
-pub items_then : (f : ℕ → Value) (i j : ℕ) (x : Value) → i < j → slice_get (items f i (j - i)) 0 ≡ Some x
-    → items f i (j - i) ≡ x ∷ items f (i + 1) (j - (i + 1))
+pub items_then : (f : ℕ → Value) (i j : ℕ) (x : Value) → i < j → slice_get (values_from f i (j - i)) 0 ≡ Some x
+    → values_from f i (j - i) ≡ x ∷ values_from f (i + 1) (j - (i + 1))
 items_then f i j x l h =
     let e : j - i ≡ suc (j - (i + 1)) = omega arith in
     let first : f i ≡ x = ap (λ (o : Option Value). unwrap_or o x)
-    (subst (λ (n : ℕ). slice_get (items f i n) 0 ≡ Some x) e h) in
-    ap (λ (n : ℕ). items f i n) e ∙ ap (λ (y : Value). y ∷ items f (i + 1) (j - (i + 1))) first
+    (subst (λ (n : ℕ). slice_get (values_from f i n) 0 ≡ Some x) e h) in
+    ap (λ (n : ℕ). values_from f i n) e ∙ ap (λ (y : Value). y ∷ values_from f (i + 1) (j - (i + 1))) first
 
 -- the slots behind the first have values too
 pub have_next : (cs : Columns) (i j : ℕ) → i < j → HaveValues cs i j → HaveValues cs (i + 1) j

@@ -9,7 +9,7 @@ use Rattle.ipc_model.specs.declared.layout.Layout.TheVariants as l
 use Rattle.ipc_column.specs.declared.ranges.ColumnRanges.{ColumnRanges}
 use Rattle.ipc_column.specs.declared.ranges.ColumnRanges.TheViews.{out-ColumnRanges}
 use Rattle.ipc_column.specs.Columns.{Column, none}
-use Rattle.ipc_column.specs.Values.{items, first_at}
+use Rattle.ipc_column.specs.Values.{values_from, first_at}
 use Rattle.ipc_column.specs.checks.Checks.{children_have_slots}
 use Rattle.ipc_column.specs.checks.Checks.{have_slots}
 use Rattle.ipc_column.specs.Lent.{AreSlots, HaveValues}
@@ -66,17 +66,18 @@ fixed_have body (p ∷ ps) size i first e h =
     (subst (λ (k : ℕ). HaveValues (part_columns body (p ∷ ps)) k (size * (i + 1))) same h)
 
 -- without a child each value is null
-nulls_same : (n a b : ℕ) → items (first_at none) a n ≡ items (first_at none) b n
+nulls_same : (n a b : ℕ) → values_from (first_at none) a n ≡ values_from (first_at none) b n
 nulls_same zero a b = refl
 nulls_same (suc n) a b = ap (λ (vs : List Value). v.Null ∷ vs) (nulls_same n (a + 1) (b + 1))
 
 -- the values of a list of a fixed size, from where its slots begin
 pub fixed_items : (body : List ℕ) (ps : List ColumnRanges) (size i first : ℕ) → (0 < length ps → first ≡ size * i)
-    → items (first_at (part_columns body ps)) first (first + size - first) ≡ items (first_at (part_columns body ps)) (size * i) size
+    → values_from (first_at (part_columns body ps)) first (first + size - first)
+    ≡ values_from (first_at (part_columns body ps)) (size * i) size
 fixed_items body [] size i first e = let n : first + size - first ≡ size = omega arith in rw n (nulls_same size first (size * i))
 fixed_items body (p ∷ ps) size i first e =
     let n : first + size - first ≡ size = omega arith in
-    rw n (ap (λ (k : ℕ). items (first_at (part_columns body (p ∷ ps))) k size) (e (omega arith)))
+    rw n (ap (λ (k : ℕ). values_from (first_at (part_columns body (p ∷ ps))) k size) (e (omega arith)))
 
 -- the slots of the child that lists of a fixed size lead to
 pub fixed_child : (body : List ℕ) (ps : List ColumnRanges) (size i j first last : ℕ) → (0 < length ps → first ≡ size * i)

@@ -22,7 +22,7 @@ found_long c children h = (of_bytes c children).0 (and_from _ _ h.bitmap (and_fr
 
 pub found_order : (c : Column) (children : Columns) → AreFound c children
     → HasOffsets c.layout c.slots c.offsets (length c.values) children
-found_order c children h = (of_order c.layout c.slots c.offsets (length c.values) children).0 h.order
+found_order c children h = (of_order c.layout c.slots c.offsets (length c.values) children).0 h.order (found_long c children h).offsets
 
 pub found_children : (c : Column) (children : Columns) → AreFound c children → HasLongChildren c.layout c.slots children
 found_children c children h = (of_long c.layout c.slots children).0 h.long
@@ -38,7 +38,8 @@ module _ (s : Nested) (b : Buffers) (h : AreBuffers s b) where
   lent_offsets = (and_parts _ _ (and_parts _ _ ((of_bytes s.column (child_columns s)).1 h.long_enough)).1).1
 
   pub lent_order : in_order s.column.layout s.column.slots s.column.offsets (length s.column.values) (child_columns s) ≡ true
-  lent_order = (of_order s.column.layout s.column.slots s.column.offsets (length s.column.values) (child_columns s)).1 h.in_order
+  lent_order = (of_order s.column.layout s.column.slots s.column.offsets (length s.column.values) (child_columns s)).1
+      (λ whole. h.in_order)
 
 -- ---- indices
 

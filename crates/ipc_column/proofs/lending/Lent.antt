@@ -19,7 +19,7 @@ use Rattle.ipc_column.specs.Lending.{AreNumbers, layouts_of, lent_number}
 use Rattle.ipc_column.specs.Lent.{AreFound, AreOfColumn, HoldSlots, without_null_count, values_in}
 use Rattle.ipc_column.specs.Nested.{Nested, only_column, found_columns, slot_values, with_children}
 use Rattle.ipc_column.specs.checks.Rules.{HasUtf8Texts}
-use Rattle.ipc_column.specs.Shapes.{shape_of, assigned_columns, field_layout, field_children, node_count, buffer_count}
+use Rattle.ipc_column.specs.Shapes.{shape_of, assigned_columns, field_layout, child_shape, node_count, buffer_count}
 use Rattle.ipc_column.specs.Slots.{nested}
 use Rattle.ipc_column.specs.Values.{own_value, row, rows_of, value_of}
 use Rattle.ipc_column.specs.Views.{part_columns, column_of, children_of}
@@ -35,8 +35,8 @@ pub layouts_cut : (m : Dictionaries) (fs : List Field) (h : BatchHead) (body : L
 unfolding assigned_columns
 layouts_cut m [] h body n b = refl
 layouts_cut m (f ∷ fs) h body n b =
-    ap (λ (ls : List Layout). field_layout f ∷ ls) (layouts_cut m fs h body (n + 1 + node_count (field_children f))
-    (b + own_buffers (field_layout f) + buffer_count (field_children f)))
+    ap (λ (ls : List Layout). field_layout f ∷ ls) (layouts_cut m fs h body (n + 1 + node_count (child_shape f))
+    (b + own_buffers (field_layout f) + buffer_count (child_shape f)))
 
 -- how the column of a part lies
 pub layout_at : (body : List ℕ) (ps : List ColumnRanges) (j : ℕ) (p : ColumnRanges) → j < length ps → p ≡ get_or ps j p

@@ -14,7 +14,7 @@ use Rattle.ipc_column.specs.declared.ranges.ColumnRanges.TheViews.{out-ColumnRan
 use Rattle.ipc_model.specs.declared.fault.Fault.{Fault}
 use Rattle.ipc_model.specs.declared.fault.Fault.TheVariants as fault
 use Rattle.ipc_column.specs.Columns.{Column, Columns, none, column, every, every_top}
-use Rattle.ipc_column.specs.Values.{row, items, first_at, value_of, offset_position, child_slot, is_nested}
+use Rattle.ipc_column.specs.Values.{row, values_from, first_at, value_of, offset_position, child_slot, is_nested}
 use Rattle.ipc_column.specs.checks.Checks.{passes, top_passes, has_bitmap, holds_values, holds_offsets, in_order, children_have_slots}
 use Rattle.ipc_column.specs.checks.Checks.{are_ascending}
 use Rattle.ipc_column.specs.checks.Checks.{have_slots, good, good_slot, good_below, all_pass, is_shown, PassTests}
@@ -162,11 +162,11 @@ slots_below c children i j h l n =
 
 -- ---- lent cells
 
-pub items_length : (f : ℕ → Value) (i n : ℕ) → length (items f i n) ≡ n
+pub items_length : (f : ℕ → Value) (i n : ℕ) → length (values_from f i n) ≡ n
 items_length f i zero = refl
 items_length f i (suc n) = ap (λ (k : ℕ). suc k) (items_length f (i + 1) n)
 
-pub items_at : (f : ℕ → Value) (i n k : ℕ) → k < n → slice_get (items f i n) k ≡ Some (f (i + k))
+pub items_at : (f : ℕ → Value) (i n k : ℕ) → k < n → slice_get (values_from f i n) k ≡ Some (f (i + k))
 items_at f i zero k l = absurd (omega arith)
 items_at f i (suc n) zero l = let e : i ≡ i + 0 = omega arith in ap (λ (j : ℕ). Some (f j)) e
 items_at f i (suc n) (suc k) l =

@@ -21,7 +21,7 @@ use Rattle.ipc_column.specs.checks.Checks.{good, good_below, good_slot}
 use Rattle.ipc_column.specs.checks.Rules.{HasUtf8Texts}
 use Rattle.ipc_column.specs.Lent.{HasValue, HoldSlots, AreFound, column_of_buffers, values_in, without_null_count}
 use Rattle.ipc_column.specs.Nested.{Nested, child_columns, only_column, slot_values}
-use Rattle.ipc_column.specs.Slots.{HasChildSlots, IsLeaf, RefersToValues, is_null, nested, value_in_slot}
+use Rattle.ipc_column.specs.Slots.{HasChildSlots, IsLeafSlot, RefersToValues, is_null, nested, value_in_slot}
 use Rattle.ipc_column.specs.declared.slot_view.Slot.{Slot}
 use Rattle.ipc_column.specs.declared.slot_view.Slot.TheVariants as slot
 use Rattle.ipc_column.specs.Views.{part_columns, column_of, children_of}
@@ -266,7 +266,7 @@ module _ (body : List ℕ) (p : ColumnRanges) (n : Nested) (i : ℕ) (is : n ≡
       (subst (λ (n : Nested). RefersToValues (child_columns n) i s) is h)
 
 -- a slot that refers to none of the children is like one of any column
-pub leaf_inside : (cs : Columns) (i : ℕ) (s : Slot) → IsLeaf s → HasChildSlots cs i s
+pub leaf_inside : (cs : Columns) (i : ℕ) (s : Slot) → IsLeafSlot s → HasChildSlots cs i s
 leaf_inside cs i slot.Null h = tt
 leaf_inside cs i (slot.Bool truth) h = tt
 leaf_inside cs i (slot.Int number) h = tt
@@ -276,7 +276,7 @@ leaf_inside cs i (slot.Text bytes) h = tt
 leaf_inside cs i (slot.List from to) h = absurd h
 leaf_inside cs i slot.Struct h = absurd h
 
-pub leaf_shown : (cs : Columns) (i : ℕ) (s : Slot) → IsLeaf s → RefersToValues cs i s
+pub leaf_shown : (cs : Columns) (i : ℕ) (s : Slot) → IsLeafSlot s → RefersToValues cs i s
 leaf_shown cs i slot.Null h = tt
 leaf_shown cs i (slot.Bool truth) h = tt
 leaf_shown cs i (slot.Int number) h = tt

@@ -15,7 +15,7 @@ use Rattle.ipc_column.specs.checks.Checks.{passes}
 use Rattle.ipc_column.specs.Columns.{Column, Columns, column, every, none}
 use Rattle.ipc_column.specs.Lent.{AreSlots}
 use Rattle.ipc_column.specs.checks.Marks.{mark, each_valid, all_valid, IsMarked, AreMarked}
-use Rattle.ipc_column.specs.Views.{part_columns, column_of, children_of, one, view, part_step}
+use Rattle.ipc_column.specs.Views.{part_columns, column_of, children_of, one, part_view, part_step}
 use Rattle.ipc_column.proofs.visited.Marks.{marked_from}
 use Rattle.ipc_column.proofs.Parts.{children_out, column_is}
 use Rattle.ipc_column.proofs.visited.Visited.{layout_is}
@@ -72,7 +72,7 @@ passes_below body p h why =
 
 -- what a part stores is no part of its column
 pub stored_view : (body : List ℕ) (p : ColumnRanges) (known : Bool)
-    → view body (roll-ColumnRanges (record (out-ColumnRanges p) { known_valid = known })) ≡ view body p
+    → part_view body (roll-ColumnRanges (record (out-ColumnRanges p) { known_valid = known })) ≡ part_view body p
 stored_view body p known =
     fold-roll-ColumnRanges (Column × Columns) (part_step body) (record (out-ColumnRanges p) { known_valid = known })
     ∙ sym (fold_out-ColumnRanges (Column × Columns) (part_step body) p)

@@ -13,7 +13,7 @@ use Rattle.ipc_model.specs.declared.value.Value.{Value}
 use Rattle.ipc_model.specs.declared.fault.Fault.TheVariants as fault
 use Rattle.ipc_column.specs.checks.Checks.{all_slots, good, good_below, good_slot}
 use Rattle.ipc_column.specs.Columns.{Column, Columns, none, column}
-use Rattle.ipc_column.specs.checks.Rules.{HasIndex, HoldsIndices, IsText, HasUtf8Texts}
+use Rattle.ipc_column.specs.checks.Rules.{IndicesHaveValues, HoldsIndices, TextsAreUtf8, HasUtf8Texts}
 use Rattle.ipc_column.specs.Values.{is_valid, number_in, offset_position, place_below}
 use Rattle.ipc_column.proofs.visited.Goods.{slots_at, slots_from}
 
@@ -34,7 +34,7 @@ decides_slots f P d a b = (
 
 of_text : (l : Layout) (d : List Value) (below : ℕ → ℕ → Bool) (P : ℕ → Type 0)
     → ((a b : ℕ) → Decides (below a b) ((i : ℕ) → a ≤ i → i < b → P i)) → (o w : List ℕ) (i : ℕ)
-    → Decides (good_below fault.ValueNotUtf8 l d below o w i) (IsText l P o w i)
+    → Decides (good_below fault.ValueNotUtf8 l d below o w i) (TextsAreUtf8 l P o w i)
 of_text (l.VariableBytes true) _ below P d o w i = (λ e. IsUtf8-from_is_utf8 _ e, λ h. is_utf8-from_IsUtf8 _ h)
 of_text l.Lists _ below P d o w i = d (offset_position o i) (offset_position o (i + 1))
 of_text (l.FixedLists size) _ below P d o w i = d (size * i) (size * (i + 1))
@@ -52,7 +52,7 @@ of_good (column c children rest) a b =
     Decides-like _ (λ h i l m. (h.0 i l m, h.1 i l m)) (λ h. (λ i l m. (h i l m).0, λ i l m. (h i l m).1))
     (Decides-and _ _
     (decides_slots (good_slot fault.ValueNotUtf8 (good fault.ValueNotUtf8 children) c) (λ i. is_valid c.validity i ≡ true
-    → IsText c.layout (HasUtf8Texts children) c.offsets c.values i)
+    → TextsAreUtf8 c.layout (HasUtf8Texts children) c.offsets c.values i)
     (λ i. of_when (is_valid c.validity i) _ (λ e. e, λ e. e)
     (of_text c.layout c.dictionary (good fault.ValueNotUtf8 children) (HasUtf8Texts children) (of_good children) c.offsets c.values i)) a b)
     (of_good rest a b))
@@ -93,7 +93,7 @@ of_one d (negsuc n) = (λ e. absurd (false≢true e), λ h. let from = h.0 in ab
 
 of_index : (l : Layout) (values : List Value) (below : ℕ → ℕ → Bool) (P : ℕ → Type 0)
     → ((a b : ℕ) → Decides (below a b) ((i : ℕ) → a ≤ i → i < b → P i)) → (o w : List ℕ) (i : ℕ)
-    → Decides (good_below fault.BadIndex l values below o w i) (HasIndex l values P o w i)
+    → Decides (good_below fault.BadIndex l values below o w i) (IndicesHaveValues l values P o w i)
 of_index (l.Indices bits signed id) values below P d o w i = of_one values (number_in bits signed w i)
 of_index (l.VariableBytes true) values below P d o w i = (λ e. tt, λ h. refl)
 of_index l.Lists values below P d o w i = d (offset_position o i) (offset_position o (i + 1))
@@ -111,7 +111,7 @@ of_indexed (column c children rest) a b =
     Decides-like _ (λ h i l m. (h.0 i l m, h.1 i l m)) (λ h. (λ i l m. (h i l m).0, λ i l m. (h i l m).1))
     (Decides-and _ _
     (decides_slots (good_slot fault.BadIndex (good fault.BadIndex children) c) (λ i. is_valid c.validity i ≡ true
-    → HasIndex c.layout c.dictionary (HoldsIndices children) c.offsets c.values i)
+    → IndicesHaveValues c.layout c.dictionary (HoldsIndices children) c.offsets c.values i)
     (λ i. of_when (is_valid c.validity i) _ (λ e. e, λ e. e)
     (of_index c.layout c.dictionary (good fault.BadIndex children) (HoldsIndices children) (of_indexed children) c.offsets c.values i)) a b)
     (of_indexed rest a b))

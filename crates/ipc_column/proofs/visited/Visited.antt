@@ -19,7 +19,7 @@ use Rattle.ipc_model.specs.declared.fault.Fault.TheVariants as fault
 use Rattle.ipc_column.specs.checks.Checks.{IsIndexed, good, range_good, all_slots, text_good, index_good, passes, holds_values}
 use Rattle.ipc_column.specs.Lent.{AreSlots}
 use Rattle.ipc_column.specs.Views.{part_columns, column_of, children_of, one}
-use Rattle.ipc_column.specs.checks.Weights.{weight, weight_below}
+use Rattle.ipc_column.specs.checks.Weights.{visits, visits_below}
 use Rattle.ipc_column.proofs.Parts.{own_column, children_out, column_is}
 use Rattle.ipc_column.proofs.lending.Slots.{TextParts, list_parts, text_parts, slots_below, slots_within, part_slots, part_long, part_most}
 use Rattle.ipc_column.proofs.lending.FixedLists.{fixed_end}
@@ -77,49 +77,49 @@ struct_slots body p i j h m e =
 
 -- what is below a part, by its fields
 pub weight_is : (body : List ℕ) (p : ColumnRanges) (i j : ℕ)
-    → weight_below (column_of body p).layout (weight (children_of body p)) (column_of body p).offsets i j
-    ≡ weight_below (out-ColumnRanges p).layout (weight (part_columns body (out-ColumnRanges p).children.items)) (own_column body p).offsets
+    → visits_below (column_of body p).layout (visits (children_of body p)) (column_of body p).offsets i j
+    ≡ visits_below (out-ColumnRanges p).layout (visits (part_columns body (out-ColumnRanges p).children.items)) (own_column body p).offsets
     i j
 weight_is body p i j =
-    ap (λ (c : Column). weight_below c.layout (weight (children_of body p)) c.offsets i j) (column_is body p)
-    ∙ ap (λ (cs : Columns). weight_below (out-ColumnRanges p).layout (weight cs) (own_column body p).offsets i j) (children_out body p)
+    ap (λ (c : Column). visits_below c.layout (visits (children_of body p)) c.offsets i j) (column_is body p)
+    ∙ ap (λ (cs : Columns). visits_below (out-ColumnRanges p).layout (visits cs) (own_column body p).offsets i j) (children_out body p)
 
 pub list_weight : (body : List ℕ) (p : ColumnRanges) (i j : ℕ) → (out-ColumnRanges p).layout ≡ l.Lists
-    → weight_below (column_of body p).layout (weight (children_of body p)) (column_of body p).offsets i j
-    ≡ weight (part_columns body (out-ColumnRanges p).children.items) (offset_position (own_column body p).offsets i)
+    → visits_below (column_of body p).layout (visits (children_of body p)) (column_of body p).offsets i j
+    ≡ visits (part_columns body (out-ColumnRanges p).children.items) (offset_position (own_column body p).offsets i)
     (offset_position (own_column body p).offsets j)
 list_weight body p i j e = weight_is body p i j
-    ∙ ap (λ (x : Layout). weight_below x (weight (part_columns body (out-ColumnRanges p).children.items)) (own_column body p).offsets i j) e
+    ∙ ap (λ (x : Layout). visits_below x (visits (part_columns body (out-ColumnRanges p).children.items)) (own_column body p).offsets i j) e
 
 pub fixed_weight : (body : List ℕ) (p : ColumnRanges) (i j size : ℕ) → (out-ColumnRanges p).layout ≡ l.FixedLists size
-    → weight_below (column_of body p).layout (weight (children_of body p)) (column_of body p).offsets i j
-    ≡ weight (part_columns body (out-ColumnRanges p).children.items) (size * i) (size * j)
+    → visits_below (column_of body p).layout (visits (children_of body p)) (column_of body p).offsets i j
+    ≡ visits (part_columns body (out-ColumnRanges p).children.items) (size * i) (size * j)
 fixed_weight body p i j size e = weight_is body p i j
-    ∙ ap (λ (x : Layout). weight_below x (weight (part_columns body (out-ColumnRanges p).children.items)) (own_column body p).offsets i j) e
+    ∙ ap (λ (x : Layout). visits_below x (visits (part_columns body (out-ColumnRanges p).children.items)) (own_column body p).offsets i j) e
 
 -- what is below lists of a fixed size, from where the slots of the first begin to where those of the last end
 pub fixed_weight_between : (body : List ℕ) (p : ColumnRanges) (i j size first last : ℕ)
     → (out-ColumnRanges p).layout ≡ l.FixedLists size → i < j
     → (0 < length (out-ColumnRanges p).children.items → first ≡ size * i)
     → (0 < length (out-ColumnRanges p).children.items → last ≡ size * (j - 1))
-    → weight_below (column_of body p).layout (weight (children_of body p)) (column_of body p).offsets i j
-    ≡ weight (part_columns body (out-ColumnRanges p).children.items) first (last + size)
-unfolding weight
+    → visits_below (column_of body p).layout (visits (children_of body p)) (column_of body p).offsets i j
+    ≡ visits (part_columns body (out-ColumnRanges p).children.items) first (last + size)
+unfolding visits
 fixed_weight_between body p i j size first last e l f g =
     fixed_weight body p i j size e ∙ between_weight (out-ColumnRanges p).children.items f g
   where
     between_weight : (ps : List ColumnRanges) → (0 < length ps → first ≡ size * i) → (0 < length ps → last ≡ size * (j - 1))
-        → weight (part_columns body ps) (size * i) (size * j) ≡ weight (part_columns body ps) first (last + size)
+        → visits (part_columns body ps) (size * i) (size * j) ≡ visits (part_columns body ps) first (last + size)
     between_weight [] f g = refl
     between_weight (q ∷ qs) f g =
         let some : 0 < length (q ∷ qs) = omega arith in
         rw (f some, fixed_end size j last i l (g some)) refl
 
 pub struct_weight : (body : List ℕ) (p : ColumnRanges) (i j : ℕ) → (out-ColumnRanges p).layout ≡ l.Structs
-    → weight_below (column_of body p).layout (weight (children_of body p)) (column_of body p).offsets i j
-    ≡ weight (part_columns body (out-ColumnRanges p).children.items) i j
+    → visits_below (column_of body p).layout (visits (children_of body p)) (column_of body p).offsets i j
+    ≡ visits (part_columns body (out-ColumnRanges p).children.items) i j
 struct_weight body p i j e = weight_is body p i j
-    ∙ ap (λ (x : Layout). weight_below x (weight (part_columns body (out-ColumnRanges p).children.items)) (own_column body p).offsets i j) e
+    ∙ ap (λ (x : Layout). visits_below x (visits (part_columns body (out-ColumnRanges p).children.items)) (own_column body p).offsets i j) e
 
 pub range_is : (why : Fault) (body : List ℕ) (p : ColumnRanges) (i j : ℕ)
     → range_good (column_of body p).layout (good why (children_of body p)) (column_of body p).offsets i j

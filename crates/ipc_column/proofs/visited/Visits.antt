@@ -5,7 +5,7 @@ use Rattle.std.specs.Prelude.{◌^◌, ℤ, pos, negsuc, unsigned_abs}
 use Rattle.std.proofs.lemmas.Bool.{and_parts, leb-true}
 use Rattle.ipc_meta.specs.declared.head.BatchHead.{BatchHead}
 use Rattle.ipc_column.specs.Dictionaries.{Dictionaries}
-use Rattle.ipc_column.specs.checks.Rules.{has_slot_visits, visits_in, count_or_zero, slots_in}
+use Rattle.ipc_column.specs.checks.Rules.{has_slot_visits, visits_in, count_or_zero, total_slots}
 use Rattle.ipc_column.specs.Shapes.{Shape, bare, field, assigned_columns, column_at, node_count, buffer_count, node_at}
 use Rattle.ipc_column.specs.checks.Checks.{all, is_node, is_slot_count}
 use Rattle.ipc_model.specs.Layouts.{own_buffers}
@@ -26,7 +26,7 @@ count-lt limits (negsuc n) h = absurd (cc)
 
 -- the slots of nodes from one on
 slots_from : (nodes : List (ℤ × ℤ)) (n : ℕ) → n < length nodes
-    → slots_in (drop n nodes) ≡ count_or_zero (get_or nodes n (pos 0, pos 0)).0 + slots_in (drop (n + 1) nodes)
+    → total_slots (drop n nodes) ≡ count_or_zero (get_or nodes n (pos 0, pos 0)).0 + total_slots (drop (n + 1) nodes)
 slots_from nodes n l = rw (drop-cons nodes n (pos 0, pos 0), add-one) refl
 
 own_most : (b : Bool) (n : ℕ) → cond b n 0 ≤ n
@@ -36,7 +36,7 @@ own_most false n = omega arith
 visits_cut : (limits : Limits) (m : Dictionaries) (s : Shape) (head : BatchHead) (body : List ℕ) (n b : ℕ)
     → all (is_node limits) head.nodes ≡ true
     → n + node_count s ≤ length head.nodes
-    → visits_in (assigned_columns m s head body n b) + slots_in (drop (n + node_count s) head.nodes) ≤ slots_in (drop n head.nodes)
+    → visits_in (assigned_columns m s head body n b) + total_slots (drop (n + node_count s) head.nodes) ≤ total_slots (drop n head.nodes)
 unfolding assigned_columns node_count
 visits_cut limits m bare head body n b h l = let e : n + 0 ≡ n = omega arith in rw e (omega arith)
 visits_cut limits m (field layout children rest) head body n b h l =
@@ -57,11 +57,11 @@ visits_cut limits m (field layout children rest) head body n b h l =
 pub visits_most : (limits : Limits) (m : Dictionaries) (s : Shape) (head : BatchHead) (body : List ℕ)
     → all (is_node limits) head.nodes ≡ true
     → node_count s ≤ length head.nodes
-    → visits_in (assigned_columns m s head body 0 0) ≤ slots_in head.nodes
+    → visits_in (assigned_columns m s head body 0 0) ≤ total_slots head.nodes
 visits_most limits m s head body h l = omega (arith, visits_cut limits m s head body 0 0 h (omega arith))
 
 -- nodes have at most 2^31 slots each
-pub slots_most : (limits : Limits) (nodes : List (ℤ × ℤ)) → all (is_node limits) nodes ≡ true → slots_in nodes ≤ 2 ^ 31 * length nodes
+pub slots_most : (limits : Limits) (nodes : List (ℤ × ℤ)) → all (is_node limits) nodes ≡ true → total_slots nodes ≤ 2 ^ 31 * length nodes
 slots_most limits [] h = omega arith
 slots_most limits (node ∷ nodes) h =
     let p = and_parts _ _ h in

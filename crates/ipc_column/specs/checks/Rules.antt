@@ -99,14 +99,15 @@ HoldOffsets (l.Numbers bits signed) n bytes = ⊤
 HoldOffsets (l.FixedBytes width) n bytes = ⊤
 HoldOffsets (l.Indices bits signed id) n bytes = ⊤
 
--- the validity bitmap has a bit for each slot (Arrow Columnar Format, "Validity bitmaps")
+-- the validity bitmap, if there is one, has a bit for each slot (Arrow Columnar Format, "Validity
+-- bitmaps")
 abbrev pub HasWholeBitmap : Column → Type 0
-HasWholeBitmap c = (c.slots + 7) / 8 ≤ length c.validity
+HasWholeBitmap c = 0 < length c.validity → (c.slots + 7) / 8 ≤ length c.validity
 
 -- the buffers have the bytes that the slots need: a bit for each slot if there is a bitmap, the
 -- values, and the offsets
 pub record IsLongEnough (c : Column) : Type 0 where
-  pub bitmap : 0 < length c.validity → HasWholeBitmap c
+  pub bitmap : HasWholeBitmap c
   pub values : HoldValues c.layout c.slots (length c.values)
   pub offsets : HoldOffsets c.layout c.slots (length c.offsets)
 
@@ -117,7 +118,7 @@ HasBytes m fields head body = Each (λ c children. IsLongEnough c) (field_column
 -- the null count is the number of clear bits in the bitmap, and 0 without a bitmap
 -- (Arrow Columnar Format, "Null count"); a column of the null layout may have any
 pub record CountsNulls (c : Column) : Type 0 where
-  pub with_bitmap : has_validity c.layout ≡ true → 0 < length c.validity → HasWholeBitmap c
+  pub with_bitmap : has_validity c.layout ≡ true → 0 < length c.validity
       → c.nulls ≡ clear c.validity c.slots
   pub without_bitmap : has_validity c.layout ≡ true → length c.validity ≡ 0 → c.nulls ≡ 0
 
@@ -133,13 +134,13 @@ pub record AreOffsets (offsets : List ℕ) (n : ℕ) (Within : ℤ → Type 0) :
   pub order : (i : ℕ) → i < n → offset offsets i ≤ℤ offset offsets (i + 1)
   pub to : Within (offset offsets n)
 
--- the offsets of a column's slots, if they are complete, are in order: those of texts and bytes end
--- within `size` bytes, those of lists within the slots of the child
+-- the offsets of a column's slots are in order: those of texts and bytes end within `size` bytes,
+-- those of lists within the slots of the child
 abbrev pub HasOffsets : Layout → ℕ → List ℕ → ℕ → Columns → Type 0
-HasOffsets (l.VariableBytes utf8) n offsets size children = 0 < n → 4 * (n + 1) ≤ length offsets
-    → AreOffsets offsets n (λ end. end ≤ℤ pos size)
-HasOffsets l.Lists n offsets size children = 0 < n → 4 * (n + 1) ≤ length offsets
-    → AreOffsets offsets n (λ end. EachTop (λ c. end ≤ℤ pos c.slots) children)
+HasOffsets (l.VariableBytes utf8) n offsets size children =
+    0 < n → AreOffsets offsets n (λ end. end ≤ℤ pos size)
+HasOffsets l.Lists n offsets size children =
+    0 < n → AreOffsets offsets n (λ end. EachTop (λ c. end ≤ℤ pos c.slots) children)
 HasOffsets (l.FixedLists width) n offsets size children = ⊤
 HasOffsets l.Structs n offsets size children = ⊤
 HasOffsets l.Null n offsets size children = ⊤
@@ -154,56 +155,57 @@ HasOrder m fields head body =
     Each (λ c children. HasOffsets c.layout c.slots c.offsets (length c.values) children)
     (field_columns m fields head body)
 
--- the content of slot i is UTF-8, if it is a text (Schema.fbs, Utf8). A list needs this of the
--- slots that it holds, a struct of its slot in each child, by `below`
-abbrev pub IsText : Layout → (ℕ → Type 0) → List ℕ → List ℕ → ℕ → Type 0
-IsText (l.VariableBytes true) below offsets values i = IsUtf8 (between offsets values i)
-IsText (l.VariableBytes utf8) below offsets values i = ⊤
-IsText l.Lists below offsets values i = (j : ℕ) → offset_position offsets i ≤ j
+-- every text in slot i, or in the children's slots that it owns, is UTF-8 (Schema.fbs, Utf8);
+-- `below` states it of the children's slots. A list owns the slots between its offsets, a list of a
+-- fixed size its `size` slots, and a struct the slot of equal number in each child
+abbrev pub TextsAreUtf8 : Layout → (ℕ → Type 0) → List ℕ → List ℕ → ℕ → Type 0
+TextsAreUtf8 (l.VariableBytes true) below offsets values i = IsUtf8 (between offsets values i)
+TextsAreUtf8 (l.VariableBytes utf8) below offsets values i = ⊤
+TextsAreUtf8 l.Lists below offsets values i = (j : ℕ) → offset_position offsets i ≤ j
     → j < offset_position offsets (i + 1) → below j
-IsText (l.FixedLists size) below offsets values i = (j : ℕ) → size * i ≤ j → j < size * (i + 1)
-    → below j
-IsText l.Structs below offsets values i = below i
-IsText l.Null below offsets values i = ⊤
-IsText l.Bits below offsets values i = ⊤
-IsText (l.Numbers bits signed) below offsets values i = ⊤
-IsText (l.FixedBytes width) below offsets values i = ⊤
-IsText (l.Indices bits signed id) below offsets values i = ⊤
+TextsAreUtf8 (l.FixedLists size) below offsets values i = (j : ℕ) → size * i ≤ j
+    → j < size * (i + 1) → below j
+TextsAreUtf8 l.Structs below offsets values i = below i
+TextsAreUtf8 l.Null below offsets values i = ⊤
+TextsAreUtf8 l.Bits below offsets values i = ⊤
+TextsAreUtf8 (l.Numbers bits signed) below offsets values i = ⊤
+TextsAreUtf8 (l.FixedBytes width) below offsets values i = ⊤
+TextsAreUtf8 (l.Indices bits signed id) below offsets values i = ⊤
 
--- slot i of each column, if it is valid, holds only texts in UTF-8; a null slot and what is below
--- it are not read
+-- in each column every text in slot i, or in the children's slots that it owns, is UTF-8, if the
+-- slot is valid; a null slot and what is below it are not read
 abbrev pub HasUtf8Texts : Columns → ℕ → Type 0
 HasUtf8Texts none i = ⊤
 HasUtf8Texts (column c children rest) i = (is_valid c.validity i ≡ true
-    → IsText c.layout (HasUtf8Texts children) c.offsets c.values i) × HasUtf8Texts rest i
+    → TextsAreUtf8 c.layout (HasUtf8Texts children) c.offsets c.values i) × HasUtf8Texts rest i
 
 -- the texts of each row are UTF-8
 abbrev pub HasTexts : Dictionaries → List Field → BatchHead → List ℕ → Type 0
 HasTexts m fields head body = (i : ℕ) → i < unsigned_abs head.length
     → HasUtf8Texts (field_columns m fields head body) i
 
--- the content of slot i, if it is an index, is that of one of the dictionary's values. A list needs
--- this of the slots that it holds, a struct of its slot in each child, by `below`
-abbrev pub HasIndex : Layout → List Value → (ℕ → Type 0) → List ℕ → List ℕ → ℕ → Type 0
-HasIndex (l.Indices bits signed id) dictionary below offsets values i =
+-- every index in slot i, or in the children's slots that it owns (as in `TextsAreUtf8`), is that of
+-- one of the values of its dictionary; `below` states it of the children's slots
+abbrev pub IndicesHaveValues : Layout → List Value → (ℕ → Type 0) → List ℕ → List ℕ → ℕ → Type 0
+IndicesHaveValues (l.Indices bits signed id) dictionary below offsets values i =
     IsBelow (length dictionary) (number_in bits signed values i)
-HasIndex l.Lists dictionary below offsets values i = (j : ℕ) → offset_position offsets i ≤ j
-    → j < offset_position offsets (i + 1) → below j
-HasIndex (l.FixedLists size) dictionary below offsets values i = (j : ℕ) → size * i ≤ j
+IndicesHaveValues l.Lists dictionary below offsets values i = (j : ℕ)
+    → offset_position offsets i ≤ j → j < offset_position offsets (i + 1) → below j
+IndicesHaveValues (l.FixedLists size) dictionary below offsets values i = (j : ℕ) → size * i ≤ j
     → j < size * (i + 1) → below j
-HasIndex l.Structs dictionary below offsets values i = below i
-HasIndex l.Null dictionary below offsets values i = ⊤
-HasIndex l.Bits dictionary below offsets values i = ⊤
-HasIndex (l.Numbers bits signed) dictionary below offsets values i = ⊤
-HasIndex (l.FixedBytes width) dictionary below offsets values i = ⊤
-HasIndex (l.VariableBytes utf8) dictionary below offsets values i = ⊤
+IndicesHaveValues l.Structs dictionary below offsets values i = below i
+IndicesHaveValues l.Null dictionary below offsets values i = ⊤
+IndicesHaveValues l.Bits dictionary below offsets values i = ⊤
+IndicesHaveValues (l.Numbers bits signed) dictionary below offsets values i = ⊤
+IndicesHaveValues (l.FixedBytes width) dictionary below offsets values i = ⊤
+IndicesHaveValues (l.VariableBytes utf8) dictionary below offsets values i = ⊤
 
--- slot i of each column, if it is valid, holds only indices of dictionary values; a null slot and
--- what is below it are not read
+-- in each column every index in slot i, or in the children's slots that it owns, is that of a value
+-- of its dictionary, if the slot is valid; a null slot and what is below it are not read
 abbrev pub HoldsIndices : Columns → ℕ → Type 0
 HoldsIndices none i = ⊤
 HoldsIndices (column c children rest) i = (is_valid c.validity i ≡ true
-    → HasIndex c.layout c.dictionary (HoldsIndices children) c.offsets c.values i)
+    → IndicesHaveValues c.layout c.dictionary (HoldsIndices children) c.offsets c.values i)
     × HoldsIndices rest i
 
 -- the indices of each row are those of values in force
@@ -235,6 +237,6 @@ count_or_zero (pos n) = n
 count_or_zero (negsuc n) = 0
 
 -- how many slots all nodes have together
-abbrev pub slots_in : List (ℤ × ℤ) → ℕ
-slots_in [] = 0
-slots_in (node ∷ nodes) = count_or_zero node.0 + slots_in nodes
+abbrev pub total_slots : List (ℤ × ℤ) → ℕ
+total_slots [] = 0
+total_slots (node ∷ nodes) = count_or_zero node.0 + total_slots nodes

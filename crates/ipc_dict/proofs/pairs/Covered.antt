@@ -21,7 +21,7 @@ use Rattle.ipc_model.specs.declared.layout.Layout.{Layout}
 use Rattle.ipc_model.specs.declared.layout.Layout.TheVariants as l
 use Rattle.ipc_model.specs.Layouts.{layout, type_layout}
 use Rattle.ipc_column.specs.Shapes as shape
-use Rattle.ipc_column.specs.Shapes.{Shape, bare, field, shapes, field_shape, field_layout, field_children}
+use Rattle.ipc_column.specs.Shapes.{Shape, bare, field, shapes, field_shape, field_layout, child_shape}
 use Rattle.ipc_encode.specs.Cells.{is_null, cell, struct_member, all_items, all_fixed_items, all_parts}
 use Rattle.ipc_encode.specs.Buffers.{child_values, row_columns}
 use Rattle.ipc_encode.specs.Indices.{InColumn, InColumns, InRows}
@@ -187,7 +187,7 @@ module _ (Asked : IntBits → Bool → ℤ → Value → Type 0) where
     abbrev IsCovered : Field → Type 0
     IsCovered f = (depth : ℕ) → AllByRecursion (IsFieldWellFormed limits) (preorder f depth)
         → (vs : List Value) → Asks (of_field f) (items_pairs (pairs f) vs)
-        → InColumn Asked (field_layout f) vs × InColumns Asked (field_children f) (child_values (field_layout f) vs)
+        → InColumn Asked (field_layout f) vs × InColumns Asked (child_shape f) (child_values (field_layout f) vs)
 
     all_covered : (fs : List Field) → AllByRecursion IsCovered fs → (depth : ℕ)
         → AllByRecursion (IsFieldWellFormed limits) (all_at depth (map preorder fs)) → (given : ℕ → List Value)
@@ -224,7 +224,7 @@ module _ (Asked : IntBits → Bool → ℤ → Value → Type 0) where
     layer_covered y = λ depth fine vs asks.
         let z : Field-F Field = map-Field Shown Field (λ c. c.0) y in
         let formed : field_shape (roll-Field z) ≡ (layout z.kind z.dictionary, shapes (map field_shape z.children)) =
-        fold-roll-Field (Layout × Shape) shape.field_step z in
+        fold-roll-Field (Layout × Shape) shape.shape_step z in
         let listed : AllByRecursion (IsFieldWellFormed limits) (preorder_step (map-Field Field Listing preorder z) depth) =
         subst (λ (l : Listing). AllByRecursion (IsFieldWellFormed limits) (l depth)) (fold-roll-Field Listing preorder_step z) fine in
         let fitting : HasFittingChildren z.kind (length z.children) =

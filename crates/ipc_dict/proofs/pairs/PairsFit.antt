@@ -95,7 +95,7 @@ column_entry name kind = ap (λ (l : Listing). l 1) (fold-roll-Field Listing pre
 -- and one layout
 pub column_shape : (name : List ℕ) (kind : DataType) → shape_of (values_column name kind ∷ []) ≡ field (type_layout kind) bare bare
 column_shape name kind =
-    ap (λ (s : Layout × Shape). field s.0 s.1 bare) (fold-roll-Field (Layout × Shape) shape.field_step (column_parts name kind))
+    ap (λ (s : Layout × Shape). field s.0 s.1 bare) (fold-roll-Field (Layout × Shape) shape.shape_step (column_parts name kind))
 
 -- ---- the column that is found for an id
 

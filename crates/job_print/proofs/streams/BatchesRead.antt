@@ -9,10 +9,9 @@ use Rattle.ipc_model.specs.declared.fault.Fault.{Fault}
 use Rattle.ipc_model.specs.declared.value.Value.{Value}
 use Rattle.ipc_stream_read.specs.Found.{ReadRows, batch_rows}
 use Rattle.ipc_stream_read.specs.declared.end.End.{End}
-use Rattle.ipc_stream_read.specs.Reader.{StreamPhase}
 use Rattle.ipc_stream_read.specs.Reader.{Reading}
 use Rattle.ipc_stream_read.specs.Failures.{CountsFault}
-use Rattle.ipc_stream_read.specs.Reader.{EndsBehind, Reader, in_force_of, NextCall, end_of}
+use Rattle.ipc_stream_read.specs.Reader.{EndsAfter, Reader, in_force_of, NextCall, end_of}
 use Rattle.ipc_stream_read.specs.Stream.{batch, done}
 use Rattle.job_print.specs.declared.line_buffer.PrintFault.{PrintFault}
 use Rattle.job_print.specs.declared.line_buffer.PrintFault.TheVariants.{Write}
@@ -37,7 +36,7 @@ use Rattle.job_print.proofs.FrontPuts.{part_read}
 use Rattle.job_print.proofs.Lines.{put_at, not_at}
 use Rattle.job_print.proofs.streams.Messages.{Came, Counted, ReadsCounted, came, counted_then, broke, ended, ends_counted, gave, reads_then}
 use Rattle.job_print.proofs.texts.Texts.{batch_lines_more, last_lines_more}
-use Rattle.std.specs.Prelude.{Bool, IsTrue, false, true, unwrap_or}
+use Rattle.std.specs.Prelude.{Bool, IsTrue, false, true}
 use Rattle.ipc_stream_read.specs.declared.end.End.TheVariants.{Closed, Mark}
 use Rattle.ipc_model.specs.declared.fault.Fault.TheVariants.{Read, Truncated}
 use Rattle.ipc_stream_read.specs.Counts.{count_up, messages_in}
@@ -299,7 +298,7 @@ module _ (options : PrintOptions) (tally : PrintCounts) (old now new : Reader) (
       batches_cut fields found count v m [] Write wants is t works
       (not_at after v m _ _ Write (append-nil rows) (puts_not_then after (output w n k) v m rows [] Write p.1 q))
 
-  behind : (y : List ℕ) (r : Result End Fault) (h : EndsBehind now new y r)
+  behind : (y : List ℕ) (r : Result End Fault) (h : EndsAfter now new y r)
       → ReadsCounted old.limits (Some (in_force_of old)) (b.x ++ y) new.remaining (map batch b.batches) r
       (messages_in b.run + messages_in h.run)
   behind y r h =
@@ -309,7 +308,7 @@ module _ (options : PrintOptions) (tally : PrintCounts) (old now new : Reader) (
       (ends_counted now new y r h)))
 
   printed : (y : List ℕ) (r : Result End Fault) → Consumes now.remaining new.remaining y → new.taken ≡ count_up now.taken (length y)
-      → EndsBehind now new y r → PrintsRows options [] old new before after r
+      → EndsAfter now new y r → PrintsRows options [] old new before after r
   printed y r bytes more h = record {
     read = record {
       x = b.x ++ y;
@@ -325,26 +324,26 @@ module _ (options : PrintOptions) (tally : PrintCounts) (old now new : Reader) (
     sent = b.sent;
   }
 
-  ended_rows : (found : Option End) (e : End) → NextCall now new (Ok None) → found ≡ end_of new.phase → e ≡ unwrap_or found Closed
+  ended_rows : (found : Option End) (e : End) → NextCall now new (Ok None) → found ≡ end_of new.phase → found ≡ Some e
       → (rows : PrintsRows options [] old new before after (Ok e)) × IsTally tally rows.batches
   unfolding printed
   ended_rows found e t is given =
       let h = ended now new now.phase new.phase t.x b.reading t.gives in
-      let same : e ≡ h.0 =
-      given ∙ (ap (λ (o : Option End). unwrap_or o Closed) is ∙ ap (λ (q : StreamPhase). unwrap_or (end_of q) Closed) h.2) in
+      let both : Some e ≡ Some h.0 = sym given ∙ (is ∙ ap end_of h.2) in
+      let same : e ≡ h.0 = cc in
       subst (λ (e : End). (rows : PrintsRows options [] old new before after (Ok e)) × IsTally tally rows.batches) (sym same)
       (printed t.x (Ok h.0) t.bytes t.counted h.1, b.tallies)
 
   -- where the end is read after the batches that were printed, all rows of the stream were
   pub batches_end : (found : Option End) (e f : End) → NextCall now new (Ok None) → new.failures ≡ now.failures → found ≡ end_of new.phase
-      → e ≡ unwrap_or found Closed → as_required options.require_mark (Ok e) ≡ Ok f
+      → found ≡ Some e → as_required options.require_mark (Ok e) ≡ Ok f
       → PrintsBatches options [] old new before after (Ok (Whole e tally))
   batches_end found e f t works is given ends =
       (ended_rows found e t is given, marked options.require_mark e f ends, λ z. works ∙ (b.counts ∙ z))
 
   -- where it has no mark, that is the fault
   pub batches_unmarked : (found : Option End) (e : End) (f : Fault) → NextCall now new (Ok None) → new.failures ≡ now.failures
-      → found ≡ end_of new.phase → e ≡ unwrap_or found Closed → as_required options.require_mark (Ok e) ≡ Err f
+      → found ≡ end_of new.phase → found ≡ Some e → as_required options.require_mark (Ok e) ≡ Err f
       → PrintsBatches options [] old new before after (Ok (Broken f))
   batches_unmarked found e f t works is given ends = (
     Ok e,

@@ -14,7 +14,7 @@ use Rattle.ipc_stream_read.specs.declared.end.End.TheVariants.{Mark, Closed}
 use Rattle.ipc_stream_read.specs.Ends.{as_required}
 use Rattle.ipc_stream_read.specs.Failures.{CountsFault}
 use Rattle.ipc_stream_read.specs.Reasons.{EndsReading as BreaksOff, IsOutside, Reads}
-use Rattle.ipc_stream_read.specs.Stream.{State, Event, schema, Run, done, more, Denotes, events_of}
+use Rattle.ipc_stream_read.specs.Stream.{State, MessageEvent, schema, Run, done, more, Denotes, events_of}
 use Rattle.job_print.proofs.streams.Shortest.{one_message}
 use Rattle.ipc_stream_read.proofs.Reasons.{told_breaks}
 use Rattle.ipc_text_temporal.specs.declared.fault.TextFault.{TextFault}
@@ -31,8 +31,9 @@ use Rattle.job_print.proofs.streams.Held.{TellsRead, lacking_row}
 use Rattle.job_print.proofs.streams.Streams.{one_more, reads_opened}
 
 -- of two runs of messages over the same bytes, the events of one begin with those of the other
-fronts : {limits : Limits} → {σ τ υ : State} {x y : List ℕ} {es gs : List Event} (a b : List ℕ) → Run limits σ x es τ
-    → Run limits σ y gs υ → x ++ a ≡ y ++ b → ((rest : List Event) × (gs ≡ es ++ rest)) ⊎ ((rest : List Event) × (es ≡ gs ++ rest))
+fronts : {limits : Limits} → {σ τ υ : State} {x y : List ℕ} {es gs : List MessageEvent} (a b : List ℕ) → Run limits σ x es τ
+    → Run limits σ y gs υ → x ++ a ≡ y ++ b
+    → ((rest : List MessageEvent) × (gs ≡ es ++ rest)) ⊎ ((rest : List MessageEvent) × (es ≡ gs ++ rest))
 fronts {gs = gs} a b done q e = inl (gs, refl)
 fronts a b (more {es = es} {fs = hs} f p q) done e = inr (es ++ hs, refl)
 fronts {limits} a b (more {x = x} {y = y} {es = es} {fs = hs} f p q)
@@ -43,13 +44,13 @@ fronts {limits} a b (more {x = x} {y = y} {es = es} {fs = hs} f p q)
     (fronts a b q (subst (λ z. Run limits z y' hs' υ') (sym one.3) q') one.1)
 
 -- reading that breaks off at the bytes has reported the events of messages at their front, or the cause is outside of them
-breaks_after : {limits : Limits} → {σ τ υ : State} {x y : List ℕ} {es gs : List Event} (a z b : List ℕ) (fault : Fault)
+breaks_after : {limits : Limits} → {σ τ υ : State} {x y : List ℕ} {es gs : List MessageEvent} (a z b : List ℕ) (fault : Fault)
     → Run limits σ x es τ → Run limits σ y gs υ → BreaksOff limits υ z (Some b) fault → x ++ a ≡ y ++ (z ++ b)
-    → IsOutside fault ⊎ ((rest : List Event) × (gs ≡ es ++ rest))
+    → IsOutside fault ⊎ ((rest : List MessageEvent) × (gs ≡ es ++ rest))
 breaks_after {gs = gs} a z b fault done q r e = inr (gs, refl)
 breaks_after {limits} {σ = σ} {τ = τ} a z b fault (more {x = x} {y = y} {es = es} {fs = hs} f p q) done r e = by_events (es ++ hs) refl
   where
-    by_events : (all : List Event) → all ≡ es ++ hs → IsOutside fault ⊎ ((rest : List Event) × ([] ≡ (es ++ hs) ++ rest))
+    by_events : (all : List MessageEvent) → all ≡ es ++ hs → IsOutside fault ⊎ ((rest : List MessageEvent) × ([] ≡ (es ++ hs) ++ rest))
     by_events [] is = inr ([], is ∙ sym (append-nil (es ++ hs)))
     by_events (one ∷ others) is =
         inl (told_breaks a z b fault (more f p q) (λ none. let bad : one ∷ others ≡ [] = is ∙ none in absurd (cc)) done refl r e)
@@ -87,19 +88,19 @@ none_wanted limit batches (b ∷ bs) reached wanted =
 
 module _ {limits : Limits} (options : PrintOptions) (x rest : List ℕ) (t : Table) (h : ReachesLimit options limits x t) where
   -- a table whose events begin with those of t reaches the limit
-  reaches : (u : Table) (others : List Event) → events_of u ≡ events_of t ++ others → HasReached options.limit (row_count u.batches)
+  reaches : (u : Table) (others : List MessageEvent) → events_of u ≡ events_of t ++ others → HasReached options.limit (row_count u.batches)
   reaches u others is =
       let begins = table_begins u t others is in
       subst (λ (q : Table). HasReached options.limit (row_count q.batches)) (sym begins.1)
       (reached_more options.limit t.batches begins.0 h.reached)
 
   -- so no such table has fewer rows
-  not_below : (u : Table) (others : List Event) → events_of u ≡ events_of t ++ others → WantsMoreRows options.limit (row_count u.batches)
-      → ⊥
+  not_below : (u : Table) (others : List MessageEvent) → events_of u ≡ events_of t ++ others
+      → WantsMoreRows options.limit (row_count u.batches) → ⊥
   not_below u others is below = not_both options.limit (row_count u.batches) below (reaches u others is)
 
   -- a table up to the limit is this one
-  same_table : (others : List Event) (one two : Table) → events_of one ≡ events_of two ++ others
+  same_table : (others : List MessageEvent) (one two : Table) → events_of one ≡ events_of two ++ others
       → HasReached options.limit (row_count two.batches) → AreWanted options.limit one.batches → one ≡ two
   same_table others one two is reached wanted =
       let begins = table_begins one two others is in
@@ -126,7 +127,7 @@ module _ {limits : Limits} (options : PrintOptions) (x rest : List ℕ) (t : Tab
 
   -- a table that was read to its end begins with the events of t
   whole_begins : (new : Option (List ℕ)) (end : End) (u : Table) (y : List ℕ) → Consumes (Some (x ++ rest)) new y → Denotes limits y u end
-      → (end ≡ Closed → IsAtEnd new) → (others : List Event) × (events_of u ≡ events_of t ++ others)
+      → (end ≡ Closed → IsAtEnd new) → (others : List MessageEvent) × (events_of u ≡ events_of t ++ others)
   whole_begins None end u y bytes d closed = absurd bytes
   whole_begins (Some b) Mark u y bytes d closed =
       front_begins (y ++ b) x rest u (events_of t) h.state (holds_marked y b u d) (sym bytes) h.run

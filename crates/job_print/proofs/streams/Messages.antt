@@ -10,29 +10,30 @@ use Rattle.ipc_stream_read.specs.Reader.{Reading, Ended, Refused}
 use Rattle.ipc_stream_read.specs.Counts.{count_up, messages_in}
 use Rattle.ipc_stream_read.specs.Decoding.{ReportsLastEvent}
 use Rattle.ipc_stream_read.specs.Found.{ReadRows, batch_rows}
-use Rattle.ipc_stream_read.specs.Reader.{EndsBehind, LeadsTo, NextAnswer, Reader, in_force_of}
+use Rattle.ipc_stream_read.specs.Reader.{EndsAfter, LeadsTo, NextAnswer, Reader, in_force_of}
 use Rattle.ipc_stream_read.specs.Reasons.{Reads}
-use Rattle.ipc_stream_read.specs.Stream.{State, Event, batch, Run}
+use Rattle.ipc_stream_read.specs.Stream.{State, MessageEvent, batch, Run}
 use Rattle.ipc_stream_read.proofs.Runs.{run_one, run_then, messages_one, messages_then}
 
 -- a run of n messages
-abbrev pub Counted : Limits → State → List ℕ → List Event → State → ℕ → Type 0
+abbrev pub Counted : Limits → State → List ℕ → List MessageEvent → State → ℕ → Type 0
 Counted limits σ x es τ n = (r : Run limits σ x es τ) × (messages_in r ≡ n)
 
 -- a reading of n messages
-abbrev pub ReadsCounted : Limits → State → List ℕ → Option (List ℕ) → List Event → Result End Fault → ℕ → Type 0
+abbrev pub ReadsCounted : Limits → State → List ℕ → Option (List ℕ) → List MessageEvent → Result End Fault → ℕ → Type 0
 ReadsCounted limits σ x left es r n = (q : Reads limits σ x left es r) × (messages_in q.run ≡ n)
 
 -- messages, and others after them, are as many as both
-pub counted_then : {limits : Limits} → (σ τ υ : State) (x y : List ℕ) (es fs : List Event) (m n : ℕ) → Counted limits σ x es τ m
+pub counted_then : {limits : Limits} → (σ τ υ : State) (x y : List ℕ) (es fs : List MessageEvent) (m n : ℕ) → Counted limits σ x es τ m
     → Counted limits τ y fs υ n → Counted limits σ (x ++ y) (es ++ fs) υ (m + n)
 counted_then σ τ υ x y es fs m n run next =
     let both = messages_then σ τ υ x y es fs run.0 next.0 in
     (run_then σ τ υ x y es fs run.0 next.0, omega (arith, both, run.1, next.1))
 
 -- also where reading ends after the others
-pub reads_then : {limits : Limits} → (σ τ : State) (x y : List ℕ) (left : Option (List ℕ)) (es fs : List Event) (r : Result End Fault)
-    (m n : ℕ) → Counted limits σ x es τ m → ReadsCounted limits τ y left fs r n → ReadsCounted limits σ (x ++ y) left (es ++ fs) r (m + n)
+pub reads_then : {limits : Limits} → (σ τ : State) (x y : List ℕ) (left : Option (List ℕ)) (es fs : List MessageEvent)
+    (r : Result End Fault) (m n : ℕ)
+    → Counted limits σ x es τ m → ReadsCounted limits τ y left fs r n → ReadsCounted limits σ (x ++ y) left (es ++ fs) r (m + n)
 reads_then {limits} σ τ x y left es fs r m n run reads =
     let q = reads.0 in
     let all : Counted limits σ (x ++ q.whole) (es ++ fs) q.state (m + n) = counted_then σ τ q.state x q.whole es fs m n run (q.run, reads.1)
@@ -49,7 +50,7 @@ reads_then {limits} σ τ x y left es fs r m n run reads =
     )
 
 -- messages without an event, and one message with an event, are one more
-told_counted : {limits : Limits} → (σ τ : State) (x : List ℕ) (e : Event) (t : ReportsLastEvent limits σ x e τ)
+told_counted : {limits : Limits} → (σ τ : State) (x : List ℕ) (e : MessageEvent) (t : ReportsLastEvent limits σ x e τ)
     → Counted limits σ x (e ∷ []) τ (suc (messages_in t.run))
 told_counted {limits} σ τ x e t =
     let last = run_one t.report.frame t.report.step in
@@ -72,7 +73,7 @@ came now new x rows h = record {
 }
 
 -- the last messages, after which reading ended
-pub ends_counted : (now new : Reader) (x : List ℕ) (r : Result End Fault) (h : EndsBehind now new x r)
+pub ends_counted : (now new : Reader) (x : List ℕ) (r : Result End Fault) (h : EndsAfter now new x r)
     → ReadsCounted now.limits (Some (in_force_of now)) x new.remaining [] r (messages_in h.run)
 ends_counted now new x r h = (
   record {
@@ -96,7 +97,7 @@ gave now new (Ended e) q x found is h = absurd (cc)
 gave now new Refused q x found is h = absurd (cc)
 
 pub ended : (now new : Reader) (p q : StreamPhase) (x : List ℕ) → p ≡ Reading → NextAnswer now new p x (Ok None) q
-    → (e : End) × EndsBehind now new x (Ok e) × (q ≡ Ended e)
+    → (e : End) × EndsAfter now new x (Ok e) × (q ≡ Ended e)
 ended now new Reading Reading x is h = absurd h
 ended now new Reading (Ended e) x is h = (e, h, refl)
 ended now new Reading Refused x is h = absurd h
@@ -104,7 +105,7 @@ ended now new (Ended e) q x is h = absurd (cc)
 ended now new Refused q x is h = absurd (cc)
 
 pub broke : (now new : Reader) (p q : StreamPhase) (x : List ℕ) (f : Fault) → p ≡ Reading → NextAnswer now new p x (Err f) q
-    → EndsBehind now new x (Err f)
+    → EndsAfter now new x (Err f)
 broke now new Reading Reading x f is h = absurd h
 broke now new Reading (Ended e) x f is h = absurd h
 broke now new Reading Refused x f is h = h

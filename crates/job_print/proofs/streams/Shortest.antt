@@ -6,14 +6,15 @@ use Rattle.std.proofs.lemmas.List.{append-nil, append_cancel_left, nil_from_leng
 use Rattle.std.specs.BTreeMap.{insert_entry}
 use Rattle.std.specs.Ordering.{int_cmp, match_ordering}
 use Rattle.std.specs.declared.cmp.Ordering.TheVariants.{Less, Equal, Greater}
-use Rattle.ipc_frame.specs.Frames.{Frame}
+use Rattle.ipc_frame.specs.Frames.{Encapsulates}
 use Rattle.ipc_meta.specs.declared.head.Head.{Head}
 use Rattle.ipc_column.specs.Values.{first_of}
 use Rattle.ipc_model.specs.declared.limits.Limits.{Limits}
 use Rattle.ipc_model.specs.declared.schema.Schema.{Schema}
 use Rattle.ipc_frame.proofs.OneFrame.{frame_one}
 use Rattle.ipc_stream_read.specs.Decoding.{ReportsLastEvent}
-use Rattle.ipc_stream_read.specs.Stream.{DictionaryInForce, InForce, State, Event, schema, Step, first, came, sets}
+use Rattle.ipc_stream_read.specs.Stream.{DictionaryInForce, InForce, State, MessageEvent, schema, Step, schema_message, record_batch}
+use Rattle.ipc_stream_read.specs.Stream.{dictionary_batch}
 use Rattle.ipc_stream_read.specs.Stream.{Run, done, more, IsMessage}
 use Rattle.ipc_stream_read.proofs.OneReading.{step_one}
 use Rattle.ipc_stream_read.proofs.Runs.{run_then}
@@ -21,9 +22,9 @@ use Rattle.ipc_dict_read.specs.InForce.{put}
 use Rattle.job_print.specs.Streams.{AreShortest}
 
 -- of two messages with the same beginning the bytes, what follows them, the events and the state after them are the same
-pub one_message : {limits : Limits} → {σ τ υ : State} {x y m n body other : List ℕ} {g h : Head} {es fs : List Event} (a b : List ℕ)
-    → Frame limits x m g body → Step limits σ g body es τ → Frame limits y n h other → Step limits σ h other fs υ → x ++ a ≡ y ++ b
-    → (x ≡ y) × (a ≡ b) × (es ≡ fs) × (τ ≡ υ)
+pub one_message : {limits : Limits} → {σ τ υ : State} {x y m n body other : List ℕ} {g h : Head} {es fs : List MessageEvent} (a b : List ℕ)
+    → Encapsulates limits x m g body → Step limits σ g body es τ → Encapsulates limits y n h other → Step limits σ h other fs υ
+    → x ++ a ≡ y ++ b → (x ≡ y) × (a ≡ b) × (es ≡ fs) × (τ ≡ υ)
 one_message {limits} {σ = σ} {υ = υ} {x = x} {y = y} {m = m} {n = n} {body = body} {other = other} {g = g} {h = h} {fs = fs} a b f p k q e =
     let same = frame_one x y m n body other a b g h f k e in
     let step = step_one p (subst (λ z. Step limits σ z body fs υ) (sym same.same_head)
@@ -31,13 +32,13 @@ one_message {limits} {σ = σ} {υ = υ} {x = x} {y = y} {m = m} {n = n} {body =
     (same.same_bytes, same.same_rest, step.0, step.1)
 
 -- messages over the same bytes of which one reports the events of the other and more: they go on after those
-record GoesOn (limits : Limits) (x y : List ℕ) (τ υ : State) (events : List Event) : Type 0 where
+record GoesOn (limits : Limits) (x y : List ℕ) (τ υ : State) (events : List MessageEvent) : Type 0 where
   pub rest : List ℕ
   pub joined : y ≡ x ++ rest
   pub run : Run limits τ rest events υ
 
-run_on : {limits : Limits} → {σ τ υ : State} {x y : List ℕ} {es gs : List Event} (a b : List ℕ) (fs : List Event) → Run limits σ x es τ
-    → Run limits σ y gs υ → gs ≡ es ++ fs → fs ≢ [] → x ++ a ≡ y ++ b → GoesOn limits x y τ υ fs
+run_on : {limits : Limits} → {σ τ υ : State} {x y : List ℕ} {es gs : List MessageEvent} (a b : List ℕ) (fs : List MessageEvent)
+    → Run limits σ x es τ → Run limits σ y gs υ → gs ≡ es ++ fs → fs ≢ [] → x ++ a ≡ y ++ b → GoesOn limits x y τ υ fs
 run_on {limits} {σ = σ} {υ = υ} {y = y} a b fs done q is some e =
     record { rest = y; joined = refl; run = subst (λ gs. Run limits σ y gs υ) is q }
 run_on a b fs (more {es = es} {fs = hs} f p q) done is some e = absurd (some (nil_from_length fs (omega (
@@ -55,7 +56,7 @@ run_on {limits} a b fs (more {x = x} {y = y} {es = es} {fs = hs} f p q)
     record { rest = on.rest; joined = joined; run = on.run }
 
 -- messages whose events begin with those of one message begin with that message
-message_on : {limits : Limits} → {σ τ υ : State} {x y : List ℕ} {es gs : List Event} (a b : List ℕ) (fs : List Event)
+message_on : {limits : Limits} → {σ τ υ : State} {x y : List ℕ} {es gs : List MessageEvent} (a b : List ℕ) (fs : List MessageEvent)
     → IsMessage limits σ x es τ → es ≢ [] → Run limits σ y gs υ → gs ≡ es ++ fs → x ++ a ≡ y ++ b → GoesOn limits x y τ υ fs
 message_on {es = es} a b fs one some done is e = absurd (some (nil_from_length es (omega (arith, ap length is, length-append es fs))))
 message_on {limits} {τ = τ} a b fs message some (more {υ = υ'} {x = x'} {y = y'} {es = es'} {fs = hs'} f' p' q') is e =
@@ -78,7 +79,7 @@ pub none_shorter : {limits : Limits} → (σ : State) → AreShortest limits σ 
 none_shorter σ = λ y z τ is run. nil_from_length z (omega (arith, ap length is, length-append y z))
 
 -- messages that end with the one of their last event
-pub last_shortest : {limits : Limits} → (σ τ υ : State) (x y : List ℕ) (es : List Event) (e : Event) → Run limits σ x es τ
+pub last_shortest : {limits : Limits} → (σ τ υ : State) (x y : List ℕ) (es : List MessageEvent) (e : MessageEvent) → Run limits σ x es τ
     → ReportsLastEvent limits τ y e υ → AreShortest limits σ (x ++ y) (es ++ e ∷ [])
 last_shortest {limits} σ τ υ x y es e run t = λ u v ω is other.
     let front : Run limits σ (x ++ t.silent) es t.between =
@@ -102,35 +103,36 @@ some_put (e ∷ es) id v =
     elim (int_cmp id e.0) as (λ o. match_ordering o ((id, v) ∷ e ∷ es) ((e.0, v) ∷ es) (e ∷ insert_entry int_cmp es id v) ≢ [])
     [ Less ↦ λ none. absurd (cc) | Equal ↦ λ none. absurd (cc) | Greater ↦ λ none. absurd (cc) ]
 
-stays_set : {limits : Limits} → {σ τ : State} {x : List ℕ} {es : List Event} → Run limits σ x es τ → HasDictionary σ → HasDictionary τ
+stays_set : {limits : Limits} → {σ τ : State} {x : List ℕ} {es : List MessageEvent} → Run limits σ x es τ → HasDictionary σ
+    → HasDictionary τ
 unfolding HasDictionary
 stays_set done has = has
-stays_set (more f first q) has = absurd has
-stays_set (more f (came r) q) has = stays_set q has
-stays_set (more f (sets {o = o} {id = id} {body = body} {rows = rows} found r) q) has =
+stays_set (more f schema_message q) has = absurd has
+stays_set (more f (record_batch r) q) has = stays_set q has
+stays_set (more f (dictionary_batch {o = o} {id = id} {body = body} {rows = rows} found r) q) has =
     stays_set q (some_put o.dictionaries id (record { values = map first_of rows; bytes = length body }))
 
 -- messages without an event set dictionaries
-silent_none : {limits : Limits} → {σ τ : State} {x : List ℕ} {es : List Event} → Run limits σ x es τ → es ≡ [] → (HasDictionary τ → ⊥)
-    → x ≡ []
+silent_none : {limits : Limits} → {σ τ : State} {x : List ℕ} {es : List MessageEvent} → Run limits σ x es τ → es ≡ []
+    → (HasDictionary τ → ⊥) → x ≡ []
 unfolding HasDictionary
 silent_none done silent none = refl
-silent_none (more f first q) silent none = absurd (cc)
-silent_none (more f (came r) q) silent none = absurd (cc)
-silent_none (more f (sets {o = o} {id = id} {body = body} {rows = rows} found r) q) silent none =
+silent_none (more f schema_message q) silent none = absurd (cc)
+silent_none (more f (record_batch r) q) silent none = absurd (cc)
+silent_none (more f (dictionary_batch {o = o} {id = id} {body = body} {rows = rows} found r) q) silent none =
     absurd (none (stays_set q (some_put o.dictionaries id (record { values = map first_of rows; bytes = length body }))))
 
 -- no bytes are no message
-same_state : {limits : Limits} → {σ τ : State} {x : List ℕ} {es : List Event} → Run limits σ x es τ → x ≡ [] → σ ≡ τ
+same_state : {limits : Limits} → {σ τ : State} {x : List ℕ} {es : List MessageEvent} → Run limits σ x es τ → x ≡ [] → σ ≡ τ
 same_state done is = refl
 same_state (more {x = x} {y = y} f p q) is = absurd (omega (arith, f.prefix, length-append x y, ap length is))
 
 -- what is read of a stream before its first batch is one message, where no dictionary is in force
-one_opens : {limits : Limits} → {σ τ : State} {x : List ℕ} {es : List Event} → Run limits σ x es τ → (s : Schema) (p : InForce)
+one_opens : {limits : Limits} → {σ τ : State} {x : List ℕ} {es : List MessageEvent} → Run limits σ x es τ → (s : Schema) (p : InForce)
     → σ ≡ None → τ ≡ Some p → es ≡ schema s ∷ [] → p.dictionaries ≡ [] → IsMessage limits None x (schema s ∷ []) (Some p)
 unfolding HasDictionary
 one_opens done s p from to events none = absurd (cc)
-one_opens {limits} (more {υ = υ} {x = x} {metadata = m} {body = body} {y = y} {h = g} {fs = fs} f (first {s = t}) q) s p from to
+one_opens {limits} (more {υ = υ} {x = x} {metadata = m} {body = body} {y = y} {h = g} {fs = fs} f (schema_message {s = t}) q) s p from to
     events none =
     let silent : fs ≡ [] = cc in
     let head : schema t ≡ schema s = cc in
@@ -142,15 +144,15 @@ one_opens {limits} (more {υ = υ} {x = x} {metadata = m} {body = body} {y = y} 
       metadata = m;
       head = g;
       body = body;
-      frame = subst (λ z. Frame limits z m g body) (sym (append-nil x) ∙ ap (λ z. x ++ z) (sym empty)) f;
+      frame = subst (λ z. Encapsulates limits z m g body) (sym (append-nil x) ∙ ap (λ z. x ++ z) (sym empty)) f;
       step = subst (λ z. Step limits None g body (schema z ∷ []) (Some p)) same
-          (subst (λ z. Step limits None g body (schema t ∷ []) z) state first);
+          (subst (λ z. Step limits None g body (schema t ∷ []) z) state schema_message);
     }
-one_opens (more f (came r) q) s p from to events none = absurd (cc)
-one_opens (more f (sets found r) q) s p from to events none = absurd (cc)
+one_opens (more f (record_batch r) q) s p from to events none = absurd (cc)
+one_opens (more f (dictionary_batch found r) q) s p from to events none = absurd (cc)
 
 -- the message of a schema, and the shortest messages after it
-pub opened_shortest : {limits : Limits} → (s : Schema) (p : InForce) (x y : List ℕ) (es : List Event)
+pub opened_shortest : {limits : Limits} → (s : Schema) (p : InForce) (x y : List ℕ) (es : List MessageEvent)
     → Run limits None x (schema s ∷ []) (Some p) → p.dictionaries ≡ [] → AreShortest limits (Some p) y es
     → AreShortest limits None (x ++ y) (schema s ∷ es)
 opened_shortest s p x y es run none shortest = λ u v ω is other.

@@ -12,7 +12,7 @@ use Rattle.ipc_stream_read.specs.declared.end.End.{End}
 use Rattle.ipc_stream_read.specs.declared.end.End.TheVariants.{Mark, Closed}
 use Rattle.ipc_stream_read.specs.Reader.{Reader, in_force_of, Opens, OpenFails}
 use Rattle.ipc_stream_read.specs.Reasons.{Reads, Ends}
-use Rattle.ipc_stream_read.specs.Stream.{State, Event, schema, batch, initial_state, Run, Denotes, OpensStream, events_of}
+use Rattle.ipc_stream_read.specs.Stream.{State, MessageEvent, schema, batch, initial_state, Run, Denotes, OpensStream, events_of}
 use Rattle.ipc_model.specs.declared.fault.WriteFault.{WriteFault}
 use Rattle.ipc_model.specs.Numbering.{write_fault_status}
 use Rattle.ipc_text_temporal.specs.declared.fault.TextFault.{TextFault}
@@ -65,7 +65,7 @@ at_end limits σ rest left Closed e is = e.2
 
 -- the events of a table with one batch more
 pub one_more : (t : Table) (rows : BatchRows) → schema t.schema ∷ map batch (t.batches ++ rows ∷ []) ≡ events_of t ++ batch rows ∷ []
-one_more t rows = ap (λ (es : List Event). schema t.schema ∷ es) (map-append batch t.batches (rows ∷ []))
+one_more t rows = ap (λ (es : List MessageEvent). schema t.schema ∷ es) (map-append batch t.batches (rows ∷ []))
 
 -- why rows weren't printed is no refusal
 pub no_refusal : (why : PrintFault) → write_fault_status (write_fault why) ≢ 1
@@ -118,7 +118,7 @@ module _ {limits : Limits} (options : PrintOptions) (old : Option (List ℕ)) (s
   rows_refused fault r =
       let whole : Table = record { schema = s.schema; batches = r.batches } in
       refused (o.x ++ r.x) whole r.last r.count r.state (Consumes-trans old s.remaining t.remaining o.x r.x o.bytes r.bytes)
-      (subst (λ (es : List Event). Run limits None (o.x ++ r.x) es r.state) (one_more whole r.last)
+      (subst (λ (es : List MessageEvent). Run limits None (o.x ++ r.x) es r.state) (one_more whole r.last)
       (run_then None (Some (in_force_of s)) r.state o.x r.x (schema s.schema ∷ []) (map batch (r.batches ++ r.last ∷ [])) o.run
       (subst (λ l. Run l (Some (in_force_of s)) r.x (map batch (r.batches ++ r.last ∷ [])) r.state) o.same_limits r.run)))
       r.below r.have r.refuses (grows_appends w0 w1 _ r.puts.bytes)
@@ -247,7 +247,7 @@ stopped_part {limits} options old new w0 w1 fault (refused x t rows count σ byt
     subst (λ (rs : List (List Value)). Appends w0 w1 (start ++ (batch_heading form rows.pairs ++ lines line rs))) (sym fewer) text in
     some x [] rest [] (record { schema = t.schema; batches = t.batches ++ rows ∷ [] }) σ
     (subst (λ (z : List ℕ). Consumes old new z) (sym (append-nil x)) bytes)
-    (subst (λ (es : List Event). Run limits None x es σ) (sym (one_more t rows)) run)
+    (subst (λ (es : List MessageEvent). Run limits None x es σ) (sym (one_more t rows)) run)
     (wanted_within options.limit _ (wanted_more options.limit t.batches rows wants)) (inl refl)
     (subst (λ (z : List ℕ). AppendsText w0 [] w1 rest z)
     (sym (batches_rest line (batch_heading form) (front_text form t.schema) t.batches first count)

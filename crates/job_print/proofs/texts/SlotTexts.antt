@@ -17,7 +17,7 @@ use Rattle.ipc_column.specs.Columns.{Columns, EachTop}
 use Rattle.ipc_column.specs.Lent.{without_null_count}
 use Rattle.ipc_column.specs.Nested.{Nested, child_columns, slot_values}
 use Rattle.ipc_column.specs.Slots.{nested, nested_in, value_in_slot}
-use Rattle.ipc_column.specs.Values.{first_of, items, row, value_of}
+use Rattle.ipc_column.specs.Values.{first_of, values_from, row, value_of}
 use Rattle.ipc_column.specs.Views.{part_columns, column_of, children_of}
 use Rattle.ipc_column.proofs.visited.Leads.{slot_shows}
 use Rattle.ipc_column.proofs.Parts.{children_out}
@@ -39,7 +39,7 @@ open_slot child_columns i (slot.Int number) = Value-F.Int number
 open_slot child_columns i (slot.UInt number) = Value-F.UInt number
 open_slot child_columns i (slot.Bytes bytes) = Value-F.Bytes bytes.now
 open_slot child_columns i (slot.Text text) = Value-F.Text text.now
-open_slot child_columns i (slot.List from to) = Value-F.List (items (λ j. first_of (child_columns j)) from (to - from))
+open_slot child_columns i (slot.List from to) = Value-F.List (values_from (λ j. first_of (child_columns j)) from (to - from))
 open_slot child_columns i slot.Struct = Value-F.Struct (child_columns i)
 
 out_slot : (child_columns : ℕ → List Value) (i : ℕ) (s : Slot) → out-Value (value_in_slot child_columns i s) ≡ open_slot child_columns i s
@@ -50,7 +50,7 @@ out_slot child_columns i (slot.UInt number) = ap out-Value (sym (v.rolls-UInt nu
 out_slot child_columns i (slot.Bytes bytes) = ap out-Value (sym (v.rolls-Bytes bytes.now)) ∙ out-roll-Value (Value-F.Bytes bytes.now)
 out_slot child_columns i (slot.Text text) = ap out-Value (sym (v.rolls-Text text.now)) ∙ out-roll-Value (Value-F.Text text.now)
 out_slot child_columns i (slot.List from to) =
-    let vs = items (λ j. first_of (child_columns j)) from (to - from) in
+    let vs = values_from (λ j. first_of (child_columns j)) from (to - from) in
     ap out-Value (sym (v.rolls-List vs)) ∙ out-roll-Value (Value-F.List vs)
 out_slot child_columns i slot.Struct = ap out-Value (sym (v.rolls-Struct (child_columns i)))
     ∙ out-roll-Value (Value-F.Struct (child_columns i))
@@ -95,7 +95,7 @@ child_value body p j m =
     ap (λ (cs : Columns). value_of (row cs) (column_of body p) j) (children_out body p)
     ∙ sym (get_or_from_slice_get (slot_values n) j _ v.Null at)
 
-items_same : (f g : ℕ → Value) (i n : ℕ) → ((j : ℕ) → i ≤ j → j < i + n → f j ≡ g j) → items f i n ≡ items g i n
+items_same : (f g : ℕ → Value) (i n : ℕ) → ((j : ℕ) → i ≤ j → j < i + n → f j ≡ g j) → values_from f i n ≡ values_from g i n
 items_same f g i zero h = refl
 items_same f g i (suc n) h =
     let first = h i (omega arith) (omega arith) in
@@ -105,14 +105,15 @@ items_same f g i (suc n) h =
 -- the first child of a list has its values
 list_first : (body : List ℕ) (ps : List ColumnRanges) (child : Nested) (from to : ℕ) → slice_get (map (nested body) ps) 0 ≡ Some child
     → from ≤ to → EachTop (λ c. to ≤ c.slots) (part_columns body ps)
-    → (items (λ j. first_of (row (part_columns body ps) j)) from (to - from) ≡ values_between child from (to - from))
+    → (values_from (λ j. first_of (row (part_columns body ps) j)) from (to - from) ≡ values_between child from (to - from))
     × (from + (to - from) ≤ length (slot_values child))
 list_first body [] child from to e o h = absurd (none-some child e)
 list_first body (p ∷ ps) child from to e o h =
     let same : nested body p ≡ child = some_same _ _ e in
     let size = slots_length body p in
     let most = h.0 in
-    subst (λ (c : Nested). (items (λ j. first_of (row (part_columns body (p ∷ ps)) j)) from (to - from) ≡ values_between c from (to - from))
+    subst (λ (c : Nested). (values_from (λ j. first_of (row (part_columns body (p ∷ ps)) j)) from (to - from)
+    ≡ values_between c from (to - from))
     × (from + (to - from) ≤ length (slot_values c))) same (
       items_same (λ j. first_of (row (part_columns body (p ∷ ps)) j)) (slot_value (nested body p)) from (to - from)
           (λ j a b. child_value body p j (omega (arith, most, o, b))),
@@ -128,7 +129,7 @@ pub list_nulls : (n : Nested) (from to : ℕ) → length n.children ≡ 0 → li
 list_nulls n from to e = nulls n.children e from (to - from)
   where
     nulls : (ps : List ColumnRanges) → length ps ≡ 0 → (i k : ℕ)
-        → items (λ j. first_of (row (part_columns n.body ps) j)) i k ≡ replicate k v.Null
+        → values_from (λ j. first_of (row (part_columns n.body ps) j)) i k ≡ replicate k v.Null
     nulls [] e i zero = refl
     nulls [] e i (suc k) = ap (λ (vs : List Value). v.Null ∷ vs) (nulls [] e (i + 1) k)
     nulls (p ∷ ps) e i k = absurd (omega (arith, e))

@@ -2,7 +2,7 @@ use Rattle.std.proofs.Common.{◌∙◌, sym, ap, subst, Some, arith, rules, ◌
 use Rattle.std.proofs.lemmas.List.{take_all}
 use Rattle.ipc_model.specs.declared.value.Value.{Value}
 use Rattle.ipc_column.specs.declared.ranges.ColumnRanges.TheViews.{the_lemmas}
-use Rattle.ipc_column.specs.Values.{row, items, first_at}
+use Rattle.ipc_column.specs.Values.{row, values_from, first_at}
 use Rattle.ipc_column.specs.Views.{part_columns}
 use Rattle.ipc_column.proofs.Cells.{row_cell, row_more, row_length, items_more}
 use Rattle.ipc_column.proofs.lending.Slots.{slot_value}
@@ -24,7 +24,7 @@ read_items-loop-at-preserved t c =
     let f = first_at (part_columns c.args.body.now c.args.parts.now) in
     c.in_ok-push.ensures.items
     ∙ (ap (λ (xs : List Value). xs ++ c.in_ok-read_first.field-0 ∷ []) c.loop-at.invariant
-    ∙ (ap (λ (v : Value). items f c.args.from c.loop-at.at ++ v ∷ []) c.in_ok-read_first.ensures
+    ∙ (ap (λ (v : Value). values_from f c.args.from c.loop-at.at ++ v ∷ []) c.in_ok-read_first.ensures
     ∙ sym (items_more f c.args.from c.loop-at.at)))
 
 pub read_slot-read_items-requires : goal.read_slot-read_items-requires

@@ -3,7 +3,7 @@ use Rattle.std.proofs.lemmas.Result.{err_from_is_err_and, on_ok_weaker, IfErr-we
 use Rattle.ipc_model.specs.declared.value.Value.{Value}
 use Rattle.ipc_column.specs.Nested.{only_column, slot_values}
 use Rattle.ipc_column.specs.checks.Rules.{HasUtf8Texts}
-use Rattle.ipc_column.specs.Shapes.{bare, field, field_children, field_layout, field_shape}
+use Rattle.ipc_column.specs.Shapes.{bare, field, child_shape, field_layout, field_shape}
 use Rattle.ipc_encode.specs.Cells.{cells}
 use Rattle.ipc_encode.specs.Numbers.{new_indices, index_or_zero}
 use Rattle.ipc_encode.specs.Segments.{AddsColumns, AreRefusedAfter}
@@ -25,7 +25,7 @@ returns-then-has_field_layout-clause-adds g c =
     let same = column_cells c.args.batch.now.rows c.args.column c.column.result c.column.ensures ∙ sym c.slots-view.ensures.values in
     on_ok_weaker c.add_whole.result
     (λ h. subst (λ (vs : List Value). AddsColumns c.args.limits.now known
-    (field (field_layout c.args.field.now) (field_children c.args.field.now) bare) (λ j. vs) c.args.draft.now c.add_whole.new.draft)
+    (field (field_layout c.args.field.now) (child_shape c.args.field.now) bare) (λ j. vs) c.args.draft.now c.add_whole.new.draft)
     (sym same) h)
     (c.add_whole.ensures.adds known)
 
@@ -34,7 +34,7 @@ returns-then-has_field_layout-clause-refused g c =
     let same = column_cells c.args.batch.now.rows c.args.column c.column.result c.column.ensures ∙ sym c.slots-view.ensures.values in
     IfErr-weaker c.add_whole.result _ _
     (λ fault h. subst (λ (vs : List Value). AreRefusedAfter c.args.limits.now c.args.draft.now.len
-    (field (field_layout c.args.field.now) (field_children c.args.field.now) bare) (λ j. vs) fault) (sym same) h)
+    (field (field_layout c.args.field.now) (child_shape c.args.field.now) bare) (λ j. vs) fault) (sym same) h)
     c.add_whole.ensures.refused
 
 -- ---- built anew

@@ -4,7 +4,7 @@ use Rattle.ipc_model.specs.declared.layout.Layout.{Layout}
 use Rattle.ipc_model.specs.declared.schema.Field.{Field, out-Field}
 use Rattle.ipc_model.specs.declared.schema.Field.TheFolds.{fold_out-Field}
 use Rattle.ipc_model.specs.Layouts.{layout}
-use Rattle.ipc_column.specs.Shapes.{Shape, field_shape, field_step, shape_of}
+use Rattle.ipc_column.specs.Shapes.{Shape, field_shape, shape_step, shape_of}
 use Rattle.ipc_encode.specs.Built.{IsColumn, HoldColumns}
 use Rattle.ipc_encode.proofs.Steps.{laid_as}
 use Rattle.ipc_encode.proofs.Growing.{node_is, node_more, below_nothing}
@@ -12,7 +12,7 @@ use Rattle.ipc_encode.proofs.tree.+new.Goals as goal
 
 -- the layout and the children of a field
 step : (f : Field) → field_shape f ≡ (layout (out-Field f).kind (out-Field f).dictionary, shape_of (out-Field f).children)
-step f = fold_out-Field (Layout × Shape) field_step f
+step f = fold_out-Field (Layout × Shape) shape_step f
 
 pub new_node-returns : goal.new_node-returns
 new_node-returns t c = λ known limits.

@@ -6,7 +6,7 @@ use Rattle.ipc_model.specs.declared.schema.Field.{Field}
 use Rattle.ipc_model.specs.declared.schema.Field.TheViews.{the_lemmas}
 use Rattle.ipc_model.specs.declared.value.Value.{Value}
 use Rattle.ipc_column.specs.Nested.{slot_values}
-use Rattle.ipc_column.specs.Shapes.{Shape, bare, field, field_children, field_layout, shape_of}
+use Rattle.ipc_column.specs.Shapes.{Shape, bare, field, child_shape, field_layout, shape_of}
 use Rattle.ipc_column.specs.Slots.{nested, nested_in}
 use Rattle.ipc_encode.specs.Buffers.{child_values}
 use Rattle.ipc_encode.specs.WholeColumns.{AreFullColumns, IsFullColumn, IsLaidOutAs}
@@ -28,10 +28,10 @@ add_whole-add_children-requires t c =
     let view = c.args.view.now in
     let values = slot_values view in
     let of = c.args.field.now in
-    let inner : field_children of ≡ shape_of c.as_slice.result.now =
+    let inner : child_shape of ≡ shape_of c.as_slice.result.now =
     ap (λ (s : Layout × Shape). s.1) (field_parts of) ∙ sym (ap (λ (fs : List Field). shape_of fs) c.as_slice.ensures) in
     let whole = subst (λ (s : Shape). AreFullColumns s (nested_in view) (child_values view.column.layout values)) inner
-    (subst (λ (x : Layout). AreFullColumns (field_children of) (nested_in view) (child_values x values)) (sym c.requires.whole.0.laid)
+    (subst (λ (x : Layout). AreFullColumns (child_shape of) (nested_in view) (child_values x values)) (sym c.requires.whole.0.laid)
     c.requires.whole.1) in
     (search (rules, the_lemmas), (whole, (c.in_ok-add_own.ensures.adds no_indices).body))
 
@@ -41,7 +41,7 @@ add_whole-returns-in_err-add_own-clause-refused t c =
     let of = c.args.field.now in
     let fault = c.in_err-add_own.field-0.0 in
     let p = err_from_is_err_and c.from_residual.result c.from_residual.ensures.1 in
-    rw (p.1, p.2) (own_refused_after c.args.limits.now c.args.draft.now.len (field_layout of) (field_children of) values fault
+    rw (p.1, p.2) (own_refused_after c.args.limits.now c.args.draft.now.len (field_layout of) (child_shape of) values fault
     (subst (λ (x : Layout). AreRefusedAfter c.args.limits.now c.args.draft.now.len (field x bare bare) (λ j. values) fault)
     c.layout_at.ensures c.in_err-add_own.ensures.refused))
 
@@ -56,11 +56,11 @@ add_whole-returns-clause-adds t c = λ known.
     let e = c.add_children.new.draft in
     let own = subst (λ (x : Layout). AddsColumns limits known (field x bare bare) (λ j. values) d mid) c.layout_at.ensures
     (c.in_ok-add_own.ensures.adds known) in
-    let inner : shape_of c.as_slice.result.now ≡ field_children of =
+    let inner : shape_of c.as_slice.result.now ≡ child_shape of =
     ap (λ (fs : List Field). shape_of fs) c.as_slice.ensures ∙ sym (ap (λ (s : Layout × Shape). s.1) (field_parts of)) in
     on_ok_weaker c.add_children.result
-    (λ h. with_children limits known (field_layout of) (field_children of) values d mid e own
-    (subst (λ (x : Layout). AddsColumns limits known (field_children of) (child_values x values) mid e) c.requires.whole.0.laid
+    (λ h. with_children limits known (field_layout of) (child_shape of) values d mid e own
+    (subst (λ (x : Layout). AddsColumns limits known (child_shape of) (child_values x values) mid e) c.requires.whole.0.laid
     (subst (λ (s : Shape). AddsColumns limits known s (child_values view.column.layout values) mid e) inner h)))
     (c.add_children.ensures.adds known)
 
@@ -74,11 +74,11 @@ add_whole-returns-clause-refused t c =
     let mid = c.add_own.new.draft in
     let own = subst (λ (x : Layout). AddsColumns limits no_indices (field x bare bare) (λ j. values) d mid) c.layout_at.ensures
     (c.in_ok-add_own.ensures.adds no_indices) in
-    let inner : shape_of c.as_slice.result.now ≡ field_children of =
+    let inner : shape_of c.as_slice.result.now ≡ child_shape of =
     ap (λ (fs : List Field). shape_of fs) c.as_slice.ensures ∙ sym (ap (λ (s : Layout × Shape). s.1) (field_parts of)) in
     IfErr-weaker c.add_children.result _ _
-    (λ fault h. children_refused limits no_indices (field_layout of) (field_children of) values d mid fault own
-    (subst (λ (x : Layout). AreRefusedAfter limits mid.len (field_children of) (child_values x values) fault) c.requires.whole.0.laid
+    (λ fault h. children_refused limits no_indices (field_layout of) (child_shape of) values d mid fault own
+    (subst (λ (x : Layout). AreRefusedAfter limits mid.len (child_shape of) (child_values x values) fault) c.requires.whole.0.laid
     (subst (λ (s : Shape). AreRefusedAfter limits mid.len s (child_values view.column.layout values) fault) inner h)))
     c.add_children.ensures.refused
 
@@ -98,10 +98,10 @@ pub add_children-add_whole-requires : goal.add_children-add_whole-requires
 add_children-add_whole-requires t c =
     let of = c.index-fields-i.result in
     let child = c.child-child.result in
-    let whole = whole_at c.loop-i.i (shape_of c.args.fields.now) (nested_in c.args.view.now) _ (field_layout of) (field_children of) child
+    let whole = whole_at c.loop-i.i (shape_of c.args.fields.now) (nested_in c.args.view.now) _ (field_layout of) (child_shape of) child
     (shape_in c.args.fields.now c.loop-i.i of (omega (arith, c.loop-i-test.true)) c.index-fields-i.is)
     c.child-child.ensures c.requires.whole in
-    let own = subst (λ (vs : List Value). IsFullColumn (field_layout of) (field_children of) child vs) (sym whole.0.shows) whole in
+    let own = subst (λ (vs : List Value). IsFullColumn (field_layout of) (child_shape of) child vs) (sym whole.0.shows) whole in
     (search (rules, the_lemmas), (own, (c.loop-i.invariant no_indices).body))
 
 pub add_children-loop-i-preserved : goal.add_children-loop-i-preserved
@@ -112,11 +112,11 @@ add_children-loop-i-preserved t c = λ known.
     let shape = shape_of c.args.fields.now in
     let given = child_values c.args.view.now.column.layout (slot_values c.args.view.now) in
     let at = shape_in c.args.fields.now c.loop-i.i of (omega (arith, c.loop-i-test.true)) c.index-fields-i.is in
-    let whole = whole_at c.loop-i.i shape (nested_in c.args.view.now) given (field_layout of) (field_children of) child
+    let whole = whole_at c.loop-i.i shape (nested_in c.args.view.now) given (field_layout of) (child_shape of) child
     at c.child-child.ensures c.requires.whole in
-    let one = subst (λ (vs : List Value). AddsColumns limits known (field (field_layout of) (field_children of) bare) (λ j. vs)
+    let one = subst (λ (vs : List Value). AddsColumns limits known (field (field_layout of) (child_shape of) bare) (λ j. vs)
     c.loop-i.draft c.add_whole.new.draft) whole.0.shows (c.in_ok-add_whole.ensures.adds known) in
-    rw add-one (columns_next limits known c.loop-i.i shape given (field_layout of) (field_children of) c.args.draft.now c.loop-i.draft
+    rw add-one (columns_next limits known c.loop-i.i shape given (field_layout of) (child_shape of) c.args.draft.now c.loop-i.draft
     c.add_whole.new.draft at (c.loop-i.invariant known) one)
 
 pub add_children-returns-in_err-add_whole-clause-refused : goal.add_children-returns-in_err-add_whole-clause-refused
@@ -127,13 +127,13 @@ add_children-returns-in_err-add_whole-clause-refused t c =
     let shape = shape_of c.args.fields.now in
     let given = child_values c.args.view.now.column.layout (slot_values c.args.view.now) in
     let at = shape_in c.args.fields.now c.loop-i.i of (omega (arith, c.loop-i-test.true)) c.index-fields-i.is in
-    let whole = whole_at c.loop-i.i shape (nested_in c.args.view.now) given (field_layout of) (field_children of) child
+    let whole = whole_at c.loop-i.i shape (nested_in c.args.view.now) given (field_layout of) (child_shape of) child
     at c.child-child.ensures c.requires.whole in
     let fault = c.in_err-add_whole.field-0.0 in
-    let one = subst (λ (vs : List Value). AreRefusedAfter limits c.loop-i.draft.len (field (field_layout of) (field_children of) bare)
+    let one = subst (λ (vs : List Value). AreRefusedAfter limits c.loop-i.draft.len (field (field_layout of) (child_shape of) bare)
     (λ j. vs) fault) whole.0.shows c.in_err-add_whole.ensures.refused in
     let p = err_from_is_err_and c.from_residual.result c.from_residual.ensures.1 in
-    rw (p.1, p.2) (columns_refused limits no_indices c.loop-i.i shape given (field_layout of) (field_children of) c.args.draft.now
+    rw (p.1, p.2) (columns_refused limits no_indices c.loop-i.i shape given (field_layout of) (child_shape of) c.args.draft.now
     c.loop-i.draft fault at (c.loop-i.invariant no_indices) one)
 
 pub add_children-returns-clause-adds : goal.add_children-returns-clause-adds

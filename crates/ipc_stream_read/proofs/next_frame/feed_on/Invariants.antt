@@ -1,6 +1,7 @@
 use Rattle.std.proofs.Common.{◌+◌, ◌-◌, length}
 use Rattle.ipc_frame.specs.Parts.{GrowsWithBytes}
-use Rattle.ipc_stream_read.specs.Decoding.{kept_bytes}
+use Rattle.ipc_frame.specs.Pieces.{held_of}
+use Rattle.ipc_stream_read.specs.Decoding.{progress_at}
 use Rattle.ipc_stream_read.specs.StreamStates.{IsSound, decoding_of}
 use Rattle.ipc_stream_read.proofs.Feeding.{Feeding}
 use Rattle.ipc_stream_read.proofs.next_frame.feed_on.Given as goal
@@ -11,4 +12,4 @@ invariant-loop-count l =
     × GrowsWithBytes l.fn.frames.room l.frames.room 0
 
 abbrev pub decreases-loop-count : goal.decreases-loop-count
-decreases-loop-count l = kept_bytes (decoding_of l.frames l.stream).stage + (length l.piece - l.taken)
+decreases-loop-count l = held_of (progress_at (decoding_of l.frames l.stream).stage) + (length l.piece - l.taken)

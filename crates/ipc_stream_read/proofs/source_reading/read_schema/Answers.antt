@@ -1,27 +1,21 @@
-use Rattle.std.proofs.Common.{◌∙◌, ap, Ok, Some}
+use Rattle.std.proofs.Common.{ap, sym, subst, refl, Ok}
+use Rattle.std.specs.Prelude.{IsSome}
 use Rattle.std.proofs.lemmas.Result.{err_from_is_err_and}
-use Rattle.ipc_stream_read.proofs.Nexts.{batch_first, mark_first, nothing_first, schema_broken, schema_read, pulls_at}
+use Rattle.ipc_stream_read.proofs.Nexts.{pulls_at, schema_broken, schema_first, schema_read}
 use Rattle.ipc_stream_read.proofs.source_reading.read_schema.Goals as goal
 
-pub returns-in-Some-Schema-clause-schema : goal.returns-in-Some-Schema-clause-schema
-returns-in-Some-Schema-clause-schema g c =
+pub returns-clause-schema : goal.returns-clause-schema
+returns-clause-schema g c =
+    let first = schema_first _ _ _ _ _ _ c.pull.ensures.limits c.requires.fresh c.requires.none c.in_ok-pull.field-0
+    c.in_ok-pull.ensures.pulled in
     schema_read _ _ _ _ _ _ c.pull.ensures.limits c.requires.fresh c.requires.none
-    (pulls_at _ _ _ _ _ _ _ _ (ap Ok (c.in-Some-Schema.is ∙ ap Some c.in-Some-Schema.field-0-is)) c.in_ok-pull.ensures.pulled)
+    (pulls_at _ _ _ _ _ _ _ _ (ap Ok first) c.in_ok-pull.ensures.pulled)
 
-pub returns-in-None-clause-schema : goal.returns-in-None-clause-schema
-returns-in-None-clause-schema g c =
-    absurd (nothing_first _ _ _ _ _ _ c.pull.ensures.limits c.requires.fresh c.requires.none
-    (pulls_at _ _ _ _ _ _ _ _ (ap Ok c.in-None.is) c.in_ok-pull.ensures.pulled))
-
-pub returns-in-Some-Batch-clause-schema : goal.returns-in-Some-Batch-clause-schema
-returns-in-Some-Batch-clause-schema g c =
-    absurd (batch_first _ _ _ _ _ _ c.pull.ensures.limits c.requires.fresh c.requires.none c.in-Some-Batch._batch c.in-Some-Batch._pairs
-    (pulls_at _ _ _ _ _ _ _ _ (ap Ok (c.in-Some-Batch.is ∙ ap Some c.in-Some-Batch.field-0-is)) c.in_ok-pull.ensures.pulled))
-
-pub returns-in-Some-End-clause-schema : goal.returns-in-Some-End-clause-schema
-returns-in-Some-End-clause-schema g c =
-    absurd (mark_first _ _ _ _ _ _ c.pull.ensures.limits c.requires.fresh c.requires.none
-    (pulls_at _ _ _ _ _ _ _ _ (ap Ok (c.in-Some-End.is ∙ ap Some c.in-Some-End.field-0-is)) c.in_ok-pull.ensures.pulled))
+pub returns-clause-fewer : goal.returns-clause-fewer
+returns-clause-fewer g c =
+    let first = schema_first _ _ _ _ _ _ c.pull.ensures.limits c.requires.fresh c.requires.none c.in_ok-pull.field-0
+    c.in_ok-pull.ensures.pulled in
+    c.in_ok-pull.ensures.fewer (subst IsSome (sym first) refl)
 
 pub returns-in_err-pull-clause-schema : goal.returns-in_err-pull-clause-schema
 returns-in_err-pull-clause-schema g c =

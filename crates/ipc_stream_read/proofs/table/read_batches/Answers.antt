@@ -15,10 +15,10 @@ returns-in_err-pull-clause-batches g c =
     rw (p.1, p.2) (batches_broken _ _ _ _ _ _ _ _ _ _ _ c.loop-batches.invariant c.pull.ensures.limits c.in_err-pull.field-0.0
     c.in_err-pull.ensures.pulled)
 
-pub returns-in-Some-Schema-clause-batches : goal.returns-in-Some-Schema-clause-batches
-returns-in-Some-Schema-clause-batches g c =
+pub unreachable-requires : goal.unreachable-requires
+unreachable-requires g c =
     let p = pulls_at _ _ _ _ _ _ _ _ (ap Ok (c.in-Some-Schema.is ∙ ap Some c.in-Some-Schema.field-0-is)) c.in_ok-pull.ensures.pulled in
-    absurd (no_second _ _ _ c.loop-batches.invariant.still_open p.gives)
+    no_second _ _ _ c.loop-batches.invariant.still_open p.gives
 
 pub returns-in_err-keep_batch-in-Some-Batch-clause-batches :
     goal.returns-in_err-keep_batch-in-Some-Batch-clause-batches

@@ -9,13 +9,12 @@ returns-in_err-batches-clause-table g c =
     rw (p.1, p.2) (table_broken _ _ _ _ _ _ _ _ c.new-decoder.ensures.limits c.in_ok-read_schema.ensures.schema
     c.in_err-batches.field-0.0 c.in_err-batches.ensures.batches)
 
-pub returns-in-Some-clause-table : goal.returns-in-Some-clause-table
-returns-in-Some-clause-table g c =
+pub returns-clause-table : goal.returns-clause-table
+returns-clause-table g c =
     table_read _ _ _ _ _ _ _ _ c.new-decoder.ensures.limits c.in_ok-read_schema.ensures.schema c.in_ok-batches.batches
-    c.in_ok-batches.end c.in-Some.schema
-    (schema_is _ _ (g.R.Source.remaining c.args.source.now) _ _ _ _ _ c.new-decoder.ensures.limits c.in_ok-read_schema.ensures.schema _
-    c.in-Some.schema
-    (sym c.into_schema.ensures ∙ c.in-Some.is) c.in_ok-batches.ensures.schema) c.in_ok-batches.ensures.batches
+    c.in_ok-batches.end _
+    (schema_is _ _ (g.R.Source.remaining c.args.source.now) _ _ _ _ _ c.new-decoder.ensures.limits c.in_ok-read_schema.ensures.schema _ _
+    (sym c.into_schema.ensures ∙ c.unwrap-schema.ensures) c.in_ok-batches.ensures.schema) c.in_ok-batches.ensures.batches
 
 pub returns-in_err-read_schema-clause-memory : goal.returns-in_err-read_schema-clause-memory
 returns-in_err-read_schema-clause-memory g c =

@@ -1,7 +1,7 @@
 use Rattle.std.proofs.Common.{◌∙◌, sym, inl, inr}
 use Rattle.std.proofs.lemmas.Result.{err_from_is_err_and}
 use Rattle.ipc_stream_read.proofs.Reporting.{progressed_all, progressed_break, progressed_end, progressed_less, progressed_more}
-use Rattle.ipc_stream_read.proofs.Reporting.{progressed_none}
+use Rattle.ipc_stream_read.proofs.Reporting.{next_ended, progressed_none}
 use Rattle.job_print.specs.Output.{output}
 use Rattle.job_print.proofs.streams.BatchesRead.{batches_none, batches_limited, batches_more, batches_cut, batches_unsent}
 use Rattle.job_print.proofs.streams.BatchesRead.{batches_refused, batches_end, batches_unmarked, batches_break}
@@ -68,19 +68,22 @@ loop-form-preserved g c =
           (rw c.rows-in-Ok-Some.ensures at c.with_batch-tally.ensures.rows) (rw c.taken.ensures at c.batch_done.ensures));
     }
 
+pub unwrap-end-requires : goal.unwrap-end-requires
+unwrap-end-requires g c = next_ended _ _ _ (rw c.in-Ok-None.field-0-is at c.in-Ok-None.ensures.next) c.end.ensures
+
 pub returns-in-Ok-clause-prints : goal.returns-in-Ok-clause-prints
 returns-in-Ok-clause-prints g c =
     let below = c.has_reached.ensures.below _ c.loop-form.invariant.printed.tallies.1 c.if-has_reached.false in
-    batches_end c.args.options _ _ _ _ _ _ c.loop-form.invariant.printed below c.end.result c.unwrap_or-end.result _
-    (rw c.in-Ok-None.field-0-is at c.in-Ok-None.ensures.next) c.in-Ok-None.ensures.failures c.end.ensures c.unwrap_or-end.ensures
+    batches_end c.args.options _ _ _ _ _ _ c.loop-form.invariant.printed below c.end.result c.unwrap-end.result _
+    (rw c.in-Ok-None.field-0-is at c.in-Ok-None.ensures.next) c.in-Ok-None.ensures.failures c.end.ensures c.unwrap-end.ensures
     (sym c.check_mark.ensures ∙ c.in-Ok.is)
 
 pub returns-in-Err-check_mark-clause-prints : goal.returns-in-Err-check_mark-clause-prints
 returns-in-Err-check_mark-clause-prints g c =
     let below = c.has_reached.ensures.below _ c.loop-form.invariant.printed.tallies.1 c.if-has_reached.false in
-    batches_unmarked c.args.options _ _ _ _ _ _ c.loop-form.invariant.printed below c.end.result c.unwrap_or-end.result
+    batches_unmarked c.args.options _ _ _ _ _ _ c.loop-form.invariant.printed below c.end.result c.unwrap-end.result
     c.in-Err-check_mark.missing
-    (rw c.in-Ok-None.field-0-is at c.in-Ok-None.ensures.next) c.in-Ok-None.ensures.failures c.end.ensures c.unwrap_or-end.ensures
+    (rw c.in-Ok-None.field-0-is at c.in-Ok-None.ensures.next) c.in-Ok-None.ensures.failures c.end.ensures c.unwrap-end.ensures
     (sym c.check_mark.ensures ∙ c.in-Err-check_mark.is)
 
 pub returns-in-Err-clause-prints : goal.returns-in-Err-clause-prints

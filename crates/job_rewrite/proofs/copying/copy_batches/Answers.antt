@@ -1,6 +1,7 @@
 use Rattle.std.proofs.Common.{◌∙◌, sym, refl, inl, inr, arith, rules}
 use Rattle.std.proofs.lemmas.Result.{err_from_is_err_and}
-use Rattle.ipc_stream_read.proofs.Reporting.{progressed_break, progressed_end, progressed_less, progressed_more, progressed_none}
+use Rattle.ipc_stream_read.proofs.Reporting.{next_ended, progressed_break, progressed_end, progressed_less, progressed_more}
+use Rattle.ipc_stream_read.proofs.Reporting.{progressed_none}
 use Rattle.ipc_stream_read.specs.Found.{ReadRows, batch_rows}
 use Rattle.job_rewrite.proofs.Batches.{copied_above, copied_none, copied_more, copied_refused, copied_end, copied_unmarked, copied_break}
 use Rattle.job_rewrite.proofs.copying.copy_batches.Goals as goal
@@ -24,15 +25,18 @@ returns-in-Some-clause-copies g c =
     copied_above _ _ _ _ _ _ _ _ b found c.in-Some.total c.loop-batch.batches refl
     (c.in-Some.ensures.above b.batches (batch_rows found) b.batches_are b.rows_are (search rules) b.within) next
 
+pub unwrap-requires : goal.unwrap-requires
+unwrap-requires g c = next_ended _ _ _ (rw c.in-Ok-None.field-0-is at c.in-Ok-None.ensures.next) c.end.ensures
+
 pub returns-in-Ok-clause-copies : goal.returns-in-Ok-clause-copies
 returns-in-Ok-clause-copies g c =
-    rw c.messages.ensures (copied_end _ _ _ _ _ _ _ _ c.loop-batch.invariant.copied c.end.result c.unwrap_or.result _
-    (rw c.in-Ok-None.field-0-is at c.in-Ok-None.ensures.next) c.end.ensures c.unwrap_or.ensures (sym c.check_mark.ensures ∙ c.in-Ok.is))
+    rw c.messages.ensures (copied_end _ _ _ _ _ _ _ _ c.loop-batch.invariant.copied c.end.result c.unwrap.result _
+    (rw c.in-Ok-None.field-0-is at c.in-Ok-None.ensures.next) c.end.ensures c.unwrap.ensures (sym c.check_mark.ensures ∙ c.in-Ok.is))
 
 pub returns-in-Err-check_mark-clause-copies : goal.returns-in-Err-check_mark-clause-copies
 returns-in-Err-check_mark-clause-copies g c =
-    rw c.messages-in-Err-check_mark.ensures (copied_unmarked _ _ _ _ _ _ _ _ c.loop-batch.invariant.copied c.end.result c.unwrap_or.result
-    c.in-Err-check_mark.missing (rw c.in-Ok-None.field-0-is at c.in-Ok-None.ensures.next) c.end.ensures c.unwrap_or.ensures
+    rw c.messages-in-Err-check_mark.ensures (copied_unmarked _ _ _ _ _ _ _ _ c.loop-batch.invariant.copied c.end.result c.unwrap.result
+    c.in-Err-check_mark.missing (rw c.in-Ok-None.field-0-is at c.in-Ok-None.ensures.next) c.end.ensures c.unwrap.ensures
     (sym c.check_mark.ensures ∙ c.in-Err-check_mark.is))
 
 pub returns-in-Err-clause-copies : goal.returns-in-Err-clause-copies

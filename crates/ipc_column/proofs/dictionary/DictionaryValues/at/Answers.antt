@@ -9,8 +9,8 @@ slot_in-requires-clause-slot c =
     subst (λ (n : ℕ). c.args.i < n) (ap (λ (vs : List Value). length vs) (sym c.self.view_is)
     ∙ leaf_length c.self.inside.leaf c.in-Some.leaf c.in-Some.is) c.requires
 
-pub returns-in-Some-clause-value : goal.returns-in-Some-clause-value
-returns-in-Some-clause-value c = λ below k.
+pub returns-clause-value : goal.returns-clause-value
+returns-clause-value c = λ below k.
     let inside = subst (λ (n : ℕ). c.args.i < n) (ap (λ (vs : List Value). length vs) (sym c.self.view_is)
     ∙ leaf_length c.self.inside.leaf c.in-Some.leaf c.in-Some.is) c.requires in
     ap (λ (vs : List Value). slice_get vs c.args.i) (sym c.self.view_is)

@@ -7,7 +7,7 @@ use Rattle.ipc_stream_read.proofs.Calls.{next_batch, next_end}
 use Rattle.ipc_stream_read.proofs.Nexts.{next_columns, no_second, pulls_at}
 use Rattle.ipc_stream_read.proofs.Readers.{ready, seen_answers, wants_some}
 use Rattle.ipc_stream_read.proofs.reader.StreamReader.next.Goals as goal
-use Rattle.ipc_stream_read.proofs.reader.StreamReader.next.Goals.{in-Some-Schema, in-Some-Batch, in-Some-End, in-None-2}
+use Rattle.ipc_stream_read.proofs.reader.StreamReader.next.Goals.{in-Some-Batch, in-Some-End, in-None-2}
 
 pub invariant_of-self-inside : goal.invariant_of-self-inside
 invariant_of-self-inside g c =
@@ -25,12 +25,14 @@ returns-in_err-pull-clause-next g c =
     (wants_some _ _ _ c.wants.ensures c.if-wants-eq0.false) c.pull.ensures.limits c.args.self.now c.self.view_is c.pull.result
     (Err c.in_err-pull.field-0.0) c.in_err-pull.was c.pull.ensures.pulled)
 
+pub unreachable-requires : goal.unreachable-requires
+unreachable-requires g c =
+    let p = pulls_at _ _ _ _ _ _ c.pull.result (Ok (Some report.Schema))
+    (c.in_ok-pull.was ∙ ap Ok (c.in-Some-Schema.is ∙ ap Some c.in-Some-Schema.field-0-is)) c.pull.ensures.pulled in
+    no_second _ _ _ c.self.inside.open p.gives
+
 pub returns-clause-next : goal.returns-clause-next
 returns-clause-next g c = elim c.match-branch-2.branch [
-  | in-Some-Schema w ↦
-      let p = pulls_at _ _ _ _ _ _ c.pull.result (Ok (Some report.Schema))
-      (c.in_ok-pull.was ∙ ap Ok (w.in-Some-Schema.is ∙ ap Some w.in-Some-Schema.field-0-is)) c.pull.ensures.pulled in
-      absurd (no_second _ _ _ c.self.inside.open p.gives)
   | in-Some-Batch w ↦ rw w.result-is (seen_answers (g.R.Source.remaining c.self.inside.source) (g.R.Source.remaining c.pull.new.source)
       (g.R.Source.failures c.self.inside.source) (g.R.Source.failures c.pull.new.source) (g.R.Source.bound c.self.inside.source)
       (g.R.Source.bound c.pull.new.source) c.self.inside.taken c.pull.new.taken c.self.inside.decoder c.pull.new.decoder
@@ -55,7 +57,6 @@ returns-clause-next g c = elim c.match-branch-2.branch [
 
 pub returns-clause-columns : goal.returns-clause-columns
 returns-clause-columns g c = elim c.match-branch-2.branch [
-  | in-Some-Schema w ↦ rw w.result-is tt
   | in-Some-Batch w ↦
       let is = w.in-Some-Batch.is ∙ ap Some w.in-Some-Batch.field-0-is in
       let p = pulls_at _ _ _ _ _ _ c.pull.result (Ok (Some (report.Batch w.in-Some-Batch.batch w.in-Some-Batch.pairs)))

@@ -2,7 +2,7 @@ use Rattle.std.proofs.Common.{◌∙◌, sym, ap, Some, ◌+◌, arith}
 use Rattle.ipc_model.specs.declared.value.Value.{Value}
 use Rattle.ipc_column.proofs.Cells.{row_cell}
 use Rattle.ipc_column.proofs.lending.Slots.{slot_value}
-use Rattle.ipc_column.proofs.cell.value_at.Goals as goal
+use Rattle.ipc_column.proofs.cell.member_at.Goals as goal
 
 pub cell_at-requires : goal.cell_at-requires
 cell_at-requires c =
