@@ -8,6 +8,8 @@ pub mod NextRow
 pub mod NullText
 pub mod PlainDigits
 pub mod Quoted
+pub mod ReadBack
 pub mod Reading
+pub mod RoundTrip
 pub mod Records
 pub mod ShortDigits

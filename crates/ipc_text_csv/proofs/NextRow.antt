@@ -1,6 +1,6 @@
 -- One record more, read as one row more.
-use Rattle.std.proofs.Common.{◌≡◌, sym, subst, refl, ap, ℕ, ◌+◌, List, [], ◌∷◌, ◌++◌, Option, Some, None, Result, Ok, Err, arith}
-use Rattle.std.specs.Prelude.{true, ⊤, IfErr, OnOk}
+use Rattle.std.proofs.Common.{◌≡◌, subst, ℕ, ◌+◌, List, [], ◌∷◌, ◌++◌, Option, Some, None, Err, arith}
+use Rattle.std.specs.Prelude.{true}
 use Rattle.std.specs.Io.KnownBytes.{Keeps}
 use Rattle.std.proofs.lemmas.List.{length_push}
 use Rattle.csv.specs.declared.reader.Reader.{Reader}

@@ -1,5 +1,5 @@
 -- Records of CSV, field by field.
-use Rattle.std.proofs.Common.{◌≡◌, ◌∙◌, ◌==◌, ◌<◌, ◌≤◌, ◌+◌, ℕ, zero, suc, Bool, true, false, List, [], ◌∷◌, ◌++◌, length, map, drop}
+use Rattle.std.proofs.Common.{◌≡◌, ◌∙◌, ◌==◌, ◌<◌, ◌≤◌, ◌+◌, ℕ, zero, suc, Bool, true, false, List, [], ◌∷◌, ◌++◌, length, drop}
 use Rattle.std.proofs.Common.{drop-cons, get_or, add-one, Option, Some, None}
 use Rattle.std.proofs.Common.{Result, Ok, Err, option_map, refl, sym, ap, arith, append_assoc, append-nil, if◌then◌else◌}
 use Rattle.std.proofs.lemmas.Bool.Decides.{nat_tests}
@@ -7,24 +7,24 @@ use Rattle.std.proofs.lemmas.List.{drop_all}
 use Rattle.std.proofs.Common.{length-append}
 use Rattle.csv.specs.Writing.{is_blank, field_text, fields_text, row_body, next_sep}
 use Rattle.ipc_model.specs.declared.schema.Field.{Field, out-Field}
-use Rattle.ipc_model.specs.declared.value.Value.{Value, out-Value}
+use Rattle.ipc_model.specs.declared.value.Value.{Value}
 use Rattle.ipc_text_csv.specs.Dialects.{writer}
 use Rattle.ipc_text_csv.specs.declared.dialect.Dialect.{Dialect}
-use Rattle.ipc_text_csv.specs.RowCsv.{with_field, with_fields, body_from, all_texts, in_front, each_text, value_text, Ended}
+use Rattle.ipc_text_csv.specs.RowCsv.{with_field, with_fields, body_from, all_texts, in_front, each_text, csv_text, names, Ended}
 use Rattle.ipc_text_temporal.specs.declared.fault.TextFault.{TextFault}
 
-some_byte : (n : ℕ) → (suc n == 0) ≡ false
+pub some_byte : (n : ℕ) → (suc n == 0) ≡ false
 some_byte n = grind (arith, nat_tests)
 
-longer : (xs ys : List ℕ) (b : ℕ) → (length (xs ++ b ∷ ys) == 0) ≡ false
+pub longer : (xs ys : List ℕ) (b : ℕ) → (length (xs ++ b ∷ ys) == 0) ≡ false
 longer [] ys b = some_byte (length ys)
 longer (x ∷ xs) ys b = some_byte (length (xs ++ b ∷ ys))
 
-no_field : (c : ℕ) → fields_text (writer c) [] ≡ []
+pub no_field : (c : ℕ) → fields_text (writer c) [] ≡ []
 unfolding fields_text
 no_field c = refl
 
-next_field : (c : ℕ) (u : List ℕ) (ts : List (List ℕ))
+pub next_field : (c : ℕ) (u : List ℕ) (ts : List (List ℕ))
     → fields_text (writer c) (u ∷ ts) ≡ c ∷ (field_text (writer c) u ++ fields_text (writer c) ts)
 unfolding fields_text
 next_field c u ts = refl
@@ -61,19 +61,8 @@ field_more c i out o1 o2 (Some t) cells e f =
 -- the cells from a column on: its own, and those behind it
 pub cells_from : (d : Dialect) (fs : List Field) (vs : List Value) (i : ℕ) (f : Field) (v : Value) → i < length fs → i < length vs
     → f ≡ get_or fs i f → v ≡ get_or vs i v
-    → each_text d (drop i fs) (drop i vs) ≡ value_text d (out-Field f).kind (out-Value v) ∷ each_text d (drop (i + 1) fs) (drop (i + 1) vs)
+    → each_text d (drop i fs) (drop i vs) ≡ csv_text d f v ∷ each_text d (drop (i + 1) fs) (drop (i + 1) vs)
 cells_from d fs vs i f v lt less e g = rw (drop-cons fs i f, drop-cons vs i v) (rw (← e, ← g, add-one) refl)
-
-one_name : (c i : ℕ) (out text : List ℕ) (ts : List (List ℕ))
-    → with_field c (out ++ next_sep (writer c) i) text ++ body_from c (suc i) ts ≡ out ++ body_from c i (text ∷ ts)
-unfolding fields_text
-one_name c zero out text ts = simp append_assoc refl
-one_name c (suc n) out text ts = rw (separated c n) (simp append_assoc refl)
-
--- where a name was appended behind what separates it, the names behind it lead to the same text
-pub name_more : (c i : ℕ) (out o1 text : List ℕ) (ts : List (List ℕ)) → o1 ≡ out ++ next_sep (writer c) i
-    → with_field c o1 text ++ body_from c (i + 1) ts ≡ out ++ body_from c i (text ∷ ts)
-name_more c i out o1 text ts e = rw (e, add-one) (one_name c i out text ts)
 
 -- no texts leave a text as it is
 pub no_more : (c n : ℕ) (out : List ℕ) → out ++ body_from c n [] ≡ out
@@ -81,10 +70,18 @@ unfolding fields_text
 no_more c zero out = append-nil out
 no_more c (suc n) out = append-nil out
 
--- the names from a column on: its own, and those behind it
-pub names_from : (fs : List Field) (i : ℕ) (f : Field) → i < length fs → f ≡ get_or fs i f
-    → map (λ g. (out-Field g).name) (drop i fs) ≡ (out-Field f).name ∷ map (λ g. (out-Field g).name) (drop (i + 1) fs)
-names_from fs i f lt e = rw (drop-cons fs i f) (rw (← e, add-one) refl)
+-- where a name was appended behind a delimiter, the names behind it lead to the same text
+pub name_more : (c : ℕ) (out o1 o2 : List ℕ) (fs : List Field) (i : ℕ) (f : Field) → i < length fs → f ≡ get_or fs i f → o1 ≡ out ++ c ∷ []
+    → o2 ≡ with_field c o1 (out-Field f).name
+    → o2 ++ fields_text (writer c) (names (drop (i + 1) fs)) ≡ out ++ fields_text (writer c) (names (drop i fs))
+unfolding fields_text
+name_more c out o1 o2 fs i f lt e first second =
+    rw (second, first, drop-cons fs i f) (rw (← e, add-one) (simp append_assoc refl))
+
+-- behind the last name nothing is appended
+pub no_names : (c : ℕ) (out : List ℕ) (fs : List Field) (n : ℕ) → length fs ≤ n → out ++ fields_text (writer c) (names (drop n fs)) ≡ out
+unfolding fields_text
+no_names c out fs n le = rw (drop_all n fs le) (append-nil out)
 
 -- behind the last column nothing is appended
 pub no_columns : (d : Dialect) (c n : ℕ) (out : List ℕ) (fs : List Field) (vs : List Value) → length fs ≤ n
@@ -112,7 +109,7 @@ nothing_behind before xs n e = rw (length-append before xs) (added (length befor
 abbrev pub end_behind : ℕ → List ℕ → List ℕ
 end_behind start text = if length text == start then 34 ∷ 34 ∷ 10 ∷ [] else 10 ∷ []
 
-end_of : (blank : Bool) (before body : List ℕ) → before ++ body ++ (if blank then 34 ∷ 34 ∷ 10 ∷ [] else 10 ∷ [])
+pub end_of : (blank : Bool) (before body : List ℕ) → before ++ body ++ (if blank then 34 ∷ 34 ∷ 10 ∷ [] else 10 ∷ [])
     ≡ before ++ (body ++ ((if blank then 34 ∷ 34 ∷ [] else []) ++ 10 ∷ []))
 end_of true before body = simp append_assoc refl
 end_of false before body = simp append_assoc refl

@@ -2,7 +2,7 @@
 use Rattle.std.specs.Prelude.{◌≡◌, ◌≢◌, ◌⊎◌, ⊤, ℕ, ◌+◌, List, [], ◌∷◌, length, Some, None}
 use Rattle.std.specs.Str.{IsUtf8}
 use Rattle.hex.specs.Hex.{IsBytes}
-use Rattle.ipc_model.specs.Fits.{Fits}
+use Rattle.ipc_model.specs.Fits.{Fits, IsOfKind}
 use Rattle.ipc_model.specs.declared.schema.DataType.{DataType}
 use Rattle.ipc_model.specs.declared.schema.Field.{Field, out-Field}
 use Rattle.ipc_model.specs.declared.value.Value.{Value, out-Value}
@@ -85,3 +85,15 @@ abbrev pub IsStored : Value-F Value → Type 0
 IsStored (Value-F.Bytes bytes) = IsBytes bytes
 IsStored (Value-F.Text chars) = IsUtf8 chars
 IsStored v = ⊤
+
+-- a value is null, or of the type of its field
+abbrev pub IsTyped : Field → Value-F Value → Type 0
+IsTyped f Value-F.Null = ⊤
+IsTyped f v = IsOfKind (out-Field f).kind (length (out-Field f).children) v
+
+-- a row has one value for each column, which is null or of the column's type
+abbrev pub EachTyped : List Field → List Value → Type 0
+EachTyped [] [] = ⊤
+EachTyped (f ∷ fs) (v ∷ vs) =
+    IsTyped f (out-Value v) × IsStored (out-Value v) × EachTyped fs vs
+EachTyped fs vs = ⊥

@@ -4,3 +4,4 @@ pub mod CsvCells
 pub mod CsvRows
 pub mod Records
 pub mod RowReaders
+pub mod ReadBack

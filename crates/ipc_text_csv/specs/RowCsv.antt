@@ -1,14 +1,15 @@
 -- The CSV text of a row (RFC 4180) in a dialect, as the crate `csv` writes it with this delimiter.
 -- A date, a point in time or a text may have none.
-use Rattle.std.specs.Prelude.{◌≡◌, ◌⊎◌, ℕ, zero, suc, ◌+◌, ◌==◌, ℤ, Bool, true, false}
+use Rattle.std.specs.Prelude.{◌≡◌, ◌⊎◌, ℕ, zero, suc, ◌+◌, ◌==◌, ◌||◌, ℤ, Bool, true, false}
 use Rattle.std.specs.Prelude.{if◌then◌else◌, List, [], ◌∷◌, ◌++◌, map, length, codes, decimal}
 use Rattle.std.specs.Prelude.{Option, Some, None, option_map, Result, Ok, Err}
 use Rattle.std.specs.Fmt.{signed_decimal}
-use Rattle.std.specs.List.{list_any}
+use Rattle.std.specs.List.{list_any, starts_with}
 use Rattle.std.specs.Str.{bytes_eq}
 use Rattle.csv.specs.Writing as csv
 use Rattle.csv.specs.Writing.{backslash}
 use Rattle.hex.specs.Hex.{encode_lower}
+use Rattle.ipc_model.specs.RowFaults.{is_null_type}
 use Rattle.ipc_model.specs.declared.schema.DataType.{DataType}
 use Rattle.ipc_model.specs.declared.schema.DataType.TheVariants as t
 use Rattle.ipc_model.specs.declared.schema.Field.{Field, out-Field}
@@ -63,9 +64,18 @@ value_text d kind (Value-F.Text text) = chars_text d text
 value_text d kind (Value-F.List vs) = None
 value_text d kind (Value-F.Struct vs) = None
 
--- the text of a value of this type, if it has one (`value_text`)
-abbrev pub csv_text : Dialect → DataType → Value → Option (List ℕ)
-csv_text d kind v = value_text d kind (out-Value v)
+-- whether null fits a field: the field is nullable, or its type is Null
+abbrev pub allows_null : Field → Bool
+allows_null f = (out-Field f).nullable || is_null_type (out-Field f).kind
+
+-- the text of a value of a field, if it has one: null has one only in a field that allows it
+abbrev pub own_text : Dialect → Field → Value-F Value → Option (List ℕ)
+own_text d f Value-F.Null = if allows_null f then Some (null_text d) else None
+own_text d f v = value_text d (out-Field f).kind v
+
+-- the text of a value of a field, if it has one (`own_text`)
+abbrev pub csv_text : Dialect → Field → Value → Option (List ℕ)
+csv_text d f v = own_text d f (out-Value v)
 
 -- a text, followed by a field's text, in quotes if it needs them beside this delimiter
 abbrev pub with_field : ℕ → List ℕ → List ℕ → List ℕ
@@ -100,11 +110,11 @@ is_nested (t.Time unit) = false
 is_nested (t.Timestamp unit timezone) = false
 is_nested (t.Duration unit) = false
 
--- the texts of values, each by the type of the column at its index
+-- the texts of values, each by the column at its index
 abbrev pub each_text : Dialect → List Field → List Value → List (Option (List ℕ))
 each_text d [] vs = []
 each_text d (f ∷ fs) [] = []
-each_text d (f ∷ fs) (v ∷ vs) = csv_text d (out-Field f).kind v ∷ each_text d fs vs
+each_text d (f ∷ fs) (v ∷ vs) = csv_text d f v ∷ each_text d fs vs
 
 -- a text before others, unless there is a fault
 abbrev pub in_front : List ℕ → Result (List (List ℕ)) TextFault → Result (List (List ℕ)) TextFault
@@ -142,9 +152,29 @@ abbrev pub unless_fault : {A : Type 0} → Option TextFault → Result A TextFau
 unless_fault (Some fault) x = Err fault
 unless_fault None x = x
 
--- the header: the columns' names, unchanged
+-- a text begins with the byte order mark, U+FEFF in UTF-8
+abbrev pub begins_with_mark : List ℕ → Bool
+begins_with_mark text = starts_with ◌==◌ text (0xEF ∷ 0xBB ∷ 0xBF ∷ [])
+
+-- the first name as a field: also in quotes if it begins with a byte order mark, because a reader
+-- drops one at the start of its input
+abbrev pub first_name : Dialect → List ℕ → List ℕ
+first_name d name = if begins_with_mark name then csv.quoted (writer d.delimiter) name
+    else csv.field_text (writer d.delimiter) name
+
+-- names as fields, with the delimiters between them
+abbrev pub names_text : Dialect → List (List ℕ) → List ℕ
+names_text d [] = []
+names_text d (name ∷ rest) = first_name d name ++ csv.fields_text (writer d.delimiter) rest
+
+-- the fields of a record and its end: a line feed, after two quotes if the fields are empty
+abbrev pub with_end : List ℕ → List ℕ
+with_end text = text ++ (if length text == 0 then 34 ∷ 34 ∷ 10 ∷ [] else 10 ∷ [])
+
+-- the header: the record of the columns' names, unchanged
 abbrev pub header_text : Dialect → List Field → Result (List ℕ) TextFault
-header_text d fields = unless_fault (flat_fault fields) (record_of d (Ok (names fields)))
+header_text d fields =
+    unless_fault (flat_fault fields) (Ok (with_end (names_text d (names fields))))
 
 -- the record of a row
 abbrev pub row_csv : Dialect → List Field → List Value → Result (List ℕ) TextFault

@@ -6,6 +6,7 @@ mod cell;
 mod dialect;
 mod digits;
 mod hexadecimal;
+pub mod laws;
 mod reader;
 mod record;
 mod record_fault;
@@ -15,6 +16,6 @@ mod temporal_fast_path;
 
 pub use dialect::Dialect;
 pub use reader::{check_header, fill_row_from_csv, row_from_csv};
-pub use record::{check_flat, csv_header, csv_record};
+pub use record::{allows_null, check_flat, csv_header, csv_record};
 pub use record_fault::RecordFault;
 pub use row_reader::RowReader;

@@ -2,7 +2,7 @@
 ghost use Rattle.std.specs.Prelude.{◌≡◌, ◌≢◌, ◌<◌, ◌^◌, ℕ, ℤ, List, IfOk, IfErr, IfSome};
 ghost use Rattle.std.specs.Prelude.{MatchResult, Some, Bool, FitsSigned, decimal, option_map};
 ghost use Rattle.std.specs.Prelude.{length, OnOk, None, Ok, IsTrue, IsSome, ◌↔◌, false};
-ghost use Rattle.std.specs.List.{AllByRecursion, list_any};
+ghost use Rattle.std.specs.List.{list_any};
 ghost use Rattle.std.specs.Fmt.{signed_decimal};
 ghost use Rattle.std.specs.Int.{w64};
 ghost use Rattle.std.specs.Str.{IsUtf8};
@@ -10,13 +10,13 @@ ghost use Rattle.csv.specs.Records.{fields_of};
 ghost use Rattle.ipc_model.specs.declared.value.Value.{Null, Value, out-Value};
 ghost use Rattle.ipc_model.specs.declared.value.Value.TheOpen.{Value-F};
 ghost use Rattle.ipc_model.specs.declared.schema.Field.{out-Field};
-ghost use Rattle.ipc_model.specs.Fits.{FitsOwnType, IsOfKind, RowFits};
+ghost use Rattle.ipc_model.specs.Fits.{FitsOwnType, IsOfKind};
 ghost use Rattle.ipc_model.specs.Ranges.{IsSignedWithin, width};
 ghost use Rattle.ipc_model.specs.declared.schema.DataType.TheVariants.{FixedSizeBinary};
 ghost use Rattle.ipc_text_csv.specs.CsvCells.{decoded_hex};
 ghost use Rattle.ipc_text_csv.specs.CsvRows.{StandsFor, ReadsAs, RecordReadsAs, IsRecordFault};
 ghost use Rattle.ipc_text_csv.specs.CsvRows.{IsCharsOf, EachReadsAs, IsBadField, IsFirstUnlike};
-ghost use Rattle.ipc_text_csv.specs.CsvRows.{IsHeaderFault, IsStored};
+ghost use Rattle.ipc_text_csv.specs.CsvRows.{IsHeaderFault, EachTyped};
 ghost use Rattle.ipc_text_temporal.specs.Temporals.{date_text, time_text};
 ghost use Rattle.ipc_text_csv.specs.RowCsv.{bool_text, chars_text, names, flat_fault, null_text};
 ghost use Rattle.ipc_text_csv.specs.RowCsv.{row_texts};
@@ -479,7 +479,7 @@ pub fn row_from_csv(
         → RecordReadsAs dialect.entry schema.now.fields (fields_of fields.now) row
         → MatchResult result (λ read. read ≡ row) (λ fault. fault ≡ TextFault.OutOfMemory) }
     ensures back { (row : List Value) → flat_fault schema.now.fields ≡ None
-        → RowFits schema.now.fields row → AllByRecursion (λ v. IsStored (out-Value v)) row
+        → EachTyped schema.now.fields row
         → row_texts dialect.entry schema.now.fields row ≡ Ok (fields_of fields.now)
         → MatchResult result (λ read. read ≡ row) (λ fault. fault ≡ TextFault.OutOfMemory) }
     ensures refused { IfErr result
@@ -516,7 +516,7 @@ pub fn fill_row_from_csv(
         → RecordReadsAs dialect.entry schema.now.fields (fields_of fields.now) wanted
         → MatchResult result (λ _. row.new ≡ wanted) (λ fault. fault ≡ TextFault.OutOfMemory) }
     ensures back { (wanted : List Value) → flat_fault schema.now.fields ≡ None
-        → RowFits schema.now.fields wanted → AllByRecursion (λ v. IsStored (out-Value v)) wanted
+        → EachTyped schema.now.fields wanted
         → row_texts dialect.entry schema.now.fields wanted ≡ Ok (fields_of fields.now)
         → MatchResult result (λ _. row.new ≡ wanted) (λ fault. fault ≡ TextFault.OutOfMemory) }
     ensures refused { IfErr result

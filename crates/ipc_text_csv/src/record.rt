@@ -1,5 +1,5 @@
 //! Writes a row as CSV.
-ghost use Rattle.std.specs.Prelude.{◌≡◌, ◌++◌, List, ℕ, OnOk, IfOk, IfErr, Ok, decimal};
+ghost use Rattle.std.specs.Prelude.{◌≡◌, ◌++◌, ℕ, OnOk, IfOk, IfErr, Ok, decimal};
 ghost use Rattle.std.specs.List.{list_any};
 ghost use Rattle.csv.specs.Writing as csv;
 ghost use Rattle.csv.specs.Writing.{default_writer};
@@ -10,8 +10,9 @@ ghost use Rattle.ipc_text_csv.specs.RowCsv as spec;
 ghost use Rattle.ipc_text_csv.specs.RowCsv.{RefusesValue, IsRefusal, null_text, bool_text};
 ghost use Rattle.ipc_text_csv.specs.RowCsv.{with_backslash, chars_text, unless_null, with_field};
 ghost use Rattle.ipc_text_csv.specs.RowCsv.{flat_fault, unless_fault, Appended, names, csv_text};
-ghost use Rattle.ipc_text_csv.specs.RowCsv.{int_text, body_from, put_texts, Ended};
+ghost use Rattle.ipc_text_csv.specs.RowCsv.{int_text, own_text, put_texts, with_end, Ended};
 ghost use Rattle.ipc_model.specs.declared.schema.Field.{out-Field};
+ghost use Rattle.ipc_model.specs.declared.value.Value.TheOpen.{Value-F};
 
 use crate::dialect::{Dialect, needs_quotes};
 use ipc_model::{DataType, Field, Schema, Value};
@@ -80,11 +81,31 @@ fn push_field(out: &mut Vec<u8>, dialect: Dialect<'_>, field: &[u8]) -> Result<(
     push_joined(out, dialect.delimiter(), b"", field)
 }
 
-fn push_null(out: &mut Vec<u8>, dialect: Dialect<'_>) -> Result<(), AllocError>
-    ensures { OnOk result (out.new.items
-        ≡ with_field dialect.entry.delimiter out.old.items (null_text dialect.entry)) }
+/// Returns whether null fits a field: the field is nullable, or its type is Null.
+#[inline(always)]
+pub fn allows_null(field: &Field) -> bool
+    ensures { result ≡ spec.allows_null field.now }
 {
-    push_field(out, dialect, dialect.null().as_bytes())
+    field.nullable || matches!(field.kind, DataType::Null)
+}
+
+// Appends null as a field of this column. Errors: X3 with the column's number if null does not fit
+// it; `OutOfMemory`.
+fn push_null(
+    out: &mut Vec<u8>,
+    dialect: Dialect<'_>,
+    column: u64,
+    field: &Field,
+) -> Result<(), TextFault>
+    ensures ok { OnOk result (Appended dialect.entry.delimiter out.old.items
+        (own_text dialect.entry field.now Value-F.Null) out.new.items) }
+    ensures refused { IfErr result
+        (RefusesValue column (own_text dialect.entry field.now Value-F.Null)) }
+{
+    if !allows_null(field) {
+        return Err(TextFault::NoTextForm { column });
+    }
+    Ok(push_field(out, dialect, dialect.null().as_bytes())?)
 }
 
 fn push_bool(out: &mut Vec<u8>, dialect: Dialect<'_>, truth: bool) -> Result<(), AllocError>
@@ -211,24 +232,24 @@ fn push_text(
     push_unless_null(out, dialect, column, text.as_bytes())
 }
 
-// Appends a value of a column of this type as a CSV field. Errors: X3 with the column's number if
-// the value has no text; `OutOfMemory`.
+// Appends a value of this column as a CSV field. Errors: X3 with the column's number if the value
+// has no text; `OutOfMemory`.
 fn push_value(
     out: &mut Vec<u8>,
     dialect: Dialect<'_>,
     column: u64,
-    kind: &DataType,
+    field: &Field,
     value: &Value,
 ) -> Result<(), TextFault>
     ensures ok { OnOk result (Appended dialect.entry.delimiter out.old.items
-        (csv_text dialect.entry kind.now value.now) out.new.items) }
+        (csv_text dialect.entry field.now value.now) out.new.items) }
     ensures refused { IfErr result
-        (RefusesValue column (csv_text dialect.entry kind.now value.now)) }
+        (RefusesValue column (csv_text dialect.entry field.now value.now)) }
 {
     match value {
-        Value::Null => push_null(out, dialect)?,
+        Value::Null => return push_null(out, dialect, column, field),
         Value::Bool(truth) => push_bool(out, dialect, *truth)?,
-        Value::Int(number) => return push_int(out, dialect, column, kind, *number),
+        Value::Int(number) => return push_int(out, dialect, column, &field.kind, *number),
         Value::UInt(number) => push_uint(out, dialect, *number)?,
         Value::Bytes(bytes) => return push_bytes(out, dialect, column, bytes.as_slice()),
         Value::Text(text) => return push_text(out, dialect, column, text.as_str()),
@@ -250,7 +271,8 @@ fn push_delimiter(out: &mut Vec<u8>, dialect: Dialect<'_>, column: usize) -> Res
 
 // Ends a record whose fields are in `out`: a line feed, after two quotes if there are no bytes.
 fn end_record(out: &mut Vec<u8>) -> Result<(), AllocError>
-    ensures { (delimiter : ℕ) → OnOk result (Ended delimiter 0 out.old.items out.new.items) }
+    ensures text { OnOk result (out.new.items ≡ with_end out.old.items) }
+    ensures record { (delimiter : ℕ) → OnOk result (Ended delimiter 0 out.old.items out.new.items) }
 {
     if out.is_empty() {
         out.extend_from_slice(b"\"\"")?;
@@ -259,12 +281,30 @@ fn end_record(out: &mut Vec<u8>) -> Result<(), AllocError>
     Ok(())
 }
 
-fn push_names(out: &mut Vec<u8>, dialect: Dialect<'_>, fields: &[Field]) -> Result<(), AllocError>
-    ensures { OnOk result (out.new.items
-        ≡ out.old.items ++ body_from dialect.entry.delimiter 0 (names fields.now)) }
+// Appends the first name of a header. A byte order mark at its start is put in quotes, so that a
+// reader does not take it for that of its input.
+fn push_first_name(out: &mut Vec<u8>, dialect: Dialect<'_>, name: &[u8]) -> Result<(), AllocError>
+    ensures { OnOk result
+        (out.new.items ≡ out.old.items ++ spec.first_name dialect.entry name.now) }
 {
-    for (column, field) in fields.iter().enumerate() {
-        push_delimiter(out, dialect, column)?;
+    if name.starts_with(b"\xef\xbb\xbf") {
+        return push_quoted(out, b"", name);
+    }
+    push_field(out, dialect, name)
+}
+
+// Appends the names of a header after the first one.
+fn push_more_names(
+    out: &mut Vec<u8>,
+    dialect: Dialect<'_>,
+    fields: &[Field],
+) -> Result<(), AllocError>
+    ensures { OnOk result (out.new.items
+        ≡ out.old.items ++ csv.fields_text (writer dialect.entry.delimiter) (names fields.now)) }
+{
+    let delimiter = dialect.delimiter();
+    for field in fields {
+        out.push(delimiter)?;
         push_field(out, dialect, field.name.as_str().as_bytes())?;
     }
     Ok(())
@@ -286,7 +326,7 @@ fn push_values(
             return Ok(());
         };
         push_delimiter(out, dialect, column)?;
-        push_value(out, dialect, column as u64, &field.kind, value)?;
+        push_value(out, dialect, column as u64, field, value)?;
     }
     Ok(())
 }
@@ -322,8 +362,9 @@ pub fn check_flat(schema: &Schema) -> Result<(), TextFault>
     Ok(())
 }
 
-/// Returns the CSV header of a schema's columns: their names, unchanged, with a line feed. Errors:
-/// X1 and X2 as in `check_flat`; `OutOfMemory`.
+/// Returns the CSV header of a schema's columns: their names, unchanged, with a line feed. A first
+/// name that begins with a byte order mark is in quotes, so that it is read back. Errors: X1 and X2
+/// as in `check_flat`; `OutOfMemory`.
 pub fn csv_header(
     alloc: Global,
     dialect: Dialect<'_>,
@@ -336,7 +377,10 @@ pub fn csv_header(
 {
     check_flat(schema)?;
     let mut out = Vec::new(alloc);
-    push_names(&mut out, dialect, schema.fields.as_slice())?;
+    if let [first, more @ ..] = schema.fields.as_slice() {
+        push_first_name(&mut out, dialect, first.name.as_str().as_bytes())?;
+        push_more_names(&mut out, dialect, more)?;
+    }
     end_record(&mut out)?;
     Ok(out)
 }
@@ -345,12 +389,13 @@ pub fn csv_header(
 ///
 /// Null is its text in the dialect, numbers and durations are decimal, bytes are lower-case
 /// hexadecimal digits, and dates, times and timestamps are their texts. If null is `\N`, a text
-/// that begins with a backslash gets one more before it. The row must conform to the schema, except
-/// that nulls in columns that are not nullable are written too.
+/// that begins with a backslash gets one more before it. Of a row that conforms to the schema, the
+/// record is read back as the row (`laws::text_comes_back`).
 ///
 /// Errors: X1 and X2 as in `check_flat`; X3 with the first column whose value has no text;
 /// `OutOfMemory` if memory ran out. These values have no text:
 ///
+/// - null in a column that is not nullable, unless its type is Null;
 /// - a date or a timestamp outside the years 0001 to 9999;
 /// - milliseconds of a date that are no whole days;
 /// - a time outside 24 hours;

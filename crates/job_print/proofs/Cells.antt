@@ -1,7 +1,7 @@
 -- Cells of a row, and rows that are not printed.
 use Rattle.std.proofs.Common.{◌≡◌, ◌∙◌, refl, ap, ℕ, ◌+◌, ◌<◌, List, [], ◌∷◌, ◌++◌, length, drop, take, ◌-◌, get_or}
 use Rattle.std.proofs.Common.{Result, Ok, Option, Some, None, append_assoc, take_at, arith}
-use Rattle.ipc_model.specs.declared.schema.Field.{Field, out-Field}
+use Rattle.ipc_model.specs.declared.schema.Field.{Field}
 use Rattle.ipc_model.specs.declared.value.Value.{Value}
 use Rattle.ipc_model.specs.declared.value.Value.TheVariants as v
 use Rattle.csv.specs.Writing.{field_text, next_sep}
@@ -30,16 +30,16 @@ pub first_appended : (d : Dialect) (fs : List Field) (cs : List (List Value)) (r
     : ℕ) (out o1 o2 : List ℕ) (wanted : Result (List ℕ) TextFault) → 0 < length fs → 0 < length cs → length cs ≡ length fs
     → HaveRow cs r → f ≡ get_or fs 0 f → values ≡ get_or cs 0 values → value ≡ slice_index_or values r v.Null
     → with_fields d.delimiter i out (all_texts i (each_text d fs (row_at cs r))) ≡ wanted
-    → o1 ≡ out ++ next_sep (writer d.delimiter) i → Appended d.delimiter o1 (csv_text d (out-Field f).kind value) o2
+    → o1 ≡ out ++ next_sep (writer d.delimiter) i → Appended d.delimiter o1 (csv_text d f value) o2
     → IsMore d fs cs r i o2 wanted
 first_appended d [] cs r f values value i out o1 o2 wanted some many same have is at held before comma put =
     absurd (omega (arith, some))
 first_appended d (g ∷ gs) [] r f values value i out o1 o2 wanted some many same have is at held before comma put =
     absurd (omega (arith, many))
 first_appended d (g ∷ gs) (w ∷ ws) r f values value i out o1 o2 wanted some many same have is at held before comma put =
-    let report : Appended d.delimiter o1 (csv_text d (out-Field g).kind (slice_index_or w r v.Null)) o2 = rw (is, held, at) at put in
+    let report : Appended d.delimiter o1 (csv_text d g (slice_index_or w r v.Null)) o2 = rw (is, held, at) at put in
     let more =
-    field_more d.delimiter i out o1 o2 (csv_text d (out-Field g).kind (slice_index_or w r v.Null)) (each_text d gs (row_at ws r)) comma
+    field_more d.delimiter i out o1 o2 (csv_text d g (slice_index_or w r v.Null)) (each_text d gs (row_at ws r)) comma
     report ∙ before in
     record {
       columns = rw (take_rest (w ∷ ws) 1, take_rest (g ∷ gs) 1) (omega (arith, same));

@@ -5,15 +5,17 @@ ghost use Rattle.std.specs.Fmt.{signed_decimal};
 ghost use Rattle.csv.specs.Writing as csv;
 ghost use Rattle.csv.specs.Writing.{default_writer};
 ghost use Rattle.hex.specs.Hex.{encode_lower};
+ghost use Rattle.ipc_model.specs.declared.value.Value.TheOpen.{Value-F};
 ghost use Rattle.ipc_text_csv.specs.declared.dialect.Dialect.{Dialect};
 ghost use Rattle.ipc_text_csv.specs.Dialects.{writer};
-ghost use Rattle.ipc_text_csv.specs.RowCsv.{Ended, chars_text, null_text, unless_null};
+ghost use Rattle.ipc_text_csv.specs.RowCsv.{Ended, chars_text, null_text, own_text, unless_null};
 ghost use Rattle.ipc_text_csv.specs.RowCsv.{with_backslash, with_field};
 ghost use Rattle.job_print.specs.Fields.{AddsField};
 ghost use Rattle.job_print.specs.NullTexts.{BeginsApart};
 
 use crate::text_buffer::TextBuffer;
-use ipc_text_csv::Dialect;
+use ipc_model::Field;
+use ipc_text_csv::{Dialect, allows_null};
 use ipc_text_temporal::TextFault;
 use std::alloc::AllocError;
 
@@ -87,9 +89,9 @@ fn put_field(out: &mut TextBuffer, delimiter: u8, field: &[u8]) -> Result<(), Al
     put_field_bytewise(out, delimiter, field)
 }
 
-/// Writes null.
+// Writes the text of null.
 #[inline(always)]
-pub(crate) fn put_null(out: &mut TextBuffer, dialect: &Dialect<'_>) -> Result<(), AllocError>
+fn put_null_text(out: &mut TextBuffer, dialect: &Dialect<'_>) -> Result<(), AllocError>
     requires { 4 ≤ out.old.room }
     ensures { OnOk result (out.new.text
         ≡ with_field dialect.now.delimiter out.old.text (null_text dialect.now)) }
@@ -102,6 +104,24 @@ pub(crate) fn put_null(out: &mut TextBuffer, dialect: &Dialect<'_>) -> Result<()
     out.reserve(null.len())?;
     out.put(null);
     Ok(())
+}
+
+/// Writes null. Returns X3 if the field does not allow it.
+#[inline(always)]
+pub(crate) fn put_null(
+    out: &mut TextBuffer,
+    dialect: &Dialect<'_>,
+    column: u64,
+    field: &Field,
+) -> Result<(), TextFault>
+    requires { 4 ≤ out.old.room }
+    ensures { AddsField dialect.now.delimiter column (own_text dialect.now field.now Value-F.Null)
+        out.old.text out.new.text result }
+{
+    if !allows_null(field) {
+        return Err(TextFault::NoTextForm { column });
+    }
+    Ok(put_null_text(out, dialect)?)
 }
 
 // Writes a text that begins with a backslash, with one more in front.

@@ -8,7 +8,6 @@ ghost use Rattle.ipc_column.specs.Values.{row};
 ghost use Rattle.job_print.specs.Fields.{AddsField, AddsRecord};
 ghost use Rattle.job_print.specs.LentSlots.{slot_value};
 ghost use Rattle.job_print.specs.LentRows.{HaveRow, row_at};
-ghost use Rattle.ipc_model.specs.declared.schema.DataType.{DataType};
 ghost use Rattle.ipc_text_temporal.specs.Temporals.{temporal_text};
 ghost use Rattle.ipc_text_csv.specs.RowCsv.{IsRefusal, flat_fault, with_field};
 ghost use Rattle.ipc_text_csv.specs.RowCsv.{int_text, bool_text, put_texts, row_csv, csv_text};
@@ -83,13 +82,13 @@ fn put_bool(out: &mut TextBuffer, truth: bool)
     out.put_bool(truth);
 }
 
-// Writes `value`, which a slot holds in a column of this type.
+// Writes `value`, which a slot holds in this column.
 #[inline(always)]
 fn put_slot_text(
     out: &mut TextBuffer,
     dialect: &Dialect<'_>,
     column: u64,
-    kind: &DataType,
+    field: &Field,
     tree: &ColumnTree<'_>,
     slot: usize,
     value: Slot<'_>,
@@ -99,13 +98,13 @@ fn put_slot_text(
     requires value { slice_get (slot_values tree.now) slot
         ≡ Some (value_in_slot (row (child_columns tree.now)) slot value) }
     ensures { AddsField dialect.now.delimiter column
-        (csv_text dialect.now kind.now (slot_value tree.now slot)) out.old.text out.new.text
+        (csv_text dialect.now field.now (slot_value tree.now slot)) out.old.text out.new.text
         result }
 {
     match value {
-        Slot::Null => Ok(put_null(out, dialect)?),
+        Slot::Null => put_null(out, dialect, column, field),
         Slot::Bool(truth) => Ok(put_bool(out, truth)),
-        Slot::Int(number) => put_int(out, column, kind, number),
+        Slot::Int(number) => put_int(out, column, &field.kind, number),
         Slot::UInt(number) => Ok(put_unsigned_field(out, number)),
         Slot::Bytes(bytes) => put_bytes_field(out, dialect, column, bytes),
         Slot::Text(chars) => put_text_field(out, dialect, column, chars),
@@ -122,20 +121,20 @@ fn put_other(
     out: &mut TextBuffer,
     dialect: &Dialect<'_>,
     column: u64,
-    kind: &DataType,
+    field: &Field,
     tree: &ColumnTree<'_>,
     slot: usize,
 ) -> Result<(), TextFault>
     requires room { 32 ≤ out.old.room }
     requires slot { slot < length (slot_values tree.now) }
     ensures { AddsField dialect.now.delimiter column
-        (csv_text dialect.now kind.now (slot_value tree.now slot)) out.old.text out.new.text
+        (csv_text dialect.now field.now (slot_value tree.now slot)) out.old.text out.new.text
         result }
 {
     match tree.entry_at(slot) {
         Entry::Text(bytes, len) => put_front_field(out, dialect, column, bytes, len),
-        Entry::Null => Ok(put_null(out, dialect)?),
-        Entry::Others => put_slot_text(out, dialect, column, kind, tree, slot, tree.at(slot)),
+        Entry::Null => put_null(out, dialect, column, field),
+        Entry::Others => put_slot_text(out, dialect, column, field, tree, slot, tree.at(slot)),
     }
 }
 
@@ -147,7 +146,7 @@ fn put_leaf(
     out: &mut TextBuffer,
     dialect: &Dialect<'_>,
     column: u64,
-    kind: &DataType,
+    field: &Field,
     tree: &ColumnTree<'_>,
     slot: usize,
     value: Slot<'_>,
@@ -157,15 +156,15 @@ fn put_leaf(
     requires value { slice_get (slot_values tree.now) slot
         ≡ Some (value_in_slot (row (child_columns tree.now)) slot value) }
     ensures { AddsField dialect.now.delimiter column
-        (csv_text dialect.now kind.now (slot_value tree.now slot)) out.old.text out.new.text
+        (csv_text dialect.now field.now (slot_value tree.now slot)) out.old.text out.new.text
         result }
 {
     match value {
-        Slot::Int(number) => put_int(out, column, kind, number),
+        Slot::Int(number) => put_int(out, column, &field.kind, number),
         Slot::Bool(truth) => Ok(put_bool(out, truth)),
         Slot::Bytes(bytes) => put_bytes_field(out, dialect, column, bytes),
-        Slot::Null => Ok(put_null(out, dialect)?),
-        _ => put_other(out, dialect, column, kind, tree, slot),
+        Slot::Null => put_null(out, dialect, column, field),
+        _ => put_other(out, dialect, column, field, tree, slot),
     }
 }
 
@@ -175,18 +174,20 @@ fn put_text_slot(
     out: &mut TextBuffer,
     dialect: &Dialect<'_>,
     column: u64,
+    field: &Field,
     tree: &ColumnTree<'_>,
     slot: usize,
 ) -> Result<(), TextFault>
     requires room { 32 ≤ out.old.room }
     requires layout { tree.now.column.layout ≡ Layout.VariableBytes true }
     requires slot { slot < length (slot_values tree.now) }
-    ensures { (kind : DataType) → AddsField dialect.now.delimiter column
-        (csv_text dialect.now kind (slot_value tree.now slot)) out.old.text out.new.text result }
+    ensures { AddsField dialect.now.delimiter column
+        (csv_text dialect.now field.now (slot_value tree.now slot)) out.old.text out.new.text
+        result }
 {
     match tree.text_at(slot) {
         Some((bytes, len)) => put_front_field(out, dialect, column, bytes, len),
-        None => Ok(put_null(out, dialect)?),
+        None => put_null(out, dialect, column, field),
     }
 }
 
@@ -196,14 +197,14 @@ fn put_cell(
     out: &mut TextBuffer,
     dialect: &Dialect<'_>,
     column: u64,
-    kind: &DataType,
+    field: &Field,
     tree: &ColumnTree<'_>,
     slot: usize,
 ) -> Result<(), TextFault>
     requires room { 32 ≤ out.old.room }
     requires slot { slot < length (slot_values tree.now) }
     ensures { AddsField dialect.now.delimiter column
-        (csv_text dialect.now kind.now (slot_value tree.now slot)) out.old.text out.new.text
+        (csv_text dialect.now field.now (slot_value tree.now slot)) out.old.text out.new.text
         result }
 {
     match tree.kind() {
@@ -215,7 +216,7 @@ fn put_cell(
                 },
                 slot,
             );
-            put_leaf(out, dialect, column, kind, tree, slot, value)
+            put_leaf(out, dialect, column, field, tree, slot, value)
         }
         SlotReader::Int32 => {
             let value = tree.at_layout(
@@ -225,18 +226,18 @@ fn put_cell(
                 },
                 slot,
             );
-            put_leaf(out, dialect, column, kind, tree, slot, value)
+            put_leaf(out, dialect, column, field, tree, slot, value)
         }
         SlotReader::Bool => {
             let value = tree.at_layout(Layout::Bits, slot);
-            put_leaf(out, dialect, column, kind, tree, slot, value)
+            put_leaf(out, dialect, column, field, tree, slot, value)
         }
-        SlotReader::Utf8 => put_text_slot(out, dialect, column, tree, slot),
+        SlotReader::Utf8 => put_text_slot(out, dialect, column, field, tree, slot),
         SlotReader::Bytes(width) => {
             let value = tree.at_layout(Layout::FixedBytes(width), slot);
-            put_leaf(out, dialect, column, kind, tree, slot, value)
+            put_leaf(out, dialect, column, field, tree, slot, value)
         }
-        SlotReader::Others => put_other(out, dialect, column, kind, tree, slot),
+        SlotReader::Others => put_other(out, dialect, column, field, tree, slot),
     }
 }
 
@@ -264,7 +265,7 @@ fn put_cells(
     while let ([field, more_fields @ ..], [column, more_columns @ ..]) = (fields, columns) {
         out.reserve(MAX_VALUE_LEN)?;
         put_delimiter(out, dialect.delimiter(), number);
-        put_cell(out, dialect, number as u64, &field.kind, column.tree(), row)?;
+        put_cell(out, dialect, number as u64, field, column.tree(), row)?;
         number += 1;
         fields = more_fields;
         columns = more_columns;

@@ -24,9 +24,8 @@ use Rattle.ipc_column.proofs.Parts.{children_out}
 use Rattle.ipc_column.proofs.lending.Slots.{items_length}
 use Rattle.serde_json.specs.Data.{null}
 use Rattle.ipc_column.proofs.Cells.{row_length}
-use Rattle.ipc_model.specs.declared.schema.DataType.{DataType}
 use Rattle.ipc_text_csv.specs.declared.dialect.Dialect.{Dialect}
-use Rattle.ipc_text_csv.specs.RowCsv.{csv_text, value_text}
+use Rattle.ipc_text_csv.specs.RowCsv.{csv_text, own_text}
 use Rattle.ipc_text_json.specs.declared.row.RowShape.{RowShape}
 use Rattle.ipc_text_json.specs.RowJson.{Printed, cell_json, field_json, row_field, value_json}
 use Rattle.job_print.specs.LentSlots.{HaveSlot, HasListSlots, list_values, slot_value, values_between}
@@ -72,12 +71,12 @@ slot_json shape f n i s h =
     ∙ json_shown shape f (row (child_columns n)) i s
 
 -- the text in CSV of a slot, by what it was found to hold
-pub slot_csv : (d : Dialect) (kind : DataType) (n : Nested) (i : ℕ) (s : Slot)
+pub slot_csv : (d : Dialect) (f : Field) (n : Nested) (i : ℕ) (s : Slot)
     → slice_get (slot_values n) i ≡ Some (value_in_slot (row (child_columns n)) i s)
-    → csv_text d kind (slot_value n i) ≡ value_text d kind (open_slot (row (child_columns n)) i s)
-slot_csv d kind n i s h =
-    ap (csv_text d kind) (get_or_from_slice_get (slot_values n) i (value_in_slot (row (child_columns n)) i s) v.Null h)
-    ∙ ap (value_text d kind) (out_slot (row (child_columns n)) i s)
+    → csv_text d f (slot_value n i) ≡ own_text d f (open_slot (row (child_columns n)) i s)
+slot_csv d f n i s h =
+    ap (csv_text d f) (get_or_from_slice_get (slot_values n) i (value_in_slot (row (child_columns n)) i s) v.Null h)
+    ∙ ap (own_text d f) (out_slot (row (child_columns n)) i s)
 
 -- a child has the slots of its column
 slots_length : (body : List ℕ) (p : ColumnRanges) → length (slot_values (nested body p)) ≡ (column_of body p).slots

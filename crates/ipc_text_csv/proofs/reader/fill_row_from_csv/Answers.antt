@@ -22,8 +22,8 @@ returns-then-is_empty-clause-all c row h =
     ]
 
 pub returns-then-is_empty-clause-back : goal.returns-then-is_empty-clause-back
-returns-then-is_empty-clause-back c row flat fits stored e =
-    let r = each_back c.args.dialect 0 c.args.schema.now.fields (fields_of c.args.fields.now) row fits.0 fits.1 stored e in
+returns-then-is_empty-clause-back c row flat typed e =
+    let r = each_back c.args.dialect 0 c.args.schema.now.fields (fields_of c.args.fields.now) row typed e in
     returns-then-is_empty-clause-all c row (flat, r)
 
 pub returns-in-Err-clause-all : goal.returns-in-Err-clause-all
@@ -35,12 +35,12 @@ returns-in-Err-clause-all c row h =
     (subst (λ fs. EachReadsAs c.args.dialect fs (fields_of c.args.fields.now) row) (sym c.as_slice-columns.ensures) h.1)
 
 pub returns-in-Err-clause-back : goal.returns-in-Err-clause-back
-returns-in-Err-clause-back c row flat fits stored e =
-    let r = each_back c.args.dialect 0 c.args.schema.now.fields (fields_of c.args.fields.now) row fits.0 fits.1 stored e in
+returns-in-Err-clause-back c row flat typed e =
+    let r = each_back c.args.dialect 0 c.args.schema.now.fields (fields_of c.args.fields.now) row typed e in
     returns-in-Err-clause-all c row (flat, r)
 
 pub returns-clause-back : goal.returns-clause-back
-returns-clause-back c row flat fits stored e =
-    let r = each_back c.args.dialect 0 c.args.schema.now.fields (fields_of c.args.fields.now) row fits.0 fits.1 stored e in
+returns-clause-back c row flat typed e =
+    let r = each_back c.args.dialect 0 c.args.schema.now.fields (fields_of c.args.fields.now) row typed e in
     c.from_vec.ensures ∙ c.in_default.ensures.all row
     (subst (λ fs. EachReadsAs c.args.dialect fs (fields_of c.args.fields.now) row) (sym c.as_slice-columns.ensures) r)

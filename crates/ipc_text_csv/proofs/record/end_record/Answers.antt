@@ -3,5 +3,5 @@ use Rattle.std.proofs.lemmas.Grind.{common_steps}
 use Rattle.ipc_text_csv.proofs.Records.{ended}
 use Rattle.ipc_text_csv.proofs.record.end_record.Goals as goal
 
-pub returns : goal.returns
-returns c delimiter = ended delimiter 0 _ _ (grind (arith, common_steps))
+pub returns-clause-record : goal.returns-clause-record
+returns-clause-record c delimiter = ended delimiter 0 _ _ (grind (arith, common_steps))

@@ -18,6 +18,5 @@ pub returns-in-Bytes : goal.returns-in-Bytes
 returns-in-Bytes c =
     rw (slot_csv _ _ c.args.tree.now _ (slot.Bytes c.in-Bytes.bytes) (rw c.in-Bytes.is at c.requires.value)) c.put_bytes_field.ensures
 
-pub returns-in_ok-put_null-in-Null : goal.returns-in_ok-put_null-in-Null
-returns-in_ok-put_null-in-Null c =
-    rw (slot_csv _ _ c.args.tree.now _ slot.Null (rw c.in-Null.is at c.requires.value)) (ap Some c.in_ok-put_null-in-Null.ensures)
+pub returns-in-Null : goal.returns-in-Null
+returns-in-Null c = rw (slot_csv _ _ c.args.tree.now _ slot.Null (rw c.in-Null.is at c.requires.value)) c.put_null.ensures

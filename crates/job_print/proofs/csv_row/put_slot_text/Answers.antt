@@ -4,9 +4,8 @@ use Rattle.ipc_column.specs.declared.slot_view.Slot.TheVariants as slot
 use Rattle.job_print.proofs.texts.SlotTexts.{slot_csv}
 use Rattle.job_print.proofs.csv_row.put_slot_text.Goals as goal
 
-pub returns-in_ok-put_null-in-Null : goal.returns-in_ok-put_null-in-Null
-returns-in_ok-put_null-in-Null c =
-    rw (slot_csv _ _ c.args.tree.now _ slot.Null (rw c.in-Null.is at c.requires.value)) (ap Some c.in_ok-put_null-in-Null.ensures)
+pub returns-in-Null : goal.returns-in-Null
+returns-in-Null c = rw (slot_csv _ _ c.args.tree.now _ slot.Null (rw c.in-Null.is at c.requires.value)) c.put_null.ensures
 
 pub returns-in-Bool : goal.returns-in-Bool
 returns-in-Bool c =

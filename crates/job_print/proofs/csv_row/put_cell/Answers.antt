@@ -1,4 +1,0 @@
-use Rattle.job_print.proofs.csv_row.put_cell.Goals as goal
-
-pub returns-in-Utf8 : goal.returns-in-Utf8
-returns-in-Utf8 c = c.put_text_slot.ensures c.args.kind.now
