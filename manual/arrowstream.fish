@@ -58,6 +58,7 @@ complete -c arrowstream -n '__fish_seen_subcommand_from from-csv' -l help -d 'Pr
 complete -c arrowstream -n '__fish_seen_subcommand_from rewrite' -l max-output-body -x -d 'Maximum bytes of a message'\''s body in what is written'
 complete -c arrowstream -n '__fish_seen_subcommand_from rewrite' -l max-batches -x -d 'Maximum batches that are written; stop before the next one'
 complete -c arrowstream -n '__fish_seen_subcommand_from rewrite' -l max-total-rows -x -d 'Maximum rows that are written; stop before a batch with more'
+complete -c arrowstream -n '__fish_seen_subcommand_from rewrite' -l max-total-bytes -x -d 'Maximum bytes that are written; stop before a batch with more'
 complete -c arrowstream -n '__fish_seen_subcommand_from rewrite' -l max-metadata -x -d 'Maximum bytes of a message'\''s metadata [default: 16777216]'
 complete -c arrowstream -n '__fish_seen_subcommand_from rewrite' -l max-body -x -d 'Maximum bytes of a message'\''s body [default: 1099511627776]'
 complete -c arrowstream -n '__fish_seen_subcommand_from rewrite' -l max-rows -x -d 'Maximum rows of a batch [default: 2147483647]'

@@ -76,12 +76,14 @@ pub record AskForOutput (rows : List Row) (limits : OutputLimits) : Type 0 where
   pub body : HasCount (codes "max-output-body") 0 max_body rows limits.body
   pub batches : HasCount (codes "max-batches") 0 (2 ^ 64 - 1) rows limits.batches
   pub total : HasCount (codes "max-total-rows") 0 (2 ^ 64 - 1) rows limits.rows
+  pub bytes : HasCount (codes "max-total-bytes") 0 (2 ^ 64 - 1) rows limits.bytes
 
 -- one of these limits is no number from 0 to its greatest value
 abbrev pub HasWrongOutput : List Row → Type 0
 HasWrongOutput rows = LacksCount (codes "max-output-body") 0 max_body rows
     ⊎ (LacksCount (codes "max-batches") 0 (2 ^ 64 - 1) rows
-    ⊎ LacksCount (codes "max-total-rows") 0 (2 ^ 64 - 1) rows)
+    ⊎ (LacksCount (codes "max-total-rows") 0 (2 ^ 64 - 1) rows
+    ⊎ LacksCount (codes "max-total-bytes") 0 (2 ^ 64 - 1) rows))
 
 -- the text of a delimiter is this one byte, or a backslash and a `t` for a tab
 abbrev pub IsDelimiter : Text → ℕ → Type 0

@@ -96,10 +96,11 @@ from_csv = with_rule (with_dialect (with_rule (with_rule (new_app (codes "from-c
 
 -- a subcommand with the options for the limits of what is written
 abbrev pub with_output_limits : App → App
-with_output_limits a = with_rule (with_rule (with_rule a
+with_output_limits a = with_rule (with_rule (with_rule (with_rule a
     (count (codes "max-output-body") 0 max_body))
     (count (codes "max-batches") 0 (2 ^ 64 - 1)))
-    (count (codes "max-total-rows") 0 (2 ^ 64 - 1))
+    (count (codes "max-total-rows") 0 (2 ^ 64 - 1)))
+    (count (codes "max-total-bytes") 0 (2 ^ 64 - 1))
 
 -- the subcommand that writes a stream in canonical layout
 abbrev pub rewrite : App

@@ -31,6 +31,8 @@ pub struct OutputLimits {
     pub batches: Option<u64>,
     /// The maximum number of rows of all batches together.
     pub rows: Option<u64>,
+    /// The maximum number of bytes of the whole stream.
+    pub bytes: Option<u64>,
 }
 
 /// What to do, and the limits of a stream that is read.
@@ -287,6 +289,7 @@ fn read_output(alloc: Global, options: &ArgMatches<'_>) -> Result<OutputLimits, 
         body: read_count(alloc, options, "max-output-body", MAX_BODY)?,
         batches: read_count(alloc, options, "max-batches", u64::MAX)?,
         rows: read_count(alloc, options, "max-total-rows", u64::MAX)?,
+        bytes: read_count(alloc, options, "max-total-bytes", u64::MAX)?,
     })
 }
 

@@ -61,8 +61,9 @@ Examples:
 
 const REWRITE_EXAMPLES: &str = "\
 The schema, the batches, their pairs and their rows stay the same. Each batch is laid out as this
-program does it, and the stream ends with the end-of-stream mark. --max-output-body, --max-batches
-and --max-total-rows bound what is written, and the other --max options what is read. A batch that
+program does it, and the stream ends with the end-of-stream mark. --max-output-body, --max-batches,
+--max-total-rows and --max-total-bytes bound what is written, and the other --max options what is
+read. --max-total-bytes counts all bytes, those of the schema and of the mark included. A batch that
 is written may have a longer body than the one that was read: without --max-output-body, up to the
 default of --max-body, or --max-body if that is greater.
 
@@ -378,6 +379,12 @@ fn with_output_limits<'a>(alloc: Global, command: Command<'a>) -> Result<Command
             "max-total-rows",
             u64::MAX,
             "Maximum rows that are written; stop before a batch with more",
+        ))?
+        .arg(count(
+            alloc,
+            "max-total-bytes",
+            u64::MAX,
+            "Maximum bytes that are written; stop before a batch with more",
         ))
 }
 

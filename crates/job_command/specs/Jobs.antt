@@ -56,6 +56,7 @@ stop_status stop.Input = fault_status f.Read
 stop_status stop.Schema = fault_status f.Read
 stop_status (stop.Write fault) = write_fault_status fault
 stop_status (stop.Above total number) = 1
+stop_status stop.NoRoom = 1
 stop_status (stop.Rows fault s) = write_fault_status fault
 stop_status (stop.Text fault) = text_status fault
 stop_status (stop.SchemaText text) = 1
@@ -77,6 +78,7 @@ abbrev pub stop_of_rewrite : RewriteStop → Stop
 stop_of_rewrite (rewrite.Read fault message) = stop.Read fault message
 stop_of_rewrite (rewrite.Write fault) = stop.Write fault
 stop_of_rewrite (rewrite.Above total number) = stop.Above total number
+stop_of_rewrite rewrite.NoRoom = stop.NoRoom
 
 -- the reason why a conversion from CSV by a schema stopped, as the job's
 abbrev pub stop_of_csv : Schema → CsvStop → Stop
@@ -111,6 +113,7 @@ rewrite_options output mark = record {
   max_body = output.body;
   max_batches = output.batches;
   max_rows = output.rows;
+  max_bytes = output.bytes;
 }
 
 -- what a result states about the schema of a stream that is printed

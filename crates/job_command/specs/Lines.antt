@@ -16,7 +16,7 @@ use Rattle.job_explain.specs.Writes.{ExplainsWrite}
 use Rattle.job_explain.specs.declared.message_record.MessageRecord.{MessageRecord}
 use Rattle.ipc_text_temporal.specs.declared.fault.TextFault.TheVariants as x
 use Rattle.job_rewrite.specs.declared.options.Total.{Total}
-use Rattle.job_rewrite.specs.declared.options.Total.TheVariants.{Batches, Rows}
+use Rattle.job_rewrite.specs.declared.options.Total.TheVariants.{Batches, Bytes, Rows}
 use Rattle.job_command.specs.declared.stop.Stop.{Stop}
 use Rattle.job_command.specs.declared.stop.Stop.TheVariants as stop
 
@@ -29,6 +29,7 @@ write_line fault = write_fault_text fault
 abbrev pub above_text : Total → ℕ → List ℕ
 above_text Batches number = codes "output above --max-batches at batch " ++ decimal number
 above_text Rows number = codes "output above --max-total-rows at batch " ++ decimal number
+above_text Bytes number = codes "output above --max-total-bytes at batch " ++ decimal number
 
 -- the line of a job that stopped, without its line feed
 abbrev pub stop_text : Stop → List ℕ
@@ -37,6 +38,7 @@ stop_text stop.Input = fault_text f.Read
 stop_text stop.Schema = codes "cannot read schema"
 stop_text (stop.Write fault) = write_line fault
 stop_text (stop.Above total number) = above_text total number
+stop_text stop.NoRoom = codes "output above --max-total-bytes at the schema"
 stop_text (stop.Rows fault s) = write_line fault
 stop_text (stop.Text fault) = text_fault_line fault
 stop_text (stop.SchemaText text) = text_fault_line x.BadSchemaJson

@@ -178,6 +178,7 @@ fn rewrite_options(output: OutputLimits, require_mark: bool) -> RewriteOptions
         max_body: output.body,
         max_batches: output.batches,
         max_rows: output.rows,
+        max_bytes: output.bytes,
     }
 }
 

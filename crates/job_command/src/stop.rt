@@ -29,6 +29,8 @@ pub enum Stop {
     Write(WriteFault),
     /// The batch with this number, counted from 0, would exceed this total of what is written.
     Above(Total, u64),
+    /// The message of the schema and the end-of-stream mark have more bytes than may be written.
+    NoRoom,
     /// Rows of CSV could not be written.
     Rows {
         /// Why they could not be written.
@@ -80,6 +82,7 @@ impl From<job_rewrite::RewriteStop> for Stop {
             job_rewrite::RewriteStop::Read(fault, message) => Stop::Read(fault, message),
             job_rewrite::RewriteStop::Write(fault) => Stop::Write(fault),
             job_rewrite::RewriteStop::Above(total, number) => Stop::Above(total, number),
+            job_rewrite::RewriteStop::NoRoom => Stop::NoRoom,
         }
     }
 }
@@ -110,7 +113,7 @@ impl Stop {
             Stop::Read(fault, _) => fault.exit_status(),
             Stop::Input | Stop::Schema => Fault::Read.exit_status(),
             Stop::Write(fault) => fault.exit_status(),
-            Stop::Above(..) => 1,
+            Stop::Above(..) | Stop::NoRoom => 1,
             Stop::Rows { fault, .. } => fault.exit_status(),
             Stop::Text(TextFault::OutOfMemory) => WriteFault::OutOfMemory.exit_status(),
             Stop::Text(_) => 1,
@@ -120,9 +123,9 @@ impl Stop {
     }
 
     /// Writes it as one line to a sink: the fault with the number of its message, as in
-    /// `F4 Truncated at message 1`, or the option whose total a batch would exceed, with the number
-    /// of the batch. The input and the schema's file have a line without a message, and out of
-    /// memory has no number. Nothing is allocated.
+    /// `F4 Truncated at message 1`, or the option whose total the output would exceed, with the
+    /// number of the batch. The input and the schema's file have a line without a message, and out
+    /// of memory has no number. Nothing is allocated.
     ///
     /// Errors: the sink failed, and it may have taken a part of the line.
     pub fn write_line<E: Sink>(&self, messages: &mut E) -> Result<(), Failed>
@@ -147,6 +150,7 @@ impl Stop {
             Stop::Schema => send(messages, "cannot read schema"),
             Stop::Write(fault) => send_write_fault(messages, fault),
             Stop::Above(total, number) => send_above(messages, total, *number),
+            Stop::NoRoom => send(messages, "output above --max-total-bytes at the schema"),
             Stop::Rows { fault, .. } => send_write_fault(messages, fault),
             Stop::Text(fault) => send_text_fault(messages, fault),
             Stop::SchemaText(_) => send_text_fault(messages, &TextFault::BadSchemaJson),

@@ -152,6 +152,10 @@ pub fn send_above<E: Sink>(messages: &mut E, total: &Total, number: u64) -> Resu
             send(messages, "output above --max-total-rows at batch ")?;
             send_number(messages, number)
         }
+        Total::Bytes => {
+            send(messages, "output above --max-total-bytes at batch ")?;
+            send_number(messages, number)
+        }
     }
 }
 

@@ -3,12 +3,13 @@ use Rattle.std.proofs.Common.{◌≡◌, ◌∙◌, refl, sym, ap, subst, ℕ, s
 use Rattle.std.proofs.Common.{Err, Option, append-nil, append_assoc, arith, false, length, true}
 use Rattle.std.specs.Prelude.{Bool, IsTrue}
 use Rattle.std.specs.List.{AllByRecursion}
-use Rattle.std.specs.Io.KnownBytes.{Consumes}
+use Rattle.std.specs.Io.KnownBytes.{Appends, Consumes}
 use Rattle.std.proofs.KnownBytes.{Appends-nil, Appends-trans, Consumes-nil, Consumes-trans}
 use Rattle.std.proofs.lemmas.List.{map-append}
 use Rattle.ipc_model.specs.declared.fault.Fault.{Fault}
 use Rattle.ipc_model.specs.declared.fault.WriteFault.{WriteFault}
 use Rattle.ipc_model.specs.declared.limits.Limits.{Limits}
+use Rattle.ipc_model.specs.declared.schema.Schema.{Schema}
 use Rattle.ipc_model.specs.declared.table.BatchRows.{BatchRows}
 use Rattle.ipc_stream_read.specs.declared.end.End.{End}
 use Rattle.ipc_stream_read.specs.declared.end.End.TheVariants.{Closed, Mark}
@@ -25,12 +26,15 @@ use Rattle.ipc_stream.specs.Dictionaries.{SendsBatch, SendsBatches, kept_after, 
 use Rattle.ipc_stream.specs.OpenStreams.{OpenStreamState}
 use Rattle.ipc_stream.specs.Writer.{Writer}
 use Rattle.ipc_stream.specs.Writing.{AcceptsBatch, RefusesBatch, Sent, NotSentWhole}
+use Rattle.job_rewrite.proofs.Bytes.{room_less, takes_more, takes_none}
+use Rattle.job_rewrite.specs.Outputs.{HasNoRoom, RefusesWrite, SendsWhole, Takes}
 use Rattle.ipc_stream_read.proofs.Runs.{run_one, run_then, messages_one, messages_then}
 use Rattle.ipc_stream.proofs.Chains.{batches_more, kept_then}
 use Rattle.job_rewrite.specs.declared.stop.RewriteStop.TheVariants as stop
 use Rattle.job_rewrite.specs.declared.options.RewriteOptions.{RewriteOptions}
 use Rattle.job_rewrite.specs.declared.options.Total.{Total}
-use Rattle.job_rewrite.specs.Rewriting.{CopiesBatches, CopiesRest, RefusesLast, StopsAtLast}
+use Rattle.job_rewrite.specs.declared.options.Total.TheVariants as total
+use Rattle.job_rewrite.specs.Rewriting.{CopiesBatches, CopiesRest, ExceedsRest, RefusesLast, StopsAtLast}
 use Rattle.job_rewrite.specs.Totals.{AreAbove, AreWithin, IsWithin}
 use Rattle.ipc_stream_read.specs.Ends.{as_required}
 use Rattle.job_rewrite.proofs.Totals.{count_last, rows_last}
@@ -41,7 +45,8 @@ within_none None = tt
 within_none (Some n) = omega arith
 
 -- these batches were read after the schema, and sent; `count` is their number, and `rows` that of their rows
-pub record Copied (options : RewriteOptions) (count rows : ℕ) (old now : Reader) (before after : Writer) : Type 0 where
+pub record Copied (options : RewriteOptions) (count rows : ℕ) (old now : Reader) (before after : Writer)
+    (room left : Option ℕ) : Type 0 where
   pub x : List ℕ
   pub batches : List BatchRows
   pub bytes : Consumes old.remaining now.remaining x
@@ -53,6 +58,7 @@ pub record Copied (options : RewriteOptions) (count rows : ℕ) (old now : Reade
   pub counted : (k : ℕ) → old.messages ≡ count_up 0 k → now.messages ≡ count_up 0 (k + messages_in run)
   pub accepts : AllByRecursion (AcceptsBatch before.limits old.schema) batches
   pub sent : Sent (SendsBatches before.limits old.schema before.kept batches) before.written after.written before.failures after.failures
+  pub takes : Takes room left (length sent.x)
   pub sent_schema : after.schema ≡ old.schema
   pub sent_limits : after.limits ≡ before.limits
   pub kept : after.kept ≡ kept_after old.schema.fields before.kept batches
@@ -65,9 +71,9 @@ zero_more : (k : ℕ) → k + 0 ≡ k
 zero_more k = omega arith
 
 -- before the first batch nothing was read and sent
-pub copied_none : (options : RewriteOptions) (r : Reader) (w : Writer) → r.phase ≡ Reading → r.failures ≡ 0
-    → w.failed ≡ false → w.failures ≡ 0 → w.schema ≡ r.schema → Copied options 0 0 r r w w
-copied_none options r w reading source works sink is = record {
+pub copied_none : (options : RewriteOptions) (r : Reader) (w : Writer) (room : Option ℕ) → r.phase ≡ Reading → r.failures ≡ 0
+    → w.failed ≡ false → w.failures ≡ 0 → w.schema ≡ r.schema → Copied options 0 0 r r w w room room
+copied_none options r w room reading source works sink is = record {
   x = [];
   batches = [];
   bytes = Consumes-nil r.remaining;
@@ -85,6 +91,7 @@ copied_none options r w reading source works sink is = record {
     worked = sink;
     works = sink;
   };
+  takes = takes_none room;
   sent_schema = is;
   sent_limits = refl;
   kept = refl;
@@ -159,8 +166,15 @@ record Came (limits : Limits) (now new : Reader) (x : List ℕ) (found : ReadRow
   pub run : Counted limits (Some (in_force_of now)) x (batch (batch_rows found) ∷ []) (Some (in_force_of new)) count
   pub messages : new.messages ≡ count_up now.messages count
 
-module _ (options : RewriteOptions) (count rows : ℕ) (old now new : Reader) (before after : Writer)
-    (b : Copied options count rows old now before after) where
+-- a total of counts that is exceeded
+exceeds_counted : (options : RewriteOptions) (room : Option ℕ) (t : Total) (before : Writer) (s : Schema) (batches : List BatchRows)
+    (last : BatchRows) (x : List ℕ) → AreAbove options t (batches ++ last ∷ []) → ExceedsRest options room t before s batches last x
+exceeds_counted options room total.Batches before s batches last x above = above
+exceeds_counted options room total.Rows before s batches last x above = above
+exceeds_counted options room total.Bytes before s batches last x above = absurd above
+
+module _ (options : RewriteOptions) (count rows : ℕ) (old now new : Reader) (before after : Writer) (room left : Option ℕ)
+    (b : Copied options count rows old now before after room left) where
   -- the batch that came, under the limits that the reader was opened with
   came : (found : ReadRows) → (t : NextCall now new (Ok (Some found))) → (new.phase ≡ Reading) × Came old.limits now new t.x found
   came found t =
@@ -207,17 +221,15 @@ module _ (options : RewriteOptions) (count rows : ℕ) (old now new : Reader) (b
   as_before P h = subst P (λ i. record { limits = b.sent_limits i; schema = b.sent_schema i; kept = b.kept i; seed = after.seed }) h
 
   -- where one batch more is read and sent, the batches that were sent are those from before and it
-  pub copied_more : (found : ReadRows) (next : Writer) (batches_then rows_then : ℕ) → batches_then ≡ count_up count 1
-      → rows_then ≡ count_up rows (length (batch_rows found).rows) → AreWithin options (b.batches ++ batch_rows found ∷ [])
-      → NextCall now new (Ok (Some found)) → new.failures ≡ now.failures
-      → Sent (SendsBatch after.limits after.schema after.kept (batch_rows found)) after.written next.written after.failures next.failures
-      → AcceptsBatch after.limits after.schema (batch_rows found) → next.limits ≡ after.limits → next.schema ≡ after.schema
-      → next.kept ≡ kept_after after.schema.fields after.kept (batch_rows found ∷ []) → next.failed ≡ false
-      → Copied options batches_then rows_then old new before next
-  copied_more found next batches_then rows_then one more within t works sent accepts limits schema kept ready =
+  pub copied_more : (found : ReadRows) (next : Writer) (rest : Option ℕ) (batches_then rows_then : ℕ)
+      → batches_then ≡ count_up count 1 → rows_then ≡ count_up rows (length (batch_rows found).rows)
+      → AreWithin options (b.batches ++ batch_rows found ∷ []) → NextCall now new (Ok (Some found)) → new.failures ≡ now.failures
+      → SendsWhole after left (batch_rows found) next rest → Copied options batches_then rows_then old new before next room rest
+  copied_more found next rest batches_then rows_then one more within t works h =
+      let sent = h.sent in
       let sent_here = as_before (λ w. SendsBatch w.limits w.schema w.kept (batch_rows found) sent.x) sent.whole in
-      let accepts_here = as_before (λ w. AcceptsBatch w.limits w.schema (batch_rows found)) accepts in
-      let kept_here = as_before (λ w. next.kept ≡ kept_after w.schema.fields w.kept (batch_rows found ∷ [])) kept in
+      let accepts_here = as_before (λ w. AcceptsBatch w.limits w.schema (batch_rows found)) h.accepts in
+      let kept_here = as_before (λ w. next.kept ≡ kept_after w.schema.fields w.kept (batch_rows found ∷ [])) h.kept in
       record {
         x = b.x ++ t.x;
         batches = b.batches ++ batch_rows found ∷ [];
@@ -236,10 +248,11 @@ module _ (options : RewriteOptions) (count rows : ℕ) (old now new : Reader) (b
           worked = b.sent.worked;
           works = sent.works;
         };
-        sent_schema = schema ∙ b.sent_schema;
-        sent_limits = limits ∙ b.sent_limits;
+        takes = takes_more room left rest b.sent.x sent.x b.takes h.takes;
+        sent_schema = h.same_schema ∙ b.sent_schema;
+        sent_limits = h.same_limits ∙ b.sent_limits;
         kept = kept_here ∙ sym (kept_then old.schema.fields before.kept b.batches (batch_rows found ∷ []));
-        works = ready;
+        works = h.works;
         batches_are =
             let long = count_last b.batches (batch_rows found) in omega (arith, b.batches_are, one, long);
         rows_are =
@@ -249,10 +262,9 @@ module _ (options : RewriteOptions) (count rows : ℕ) (old now new : Reader) (b
 
   -- where the batch that came is refused, it is the last that was read, and those before it were sent
   pub copied_refused : (found : ReadRows) (next : Writer) (fault : WriteFault) → AreWithin options (b.batches ++ batch_rows found ∷ [])
-      → NextCall now new (Ok (Some found))
-      → NotSentWhole (SendsBatch after.limits after.schema after.kept (batch_rows found)) after.written next.written after.failures
-      next.failures fault → RefusesBatch after.limits after.schema (batch_rows found) fault → RefusesLast options old new before next fault
-  copied_refused found next fault within t unsent refuses = record {
+      → NextCall now new (Ok (Some found)) → RefusesWrite after left (batch_rows found) next fault
+      → RefusesLast options old new before next fault
+  copied_refused found next fault within t h = record {
     x = b.x ++ t.x;
     batches = b.batches;
     last = batch_rows found;
@@ -263,15 +275,15 @@ module _ (options : RewriteOptions) (count rows : ℕ) (old now new : Reader) (b
     between = after.written;
     failures = after.failures;
     sent = b.sent;
-    refuses = as_before (λ w. RefusesBatch w.limits w.schema (batch_rows found) fault) refuses;
+    refuses = as_before (λ w. RefusesBatch w.limits w.schema (batch_rows found) fault) h.refuses;
     unsent = as_before (λ w. NotSentWhole (SendsBatch w.limits w.schema w.kept (batch_rows found)) after.written next.written after.failures
-        next.failures fault) unsent;
+        next.failures fault) h.unsent;
   }
 
-  -- where the batch that came would exceed a total, those before it were sent
-  pub copied_above : (found : ReadRows) (total : Total) (number : ℕ) → number ≡ count
-      → AreAbove options total (b.batches ++ batch_rows found ∷ []) → NextCall now new (Ok (Some found))
-      → StopsAtLast options old new before after total number
+  -- where the batch that came would exceed a total of counts, those before it were sent
+  pub copied_above : (found : ReadRows) (t : Total) (number : ℕ) → number ≡ count
+      → AreAbove options t (b.batches ++ batch_rows found ∷ []) → NextCall now new (Ok (Some found))
+      → StopsAtLast options room old new before after t number
   copied_above found total number same above t = record {
     x = b.x ++ t.x;
     batches = b.batches;
@@ -280,9 +292,35 @@ module _ (options : RewriteOptions) (count rows : ℕ) (old now new : Reader) (b
     run = (all_came found t).0;
     counted = same ∙ b.batches_are;
     within = b.within;
-    above = above;
     accepts = b.accepts;
     sent = b.sent;
+    above = exceeds_counted options room total before old.schema b.batches (batch_rows found) b.sent.x above;
+  }
+
+  -- where its messages have more bytes than may be written, too
+  pub copied_full : (found : ReadRows) (next : Writer) (number : ℕ) → number ≡ count → NextCall now new (Ok (Some found))
+      → HasNoRoom after left (batch_rows found) next → StopsAtLast options room old new before next total.Bytes number
+  copied_full found next number same t h = record {
+    x = b.x ++ t.x;
+    batches = b.batches;
+    last = batch_rows found;
+    bytes = Consumes-trans old.remaining now.remaining new.remaining b.x t.x b.bytes t.bytes;
+    run = (all_came found t).0;
+    counted = same ∙ b.batches_are;
+    within = b.within;
+    accepts = b.accepts;
+    sent = record {
+      x = b.sent.x;
+      whole = b.sent.whole;
+      bytes = subst (λ o. Appends before.written o b.sent.x) (sym h.same_written) b.sent.bytes;
+      worked = b.sent.worked;
+      works = h.same_failures ∙ b.sent.works;
+    };
+    above = (
+      h.x,
+      as_before (λ w. SendsBatch w.limits w.schema w.kept (batch_rows found) h.x) h.whole,
+      room_less room left (length b.sent.x) (length h.x) b.takes h.above,
+    );
   }
 
   -- the messages that tell nothing behind the batches, and how many all are
@@ -334,17 +372,17 @@ module _ (options : RewriteOptions) (count rows : ℕ) (old now new : Reader) (b
   -- also where the mark is required and there is one
   pub copied_end : (found : Option End) (e f : End) → NextCall now new (Ok None) → found ≡ end_of new.phase
       → found ≡ Some e → as_required options.require_mark (Ok e) ≡ Ok f
-      → CopiesBatches options old new before after (Ok new.messages)
+      → CopiesBatches options room old new before after (Ok new.messages)
   copied_end found e f t is given ends = (e, copied_rest found e t is given, marked options.require_mark e f ends, refl)
 
   -- where it has no mark, that is the fault
   pub copied_unmarked : (found : Option End) (e : End) (fault : Fault) → NextCall now new (Ok None) → found ≡ end_of new.phase
       → found ≡ Some e → as_required options.require_mark (Ok e) ≡ Err fault
-      → CopiesBatches options old new before after (Err (stop.Read fault new.messages))
+      → CopiesBatches options room old new before after (Err (stop.Read fault new.messages))
   copied_unmarked found e fault t is given ends = (Ok e, copied_rest found e t is given, ends, refl)
 
   -- where reading breaks off, all batches before were sent
   pub copied_break : (fault : Fault) → NextCall now new (Err fault)
-      → CopiesBatches options old new before after (Err (stop.Read fault new.messages))
+      → CopiesBatches options room old new before after (Err (stop.Read fault new.messages))
   copied_break fault t =
       (Err fault, rest t.x (Err fault) t.bytes (broke now new now.phase new.phase t.x fault b.reading t.gives), refl, refl)

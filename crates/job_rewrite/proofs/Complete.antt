@@ -36,6 +36,7 @@ use Rattle.job_rewrite.specs.declared.stop.RewriteStop.TheVariants as stop
 use Rattle.job_rewrite.specs.RewriteLimits.{sent_limits}
 use Rattle.job_rewrite.specs.Rewriting.{AnswersRewrittenTable, BreaksReading, unopened, broken, BreaksWriting, unstarted, refused}
 use Rattle.job_rewrite.specs.Rewriting.{unended, BreaksTotals, Rewrites, CountsRewriteFailures, StopsAbove, with_batch}
+use Rattle.job_rewrite.specs.Rewriting.{BreaksAtSchema, StopsAtSchema}
 use Rattle.job_rewrite.specs.Totals.{AreWithin}
 
 -- the batch behind the first ones is inside
@@ -123,6 +124,15 @@ module _ {limits : Limits} (options : RewriteOptions) (new : Option (List ℕ)) 
       (λ i. record { schema = u.schema; batches = sym (append_assoc u.batches (c.last ∷ []) others.0) i }) ∙ sym others.1 in
       (u, c.last, others.0, joined, c.stops)
 
+  -- a schema without room is that of the table
+  roomless : BreaksAtSchema options limits (Some z) new w0 w1 f0 f1
+      → StopsAtSchema options.max_bytes (sent_limits options limits) t.schema w0 w1 f0 f1
+  roomless c =
+      let left = left_of z new c.x c.bytes in
+      let begins = front_begins z c.x left.0 t _ _ h left.1 c.opens in
+      let same = schema_begins t c.s begins.0 begins.1 in
+      subst (λ (q : Schema). StopsAtSchema options.max_bytes (sent_limits options limits) q w0 w1 f0 f1) same c.stops
+
   -- reading breaks off for want of memory, or at an end without the mark
   reading : (fault : Fault) (message : ℕ) → ((f : Fault) → f ≡ fault → TakesTable limits (Some z) new (Err f) → f ≡ OutOfMemory)
       → ((u : Table) → TakesTable limits (Some z) new (Ok (u, Closed)) → IsTrue options.require_mark → ⊥)
@@ -156,6 +166,7 @@ module _ {limits : Limits} (options : RewriteOptions) (new : Option (List ℕ)) 
       reading fault message (λ f same takes. memory f takes (subst (λ e. CountsFault g0 g1 e) (sym same) tells.0)) ends c
   answered g0 g1 memory ends (Err (stop.Write fault)) tells c = writing fault c
   answered g0 g1 memory ends (Err (stop.Above total number)) tells c = stopping total number c
+  answered g0 g1 memory ends (Err stop.NoRoom) tells c = roomless c
 
 module _ {limits : Limits} (options : RewriteOptions) (old new w0 w1 : Option (List ℕ)) (g0 g1 f0 f1 : ℕ) (r : Result ℕ RewriteStop)
     (tells : CountsRewriteFailures g0 g1 f0 f1 r) (c : Rewrites options limits old new w0 w1 f0 f1 r) (none : g1 ≡ 0) where

@@ -1,4 +1,6 @@
 pub mod Batches
+pub mod Bytes
+pub mod InMemory
 pub mod Leaving
 pub mod Complete
 pub mod Totals

@@ -1,6 +1,6 @@
 -- A whole stream, from its schema on.
 use Rattle.std.proofs.Common.{◌≡◌, ◌∙◌, refl, sym, ap, subst, ℕ, List, [], ◌∷◌, ◌++◌, map, Option, Some, None, Result, Ok, Err}
-use Rattle.std.proofs.Common.{arith}
+use Rattle.std.proofs.Common.{arith, length}
 use Rattle.std.specs.Prelude.{false}
 use Rattle.std.specs.List.{AllByRecursion}
 use Rattle.std.specs.Io.KnownBytes.{Consumes}
@@ -21,15 +21,23 @@ use Rattle.ipc_stream.specs.OpenStreams.{OpenStreamState}
 use Rattle.ipc_stream.specs.Writer.{FinishFails, Writer, StartsWriter, StartFails}
 use Rattle.ipc_stream.specs.Writing.{AcceptsBatch, AcceptsSchema, AcceptsTable, CutShort, NotSentWhole}
 use Rattle.ipc_stream.specs.Writing.{RefusesBatch, Sent}
+use Rattle.ipc_device.specs.Reports.{Report}
 use Rattle.ipc_stream_read.proofs.Answered.{taken_denotes}
+use Rattle.ipc_stream_read.proofs.Reporting.{opened_some}
 use Rattle.ipc_stream_read.proofs.Runs.{run_then, reads_after}
+use Rattle.job_rewrite.proofs.Bytes.{room_whole}
+use Rattle.job_rewrite.specs.Outputs.{StartsNot, StartsOutput}
+use Rattle.job_rewrite.specs.Reporting.{ReportsSentBatches}
 use Rattle.job_rewrite.specs.declared.options.RewriteOptions.{RewriteOptions}
+use Rattle.job_rewrite.specs.declared.options.Total.{Total}
+use Rattle.job_rewrite.specs.declared.options.Total.TheVariants as total
 use Rattle.job_rewrite.specs.declared.stop.RewriteStop.{RewriteStop}
 use Rattle.job_rewrite.specs.declared.stop.RewriteStop.TheVariants as stop
 use Rattle.job_rewrite.specs.RewriteLimits.{sent_limits}
 use Rattle.ipc_stream.proofs.Chains.{table_sends, table_tells}
 use Rattle.job_rewrite.specs.Rewriting.{CopiesTable, BreaksReading, unopened, broken, BreaksWriting, unstarted}
 use Rattle.job_rewrite.specs.Rewriting.{refused, unended, Rewrites, CopiesRest, CopiesBatches}
+use Rattle.job_rewrite.specs.Rewriting.{BreaksAtSchema, Exceeds, ExceedsRest, StopsAtSchema}
 
 -- behind the schema's message no dictionary is in force
 in_force_here : {limits : Limits} → (start : Option (List ℕ)) (s : Reader) → Opens limits start s
@@ -48,9 +56,46 @@ schema_refused {limits} options start s w0 w1 f0 f1 fault o h =
     let fails = subst (λ l. StartFails (sent_limits options l) s.schema w0 w1 f0 f1 fault) o.same_limits h in
     unstarted o.x s.schema o.bytes (opened start s o) fails.cause fails.unsent
 
-module _ {limits : Limits} (options : RewriteOptions) (start : Option (List ℕ)) (s t : Reader) (before : Writer)
+-- where it has no room, neither has the schema that was read
+pub schema_above : {limits : Limits} → (options : RewriteOptions) (start : Option (List ℕ)) (s : Reader) (w0 w1 : Option (List ℕ))
+    (f0 f1 : ℕ) → Opens limits start s
+    → StopsAtSchema options.max_bytes (sent_limits options s.limits) s.schema w0 w1 f0 f1
+    → BreaksAtSchema options limits start s.remaining w0 w1 f0 f1
+schema_above {limits} options start s w0 w1 f0 f1 o h = record {
+  x = o.x;
+  s = s.schema;
+  bytes = o.bytes;
+  opens = opened start s o;
+  stops = subst (λ l. StopsAtSchema options.max_bytes (sent_limits options l) s.schema w0 w1 f0 f1) o.same_limits h;
+}
+
+-- where a stream with a maximum of bytes isn't begun, it is for one of these causes, and no batch was read
+module _ {limits : Limits} (options : RewriteOptions) (start : Option (List ℕ)) (s : Reader) (w0 w1 : Option (List ℕ)) (f0 f1 : ℕ)
+    (most : ℕ) (o : Opens limits start s) where
+  pub not_begun : (why : RewriteStop) → options.max_bytes ≡ Some most
+      → StartsNot (sent_limits options s.limits) most s.schema w0 w1 f0 f1 why
+      → Rewrites options limits start s.remaining w0 w1 f0 f1 (Err why)
+  not_begun (stop.Write fault) is h = schema_refused options start s w0 w1 f0 f1 fault o h
+  not_begun stop.NoRoom is h = schema_above options start s w0 w1 f0 f1 o
+      (subst (λ m. StopsAtSchema m (sent_limits options s.limits) s.schema w0 w1 f0 f1) (sym is) h)
+  not_begun (stop.Read fault message) is h = absurd h
+  not_begun (stop.Above total number) is h = absurd h
+
+  pub none_reported : (why : RewriteStop) (reports : Option (List Report))
+      → StartsNot (sent_limits options s.limits) most s.schema w0 w1 f0 f1 why
+      → ReportsSentBatches limits start s.remaining reports reports (Err why)
+  none_reported (stop.Write fault) reports h = opened_some start s reports o
+  none_reported stop.NoRoom reports h = opened_some start s reports o
+  none_reported (stop.Read fault message) reports h = absurd h
+  none_reported (stop.Above total number) reports h = absurd h
+
+module _ {limits : Limits} (options : RewriteOptions) (start : Option (List ℕ)) (s t : Reader) (before : Writer) (room : Option ℕ)
     (w0 : Option (List ℕ)) (f0 : ℕ) (o : Opens limits start s)
-    (begun : StartsWriter (sent_limits options s.limits) s.schema w0 f0 before) where
+    (started : StartsOutput options.max_bytes (sent_limits options s.limits) s.schema w0 f0 before room) where
+  -- the message of the schema was sent
+  begun : StartsWriter (sent_limits options s.limits) s.schema w0 f0 before
+  begun = started.0
+
   -- the new stream's limits
   raised_here : before.limits ≡ sent_limits options limits
   raised_here = begun.same_limits ∙ ap (sent_limits options) o.same_limits
@@ -114,7 +159,7 @@ module _ {limits : Limits} (options : RewriteOptions) (start : Option (List ℕ)
         omega (arith, counted, reads_behind.1)
 
   -- where all batches and the mark were sent, so was the table
-  pub table_copied : (after : Writer) (n : ℕ) (w1 : Option (List ℕ)) (f1 : ℕ) → CopiesBatches options s t before after (Ok n)
+  pub table_copied : (after : Writer) (n : ℕ) (w1 : Option (List ℕ)) (f1 : ℕ) → CopiesBatches options room s t before after (Ok n)
       → Sent EndsStream after.written w1 after.failures f1 → Rewrites options limits start t.remaining w0 w1 f0 f1 (Ok n)
   table_copied after n w1 f1 (end, r, marked, number) mark =
       let h = taken_denotes start t.remaining (Ok (table_with r.batches, end))
@@ -167,7 +212,21 @@ module _ {limits : Limits} (options : RewriteOptions) (start : Option (List ℕ)
         (subst (λ l. Run l (Some (in_force_of s)) x (map batch batches) (Some (in_force_of t))) o.same_limits run),
   )
 
-  broken_here : (after : Writer) (why : RewriteStop) → CopiesBatches options s t before after (Err why)
+  -- a total that the batches after the schema would exceed, the table would too
+  exceeded : (total : Total) (batches : List BatchRows) (last : BatchRows) (w1 : Option (List ℕ)) (f1 : ℕ)
+      (sent : Sent (SendsBatches before.limits s.schema before.kept batches) before.written w1 before.failures f1)
+      → ExceedsRest options room total before s.schema batches last sent.x
+      → Exceeds options (sent_limits options limits) total (table_with batches) last (all_sent batches w1 f1 sent).x
+  unfolding begun all_sent
+  exceeded total.Batches batches last w1 f1 sent above = above
+  exceeded total.Rows batches last w1 f1 sent above = above
+  exceeded total.Bytes batches last w1 f1 sent above = (
+    above.0,
+    raised_too (λ w. SendsBatch w.limits w.schema (kept_after w.schema.fields w.kept batches) last above.0) above.1,
+    room_whole options.max_bytes room begun.sent.x sent.x (length above.0) started.1 above.2,
+  )
+
+  broken_here : (after : Writer) (why : RewriteStop) → CopiesBatches options room s t before after (Err why)
       → Rewrites options limits start t.remaining w0 after.written f0 after.failures (Err why)
   broken_here after (stop.Read fault message) (answer, r, ends, number) =
       broken o.x r.x (table_with r.batches) answer (taken after answer r) (opened start s o) (reads_behind after answer r).0 ends
@@ -190,15 +249,16 @@ module _ {limits : Limits} (options : RewriteOptions) (start : Option (List ℕ)
     stops = record {
       counted = r.counted;
       within = r.within;
-      above = r.above;
       accepts = all_accepted r.batches r.accepts;
       sent = all_sent r.batches after.written after.failures r.sent;
+      above = exceeded total r.batches r.last after.written after.failures r.sent r.above;
     };
   }
+  broken_here after stop.NoRoom r = absurd r
 
   -- where the batches were not all read and sent, neither was the stream
   pub batches_broken : (after : Writer) (w1 : Option (List ℕ)) (f1 : ℕ) (why : RewriteStop) → w1 ≡ after.written
-      → f1 ≡ after.failures → CopiesBatches options s t before after (Err why)
+      → f1 ≡ after.failures → CopiesBatches options room s t before after (Err why)
       → Rewrites options limits start t.remaining w0 w1 f0 f1 (Err why)
   batches_broken after w1 f1 why same_bytes same_count copies =
       subst (λ b. Rewrites options limits start t.remaining w0 b f0 f1 (Err why)) (sym same_bytes)

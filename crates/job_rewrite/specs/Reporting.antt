@@ -19,3 +19,5 @@ ReportsSentBatches limits old new reports_old reports_new (Err (stop.Write fault
     ReportsSome limits old new reports_old reports_new
 ReportsSentBatches limits old new reports_old reports_new (Err (stop.Above total number)) =
     ReportsSome limits old new reports_old reports_new
+ReportsSentBatches limits old new reports_old reports_new (Err stop.NoRoom) =
+    ReportsSome limits old new reports_old reports_new

@@ -22,16 +22,17 @@ use Rattle.ipc_stream_read.specs.Counts.{count_up, messages_in}
 use Rattle.ipc_stream.specs.Dictionaries.{SendsBatch, SendsBatches, SendsTable, kept_after}
 use Rattle.ipc_stream.specs.Dictionaries.{kept_at_start}
 use Rattle.ipc_stream.specs.Writer.{Writer}
-use Rattle.ipc_stream.specs.Writing.{AcceptsBatch, AcceptsTable, BreaksOff, CutShort}
+use Rattle.ipc_stream.specs.Writing.{AcceptsBatch, AcceptsSchema, AcceptsTable, BreaksOff, CutShort}
 use Rattle.ipc_stream_read.specs.Stream.{EndsStream, IsTableOf, OpensStream}
 use Rattle.ipc_stream.specs.Writing.{NotSentWhole}
 use Rattle.ipc_stream.specs.Writing.{RefusesBatch, RefusesSchema, Sent}
 use Rattle.job_rewrite.specs.declared.options.RewriteOptions.{RewriteOptions}
 use Rattle.job_rewrite.specs.declared.options.Total.{Total}
+use Rattle.job_rewrite.specs.declared.options.Total.TheVariants.{Bytes}
 use Rattle.job_rewrite.specs.declared.stop.RewriteStop.{RewriteStop}
 use Rattle.job_rewrite.specs.declared.stop.RewriteStop.TheVariants as stop
 use Rattle.job_rewrite.specs.RewriteLimits.{sent_limits}
-use Rattle.job_rewrite.specs.Totals.{AreAbove, AreWithin}
+use Rattle.job_rewrite.specs.Totals.{AreAbove, AreWithin, IsWithin}
 
 -- a table with one more batch
 abbrev pub with_batch : Table → BatchRows → Table
@@ -117,6 +118,15 @@ pub data BreaksWriting (options : RewriteOptions) (limits : Limits)
       → fault ≡ w.Write → CutShort EndsStream between written_new failures_new
       → BreaksWriting options limits old new written_old written_new failures_old failures_new fault
 
+-- with one batch more, this table, of which these bytes were sent, would exceed a total: that of
+-- batches or of rows; or that of bytes, with all messages of the batch and the end mark
+abbrev pub Exceeds : RewriteOptions → Limits → Total → Table → BatchRows → List ℕ → Type 0
+Exceeds options limits Bytes t last x = (y : List ℕ)
+    × SendsBatch limits t.schema
+    (kept_after t.schema.fields (kept_at_start t.schema) t.batches) last y
+    × (IsWithin options.max_bytes (length x + length y + 8) → ⊥)
+Exceeds options limits total t last x = AreAbove options total (t.batches ++ last ∷ [])
+
 -- this table was sent without its end mark, and is within the totals. With one batch more, whose
 -- number this is, it would exceed a total. A count of batches stops at 2^64 - 1
 pub record StopsAbove (options : RewriteOptions) (limits : Limits) (table : Table)
@@ -124,9 +134,9 @@ pub record StopsAbove (options : RewriteOptions) (limits : Limits) (table : Tabl
     (total : Total) (number : ℕ) : Type 0 where
   pub counted : number ≡ count_up 0 (length table.batches)
   pub within : AreWithin options table.batches
-  pub above : AreAbove options total (table.batches ++ last ∷ [])
   pub accepts : AcceptsTable limits table
   pub sent : Sent (SendsTable limits table) written_old written_new failures_old failures_new
+  pub above : Exceeds options limits total table last sent.x
 
 -- the last batch that was read would exceed a total, and nothing of it was sent; all messages
 -- before it were sent
@@ -140,6 +150,28 @@ pub record BreaksTotals (options : RewriteOptions) (limits : Limits)
   pub denotes : DenotesClosed limits x (with_batch table last)
   pub stops : StopsAbove options (sent_limits options limits) table last written_old
       written_new failures_old failures_new total number
+
+-- the message of this schema, with the end mark, has more bytes than may be written, and nothing
+-- was sent
+pub record StopsAtSchema (most : Option ℕ) (limits : Limits) (s : Schema)
+    (written_old written_new : Option (List ℕ)) (failures_old failures_new : ℕ) : Type 0 where
+  pub accepts : AcceptsSchema limits s
+  pub message : List ℕ
+  pub opens : OpensStream limits s message
+  pub above : IsWithin most (length message + 8) → ⊥
+  pub same_written : written_new ≡ written_old
+  pub same_failures : failures_new ≡ failures_old
+
+-- the schema that was read has no room in what may be written
+pub record BreaksAtSchema (options : RewriteOptions) (limits : Limits)
+    (old new written_old written_new : Option (List ℕ))
+    (failures_old failures_new : ℕ) : Type 0 where
+  pub x : List ℕ
+  pub s : Schema
+  pub bytes : Consumes old new x
+  pub opens : OpensStream limits s x
+  pub stops : StopsAtSchema options.max_bytes (sent_limits options limits) s written_old written_new
+      failures_old failures_new
 
 -- what a result states about a stream that is read under these limits and written under those that
 -- the options give. At Ok the number counts the messages that were read
@@ -159,10 +191,13 @@ Rewrites options limits old new written_old written_new failures_old failures_ne
     (Err (stop.Above total number)) =
     BreaksTotals options limits old new written_old written_new failures_old failures_new total
     number
+Rewrites options limits old new written_old written_new failures_old failures_new
+    (Err stop.NoRoom) =
+    BreaksAtSchema options limits old new written_old written_new failures_old failures_new
 
 -- the result if the source contains this table: it was sent with the end mark and is within the
 -- totals, or memory ran out in reading it, or writing it broke off, or it stopped before the first
--- batch that would exceed a total
+-- batch that would exceed a total, or at a schema without room
 abbrev pub AnswersRewrittenTable : RewriteOptions → Limits → Table → Option (List ℕ)
     → Option (List ℕ) → ℕ → ℕ → Result ℕ RewriteStop → Type 0
 AnswersRewrittenTable options limits t written_old written_new failures_old failures_new (Ok done) =
@@ -179,10 +214,14 @@ AnswersRewrittenTable options limits t written_old written_new failures_old fail
     × (record { schema = front.schema; batches = front.batches ++ last ∷ rest } ≡ t)
     × StopsAbove options limits front last written_old written_new failures_old failures_new total
     number
+AnswersRewrittenTable options limits t written_old written_new failures_old failures_new
+    (Err stop.NoRoom) =
+    StopsAtSchema options.max_bytes limits t.schema written_old written_new failures_old
+    failures_new
 
 -- how a result changes the counts of failures of the source and the sink. Success and a stop at a
--- total need 0 before and after. If reading is refused, the sink did not fail in the call; if
--- writing is refused, the source never failed
+-- total need 0 before and after; at a schema without room the sink was not called. If reading is
+-- refused, the sink did not fail in the call; if writing is refused, the source never failed
 abbrev pub CountsRewriteFailures : ℕ → ℕ → ℕ → ℕ → Result ℕ RewriteStop → Type 0
 CountsRewriteFailures source_old source_new sink_old sink_new (Ok done) =
     (source_old ≡ 0) × (source_new ≡ 0) × (sink_old ≡ 0) × (sink_new ≡ 0)
@@ -192,6 +231,8 @@ CountsRewriteFailures source_old source_new sink_old sink_new (Err (stop.Write f
     (source_old ≡ 0) × (source_new ≡ 0) × CountsSinkFault sink_old sink_new fault
 CountsRewriteFailures source_old source_new sink_old sink_new (Err (stop.Above total number)) =
     (source_old ≡ 0) × (source_new ≡ 0) × (sink_old ≡ 0) × (sink_new ≡ 0)
+CountsRewriteFailures source_old source_new sink_old sink_new (Err stop.NoRoom) =
+    (source_old ≡ 0) × (source_new ≡ 0) × (sink_new ≡ sink_old)
 
 -- ---- the batches after the schema
 
@@ -230,10 +271,20 @@ pub record RefusesLast (options : RewriteOptions) (old new : Reader) (before aft
       (kept_after old.schema.fields before.kept batches) last) between after.written failures
       after.failures fault
 
+-- with one batch more, these batches, of which these bytes were sent, would exceed a total; of
+-- bytes, `room` may be written after the schema
+abbrev pub ExceedsRest : RewriteOptions → Option ℕ → Total → Writer → Schema → List BatchRows
+    → BatchRows → List ℕ → Type 0
+ExceedsRest options room Bytes before s batches last x = (y : List ℕ)
+    × SendsBatch before.limits s (kept_after s.fields before.kept batches) last y
+    × (IsWithin room (length x + length y) → ⊥)
+ExceedsRest options room total before s batches last x =
+    AreAbove options total (batches ++ last ∷ [])
+
 -- the batches that were read after the schema: all but the last were sent, and with the last they
 -- would exceed a total
-pub record StopsAtLast (options : RewriteOptions) (old new : Reader) (before after : Writer)
-    (total : Total) (number : ℕ) : Type 0 where
+pub record StopsAtLast (options : RewriteOptions) (room : Option ℕ) (old new : Reader)
+    (before after : Writer) (total : Total) (number : ℕ) : Type 0 where
   pub x : List ℕ
   pub batches : List BatchRows
   pub last : BatchRows
@@ -242,21 +293,22 @@ pub record StopsAtLast (options : RewriteOptions) (old new : Reader) (before aft
       (Some (in_force_of new))
   pub counted : number ≡ count_up 0 (length batches)
   pub within : AreWithin options batches
-  pub above : AreAbove options total (batches ++ last ∷ [])
   pub accepts : AllByRecursion (AcceptsBatch before.limits old.schema) batches
   pub sent : Sent (SendsBatches before.limits old.schema before.kept batches) before.written
       after.written before.failures after.failures
+  pub above : ExceedsRest options room total before old.schema batches last sent.x
 
 -- what a result states about the batches after the schema
-abbrev pub CopiesBatches : RewriteOptions → Reader → Reader → Writer → Writer
+abbrev pub CopiesBatches : RewriteOptions → Option ℕ → Reader → Reader → Writer → Writer
     → Result ℕ RewriteStop → Type 0
-CopiesBatches options old new before after (Ok messages) =
+CopiesBatches options room old new before after (Ok messages) =
     (end : End) × CopiesRest options old new before after (Ok end)
     × (IsTrue options.require_mark → end ≡ Mark) × (messages ≡ new.messages)
-CopiesBatches options old new before after (Err (stop.Read fault message)) =
+CopiesBatches options room old new before after (Err (stop.Read fault message)) =
     (answer : Result End Fault) × CopiesRest options old new before after answer
     × (as_required options.require_mark answer ≡ Err fault) × (message ≡ new.messages)
-CopiesBatches options old new before after (Err (stop.Write fault)) =
+CopiesBatches options room old new before after (Err (stop.Write fault)) =
     RefusesLast options old new before after fault
-CopiesBatches options old new before after (Err (stop.Above total number)) =
-    StopsAtLast options old new before after total number
+CopiesBatches options room old new before after (Err (stop.Above total number)) =
+    StopsAtLast options room old new before after total number
+CopiesBatches options room old new before after (Err stop.NoRoom) = ⊥

@@ -4,7 +4,7 @@ use Rattle.ipc_model.specs.declared.table.BatchRows.{BatchRows}
 use Rattle.ipc_stream_read.specs.Progress.{all_rows}
 use Rattle.job_rewrite.specs.declared.options.RewriteOptions.{RewriteOptions}
 use Rattle.job_rewrite.specs.declared.options.Total.{Total}
-use Rattle.job_rewrite.specs.declared.options.Total.TheVariants.{Batches, Rows}
+use Rattle.job_rewrite.specs.declared.options.Total.TheVariants.{Batches, Bytes, Rows}
 
 -- the number is at most the maximum, if there is one
 abbrev pub IsWithin : Option ℕ → ℕ → Type 0
@@ -20,3 +20,4 @@ pub record AreWithin (options : RewriteOptions) (batches : List BatchRows) : Typ
 abbrev pub AreAbove : RewriteOptions → Total → List BatchRows → Type 0
 AreAbove options Batches batches = IsWithin options.max_batches (length batches) → ⊥
 AreAbove options Rows batches = IsWithin options.max_rows (all_rows batches) → ⊥
+AreAbove options Bytes batches = ⊥

@@ -1,74 +1,49 @@
 //! Reads a stream batch by batch, and writes each batch as soon as it is read.
-ghost use Rattle.std.specs.Prelude.{◌≡◌, ◌++◌, ◌∷◌, ℕ, List, [], MatchResult, Ok, OnOk, Option};
-ghost use Rattle.std.specs.Prelude.{Some, false};
+ghost use Rattle.std.specs.Prelude.{◌≡◌, ◌++◌, ℕ, List, [], OnOk, Option, Some, false};
 ghost use Rattle.ipc_model.specs.declared.limits.Limits.{Limits};
 ghost use Rattle.ipc_model.specs.declared.table.Table.{Table};
 ghost use Rattle.ipc_stream_read.specs.declared.end.End.TheVariants.{Closed, Mark};
 ghost use Rattle.ipc_stream_read.specs.Reader.{Reading};
-ghost use Rattle.ipc_stream_read.specs.Found.{batch_rows};
 ghost use Rattle.ipc_stream_read.specs.Reader.{Opens};
 ghost use Rattle.ipc_stream_read.specs.Stream.{Denotes};
-ghost use Rattle.ipc_stream.specs.Dictionaries.{SendsBatch, kept_after};
-ghost use Rattle.ipc_stream.specs.Writing.{AcceptsBatch, RefusesBatch, Sends};
-ghost use Rattle.job_rewrite.specs.declared.stop.RewriteStop.TheVariants.{Write};
+ghost use Rattle.job_rewrite.specs.Outputs.{AppendsWithin, StartsOutput};
 ghost use Rattle.job_rewrite.specs.RewriteLimits.{sent_limits};
 ghost use Rattle.job_rewrite.specs.Reporting.{ReportsSentBatches};
 ghost use Rattle.job_rewrite.specs.Rewriting.{AnswersRewrittenTable, CopiesBatches, Rewrites};
 ghost use Rattle.job_rewrite.specs.Rewriting.{CountsRewriteFailures};
 
+use crate::bounded::Bounded;
 use crate::limits::sent_limits;
-use crate::options::RewriteOptions;
+use crate::options::{RewriteOptions, Total};
+use crate::output::Output;
 use crate::stop::RewriteStop;
 use ipc_device::{Progress, Sink, Source};
-use ipc_model::{Items, Limits, Schema, Text, WriteFault};
-use ipc_stream::{Batch, Seed, StreamReader, StreamWriter};
+use ipc_model::{Limits, Schema};
+use ipc_stream::{Seed, StreamReader, StreamWriter};
 use std::alloc::Global;
-
-// Writes the rows of a batch, with these pairs.
-fn copy_batch<W: Sink>(
-    batch: &Batch,
-    pairs: Items<(Text, Text)>,
-    writer: &mut StreamWriter<W>,
-) -> Result<(), WriteFault>
-    requires works { writer.old.failed ≡ false }
-    ensures sends { Sends
-        (SendsBatch writer.old.limits writer.old.schema writer.old.kept
-        (batch_rows (batch.now, pairs)))
-        writer.old.written writer.new.written writer.old.failures writer.new.failures result }
-    ensures judged { MatchResult result
-        (λ _. AcceptsBatch writer.old.limits writer.old.schema (batch_rows (batch.now, pairs)))
-        (λ fault. RefusesBatch writer.old.limits writer.old.schema (batch_rows (batch.now, pairs))
-        fault) }
-    ensures limits { OnOk result (writer.new.limits ≡ writer.old.limits) }
-    ensures schema { OnOk result (writer.new.schema ≡ writer.old.schema) }
-    ensures kept { OnOk result (writer.new.kept ≡ kept_after writer.old.schema.fields
-        writer.old.kept (batch_rows (batch.now, pairs) ∷ [])) }
-    ensures works { OnOk result (writer.new.failed ≡ false) }
-{
-    writer.write_columns(batch, pairs)
-}
 
 // Writes each batch that is read, and reports it then, up to the first one that would exceed a
 // total, or to the end of the stream, which is F4 if it is not the mark that is required. Returns
 // how many messages were read.
 #[tactic(auto, using(crate::proofs::Batches::copied_none, crate::proofs::Batches::copied_more))]
-fn copy_batches<R: Source, W: Sink, P: Progress>(
+fn copy_batches<R: Source, W: Sink, O: Output<W>, P: Progress>(
     options: RewriteOptions,
     stream: &mut StreamReader<R>,
-    writer: &mut StreamWriter<W>,
+    output: &mut O,
     progress: &mut P,
 ) -> Result<u64, RewriteStop>
     requires reading { stream.old.phase ≡ Reading }
     requires source { stream.old.failures ≡ 0 }
-    requires works { writer.old.failed ≡ false }
-    requires sink { writer.old.failures ≡ 0 }
-    requires schema { writer.old.schema ≡ stream.old.schema }
-    ensures copies { CopiesBatches options stream.old stream.new writer.old writer.new
-        result }
-    ensures works { OnOk result (writer.new.failed ≡ false) }
+    requires works { (O.writer output.old).failed ≡ false }
+    requires sink { (O.writer output.old).failures ≡ 0 }
+    requires schema { (O.writer output.old).schema ≡ stream.old.schema }
+    ensures copies { CopiesBatches options (O.room output.old) stream.old stream.new
+        (O.writer output.old) (O.writer output.new) result }
+    ensures works { OnOk result ((O.writer output.new).failed ≡ false) }
     ensures devices { CountsRewriteFailures stream.old.failures stream.new.failures
-        writer.old.failures
-        writer.new.failures result }
+        (O.writer output.old).failures (O.writer output.new).failures result }
+    ensures within { AppendsWithin (O.room output.old) (O.writer output.old).written
+        (O.writer output.new).written }
     ensures reports { (limits : Limits) (start : Option (List ℕ)) → Opens limits start stream.old
         → ReportsSentBatches limits start stream.new.remaining (P.reports progress.old)
         (P.reports progress.new) result }
@@ -82,7 +57,9 @@ fn copy_batches<R: Source, W: Sink, P: Progress>(
                 if let Some(total) = options.total_above(batches, rows, more) {
                     return Err(RewriteStop::Above(total, batches));
                 }
-                copy_batch(&batch, pairs, writer)?;
+                if !output.write(&batch, pairs)? {
+                    return Err(RewriteStop::Above(Total::Bytes, batches));
+                }
                 batches = batches.saturating_add(1);
                 rows = rows.saturating_add(more);
                 progress.batch_done(stream.taken(), batches, rows);
@@ -97,8 +74,47 @@ fn copy_batches<R: Source, W: Sink, P: Progress>(
     }
 }
 
+// Writes the batches and the end of a stream whose schema was written, and gives the sink back.
+fn copy_stream<R: Source, W: Sink, O: Output<W>, P: Progress>(
+    options: RewriteOptions,
+    stream: &mut StreamReader<R>,
+    output: O,
+    progress: &mut P,
+) -> (Result<u64, RewriteStop>, W)
+    requires reading { stream.old.phase ≡ Reading }
+    requires source { stream.old.failures ≡ 0 }
+    requires works { (O.writer output).failed ≡ false }
+    requires sink { (O.writer output).failures ≡ 0 }
+    requires schema { (O.writer output).schema ≡ stream.old.schema }
+    ensures rewrites { (limits : Limits) (start written : Option (List ℕ)) (failures : ℕ)
+        → Opens limits start stream.old
+        → StartsOutput options.max_bytes (sent_limits options stream.old.limits)
+        stream.old.schema written failures (O.writer output) (O.room output)
+        → Rewrites options limits start stream.new.remaining written (W.written result.1) failures
+        (W.failures result.1) result.0 }
+    ensures handed_on { OnOk result.0 (W.held_back result.1 ≡ Some []) }
+    ensures devices { CountsRewriteFailures stream.old.failures stream.new.failures
+        (O.writer output).failures (W.failures result.1) result.0 }
+    ensures within { (written : Option (List ℕ)) (failures : ℕ)
+        → StartsOutput options.max_bytes (sent_limits options stream.old.limits)
+        stream.old.schema written failures (O.writer output) (O.room output)
+        → AppendsWithin options.max_bytes written (W.written result.1) }
+    ensures reports { (limits : Limits) (start : Option (List ℕ)) → Opens limits start stream.old
+        → ReportsSentBatches limits start stream.new.remaining (P.reports progress.old)
+        (P.reports progress.new) result.0 }
+{
+    let mut output = output;
+    match copy_batches(options, stream, &mut output, progress) {
+        Ok(messages) => match output.finish() {
+            Ok(sink) => (Ok(messages), sink),
+            Err((fault, sink)) => (Err(RewriteStop::Write(fault)), sink),
+        },
+        Err(stop) => (Err(stop), output.into_inner()),
+    }
+}
+
 // Writes a stream whose schema was read, and gives the sink back.
-fn copy_stream<R: Source, W: Sink, P: Progress>(
+fn rewrite_open<R: Source, W: Sink, P: Progress>(
     alloc: Global,
     seed: Seed,
     options: RewriteOptions,
@@ -115,22 +131,21 @@ fn copy_stream<R: Source, W: Sink, P: Progress>(
     ensures devices { CountsRewriteFailures stream.old.failures stream.new.failures
         (W.failures sink)
         (W.failures result.1) result.0 }
+    ensures within { AppendsWithin options.max_bytes (W.written sink) (W.written result.1) }
     ensures reports { (limits : Limits) (start : Option (List ℕ)) → Opens limits start stream.old
         → ReportsSentBatches limits start stream.new.remaining (P.reports progress.old)
         (P.reports progress.new) result.0 }
 {
     let limits = sent_limits(&stream.limits(), options);
-    let started = StreamWriter::start_with_seed(alloc, seed, limits, sink, stream.schema());
-    let mut writer = match started {
-        Ok(writer) => writer,
-        Err((fault, sink)) => return (Err(RewriteStop::Write(fault)), sink),
-    };
-    match copy_batches(options, stream, &mut writer, progress) {
-        Ok(messages) => match writer.finish() {
-            Ok(sink) => (Ok(messages), sink),
+    let Some(most) = options.max_bytes else {
+        return match StreamWriter::start_with_seed(alloc, seed, limits, sink, stream.schema()) {
+            Ok(writer) => copy_stream(options, stream, writer, progress),
             Err((fault, sink)) => (Err(RewriteStop::Write(fault)), sink),
-        },
-        Err(stop) => (Err(stop), writer.into_inner()),
+        };
+    };
+    match Bounded::start(alloc, seed, limits, most, sink, stream.schema()) {
+        Ok(output) => copy_stream(options, stream, output, progress),
+        Err((stop, sink)) => (Err(stop), sink),
     }
 }
 
@@ -141,7 +156,8 @@ fn copy_stream<R: Source, W: Sink, P: Progress>(
 ///
 /// The schema's message is sent as soon as it is read. Each batch is sent with its pairs and rows,
 /// after the dictionaries that it needs, before the next one is read. One batch is kept at a time,
-/// and of each dictionary the values that were sent. What is read is within `limits`, and what is
+/// and of each dictionary the values that were sent. With `options.max_bytes`, the messages of a
+/// batch are also in memory before the first is sent. What is read is within `limits`, and what is
 /// written is within `sent_limits(&limits, options)`. After each batch that was written,
 /// `progress` is called once; `()` ignores it.
 ///
@@ -158,9 +174,11 @@ fn copy_stream<R: Source, W: Sink, P: Progress>(
 /// - `RewriteStop::Write`: what was read is refused, as in `StreamWriter`, with W1 to W9 or W11. A
 ///   null in a field that is not nullable is read, and refused with W5. W11 also comes if memory
 ///   for the values of a batch ran out.
-/// - `RewriteStop::Above`: with the next batch, what is written would exceed `options.max_batches`
-///   or `options.max_rows`. Nothing of that batch was sent, and no mark; the number is that of the
-///   batches before it.
+/// - `RewriteStop::Above`: with the next batch, what is written would exceed `options.max_batches`,
+///   `options.max_rows` or, with the end-of-stream mark, `options.max_bytes`. Nothing of that batch
+///   was sent, and no mark; the number is that of the batches before it.
+/// - `RewriteStop::NoRoom`: the message of the schema and the end-of-stream mark would exceed
+///   `options.max_bytes`. Nothing was sent.
 pub fn rewrite<R: Source, W: Sink, P: Progress>(
     alloc: Global,
     seed: Seed,
@@ -195,6 +213,9 @@ pub fn rewrite<R: Source, W: Sink, P: Progress>(
         → R.remaining source ≡ Some x → Denotes limits x t Closed → R.failures result.1 ≡ 0
         → AnswersRewrittenTable options (sent_limits options limits) t (W.written sink)
         (W.written result.2) (W.failures sink) (W.failures result.2) result.0 }
+    // What was sent has at most `options.max_bytes` bytes, whatever the result: the messages of the
+    // schema, of dictionaries and of batches, and the end mark.
+    ensures within { AppendsWithin options.max_bytes (W.written sink) (W.written result.2) }
     // Each batch that was read was reported once, in order, with the bytes taken up to it, and the
     // batches and rows so far. At `Write` the last one may have no report. That a report comes
     // after the messages of its batch is not stated.
@@ -204,7 +225,7 @@ pub fn rewrite<R: Source, W: Sink, P: Progress>(
     match StreamReader::open(alloc, limits, source) {
         Ok(stream) => {
             let mut stream = stream;
-            let (result, sink) = copy_stream(alloc, seed, options, &mut stream, sink, progress);
+            let (result, sink) = rewrite_open(alloc, seed, options, &mut stream, sink, progress);
             (result, stream.into_inner(), sink)
         }
         Err((fault, source)) => (Err(RewriteStop::Read(fault, 0)), source, sink),

@@ -2,9 +2,11 @@
 //! batches (Arrow Columnar Format, "IPC Streaming Format").
 #![tactic(auto)]
 
+mod bounded;
 mod copying;
 mod limits;
 mod options;
+mod output;
 mod stop;
 
 pub use copying::rewrite;

@@ -18,6 +18,9 @@ pub struct RewriteOptions {
     pub max_batches: Option<u64>,
     /// The maximum number of rows that are written in all batches together, or `None` for all.
     pub max_rows: Option<u64>,
+    /// The maximum number of bytes that are written in all, or `None` for any number: those of all
+    /// messages, of the schema, of dictionaries and of batches, and of the end-of-stream mark.
+    pub max_bytes: Option<u64>,
 }
 
 /// A total of what is written.
@@ -27,6 +30,8 @@ pub enum Total {
     Batches,
     /// The rows of all batches together.
     Rows,
+    /// The bytes of all messages and the end-of-stream mark.
+    Bytes,
 }
 
 // Whether `count` and `more` together are above a maximum, if there is one. A count saturates at

@@ -12,6 +12,8 @@ pub enum RewriteStop {
     Write(WriteFault),
     /// The batch with this number, counted from 0, would exceed this total of what is written.
     Above(Total, u64),
+    /// The message of the schema and the end-of-stream mark have more bytes than may be written.
+    NoRoom,
 }
 
 impl From<WriteFault> for RewriteStop {

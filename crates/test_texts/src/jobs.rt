@@ -36,6 +36,7 @@ enum JobKind {
     Show,
     ToCsv,
     Rewrite,
+    RewriteBounded,
     FromCsv,
 }
 
@@ -44,7 +45,7 @@ enum JobKind {
 // end.
 type Case = (JobKind, &'static [u8], u64, u64, Option<&'static [u8]>);
 
-const CASES: [Case; 6] = [
+const CASES: [Case; 7] = [
     (
         JobKind::Schema,
         &STREAM,
@@ -69,6 +70,7 @@ mark 288 bytes 1 batches 3 rows\n",
     (JobKind::Show, &STREAM, 288, 3, Some(b"[1]\n[null]\n[3]\n")),
     (JobKind::ToCsv, &STREAM, 288, 3, Some(RECORDS)),
     (JobKind::Rewrite, &STREAM, 288, 1, None),
+    (JobKind::RewriteBounded, &STREAM, 288, 1, None),
     (JobKind::FromCsv, RECORDS, 10, 1, None),
 ];
 
@@ -77,6 +79,22 @@ fn commas(alloc: Global) -> Result<CsvDialect, AllocError> {
     match CsvDialect::new(b',', String::from_str(alloc, "\\N")?) {
         Some(dialect) => Ok(dialect),
         None => Err(AllocError),
+    }
+}
+
+// A job that writes a stream anew, in at most this number of bytes.
+fn rewriting(limits: Limits, bytes: Option<u64>) -> Job
+    ensures { HasGoodSize result }
+{
+    Job::Rewrite {
+        limits,
+        output: OutputLimits {
+            body: None,
+            batches: None,
+            rows: None,
+            bytes,
+        },
+        require_mark: true,
     }
 }
 
@@ -103,15 +121,8 @@ fn job_of(alloc: Global, asked: JobKind) -> Result<Job, AllocError>
             limit: None,
             require_mark: true,
         },
-        JobKind::Rewrite => Job::Rewrite {
-            limits,
-            output: OutputLimits {
-                body: None,
-                batches: None,
-                rows: None,
-            },
-            require_mark: true,
-        },
+        JobKind::Rewrite => rewriting(limits, None),
+        JobKind::RewriteBounded => rewriting(limits, Some(1_000)),
         JobKind::FromCsv => Job::FromCsv {
             schema: String::new(alloc),
             batch: 2,

@@ -8,7 +8,8 @@ use Rattle.job_rewrite.proofs.copying.copy_batches.Given as goal
 -- the batches so far were read, sent and reported
 abbrev pub invariant-loop-batch : goal.invariant-loop-batch
 invariant-loop-batch g l = record {
-  copied : Copied l.fn.options l.batches l.rows l.fn.stream l.stream l.fn.writer l.writer;
+  copied : Copied l.fn.options l.batches l.rows l.fn.stream l.stream (g.O.Output.writer l.fn.output) (g.O.Output.writer l.output)
+      (g.O.Output.room l.fn.output) (g.O.Output.room l.output);
   reported : (limits : Limits) (start : Option (List ℕ)) → Opens limits start l.fn.stream
       → Progressed limits start l.batches l.rows l.stream (g.P.Progress.reports l.fn.progress) (g.P.Progress.reports l.progress);
 }
