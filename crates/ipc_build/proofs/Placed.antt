@@ -7,7 +7,7 @@ use Rattle.std.specs.Int.{w64, cast_signed, cast_unsigned}
 use Rattle.std.proofs.Common.{FitsSigned}
 use Rattle.std.proofs.lemmas.Int.{to_z-of_z}
 use Rattle.ipc_scalar.specs.Bytes.{num, int64}
-use Rattle.ipc_flat.specs.Flat.{vtable_of, slot_of}
+use Rattle.ipc_flat.specs.Flat.{vtable_of, field_place}
 use Rattle.ipc_build.specs.Trees.{Content, Tree, none, field}
 use Rattle.ipc_build.specs.Trees as k
 use Rattle.ipc_build.specs.Layout.{little, padding, prefix_place, members, entry_count, table_place, inline_end, target_end}
@@ -290,7 +290,7 @@ module _ (P : ℕ → ℕ → Type 0) (b : List ℕ) (aligned : (w p q : ℕ) �
       tops : m + 1 ≤ entry_count (m + 1) rest
       tops = entry_count_up rest (m + 1) writable.4
 
-      found_h : slot_of b t m (inline_width content) ≡ Ok (Some h)
+      found_h : field_place b t m (inline_width content) ≡ Ok (Some h)
       found_h = slot_found b t entered.vtable m (inline_width content) h entered.vtable_is
           (let s = entered.size in omega (arith, s, tops)) entry (omega (arith, above)) (let i = one.inside in omega (arith, i, narrow))
 

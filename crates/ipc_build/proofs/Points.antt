@@ -5,7 +5,7 @@ use Rattle.std.specs.Int.{w32, cast_signed}
 use Rattle.std.specs.Str.{is_utf8}
 use Rattle.std.proofs.Math.Dec.{eqb-suc-zero}
 use Rattle.ipc_scalar.specs.Bytes.{num}
-use Rattle.ipc_flat.specs.Flat.{vtable_of, slot_of, points, table_position, elements_of, text_of, vtable_entry}
+use Rattle.ipc_flat.specs.Flat.{vtable_of, field_place, points, table_position, elements_of, text_of, vtable_entry}
 use Rattle.ipc_build.proofs.Has.{Has, has_slice}
 
 positive : (d : ℕ) → 0 < d → (d == 0) ≡ false
@@ -14,15 +14,15 @@ positive (suc d) h = eqb-suc-zero d
 
 -- "Tables": where a field's entry in the vtable is the distance from its table to h, the field stands at h
 pub slot_found : (b : List ℕ) (t v n w h : ℕ) → vtable_of b t ≡ Ok v → 6 + 2 * n ≤ num b v 2 → num b (v + (4 + 2 * n)) 2 ≡ h - t → t < h
-    → h + w ≤ length b → slot_of b t n w ≡ Ok (Some h)
-unfolding slot_of
+    → h + w ≤ length b → field_place b t n w ≡ Ok (Some h)
+unfolding field_place
 slot_found b t v n w h hv big entry some inside =
     let there : t + (h - t) ≡ h = omega arith in
     rw (hv, le-leb (6 + 2 * n) (num b v 2) big, entry, positive (h - t) (omega arith), there, le-leb (h + w) (length b) inside) refl
 
 -- "Tables": where a field's entry in the vtable is 0, the field is absent
-pub slot_zero : (b : List ℕ) (t v n w : ℕ) → vtable_of b t ≡ Ok v → vtable_entry b v n ≡ 0 → slot_of b t n w ≡ Ok None
-unfolding slot_of
+pub slot_zero : (b : List ℕ) (t v n w : ℕ) → vtable_of b t ≡ Ok v → vtable_entry b v n ≡ 0 → field_place b t n w ≡ Ok None
+unfolding field_place
 slot_zero b t v n w hv zero_there = rw (hv, zero_there) refl
 
 -- an offset at h that is the distance from there to q points to q

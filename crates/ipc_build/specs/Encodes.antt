@@ -5,7 +5,8 @@ use Rattle.std.specs.Prelude.{ℤ, ℕ, ◌+◌, ◌*◌, ◌<◌, ◌≤◌, �
 use Rattle.std.specs.Prelude.{Ok, ⊤}
 use Rattle.std.specs.Int.{byte_len, cast_signed}
 use Rattle.ipc_scalar.specs.Bytes.{num, byte, int64}
-use Rattle.ipc_flat.specs.Flat.{vtable_of, slot_of, points, table_position, elements_of, text_of}
+use Rattle.ipc_flat.specs.Flat.{vtable_of, field_place, points, table_position}
+use Rattle.ipc_flat.specs.Flat.{elements_of, text_of}
 use Rattle.ipc_build.specs.Trees.{Content, Tree, none, field}
 use Rattle.ipc_build.specs.Trees as k
 use Rattle.ipc_build.specs.Layout.{members}
@@ -41,7 +42,7 @@ module _ (P : ℕ → ℕ → Type 0) (b : List ℕ) where
   -- "Tables", "Strings and Vectors": field n, of w bytes, is at p and ends within the table's
   -- inline part; or the next offset of a vector is at p
   abbrev pub IsPlacedAt : Holder → ℕ → ℕ → ℕ → Type 0
-  IsPlacedAt (in_table t) n w p = (slot_of b t n w ≡ Ok (Some p))
+  IsPlacedAt (in_table t) n w p = (field_place b t n w ≡ Ok (Some p))
       × ((v : ℕ) × (vtable_of b t ≡ Ok v) × (p + w ≤ inline_end_of b v t))
   IsPlacedAt (in_vector q) n w p = p ≡ q
 
@@ -59,7 +60,7 @@ module _ (P : ℕ → ℕ → Type 0) (b : List ℕ) where
     pub holds : P 4 t
     pub inside : inline_end_of b vtable t ≤ length b
     pub entries : (i : ℕ) → 2 * i < num b vtable 2 → P 2 (vtable + 2 * i)
-    pub absent : (n w : ℕ) → (HasField n f → ⊥) → slot_of b t n w ≡ Ok None
+    pub absent : (n w : ℕ) → (HasField n f → ⊥) → field_place b t n w ≡ Ok None
 
   -- "Strings and Vectors": the offset at p points to this string, and a zero byte follows its bytes
   pub record EncodesText (p : ℕ) (s : List ℕ) : Type 0 where

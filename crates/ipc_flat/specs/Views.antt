@@ -4,7 +4,7 @@ use Rattle.std.specs.Prelude.{ℕ, ◌≡◌, ◌+◌, ◌≤◌, length, List, 
 use Rattle.ipc_scalar.specs.Bytes.{num}
 use Rattle.ipc_flat.specs.declared.fault.FlatFault.{FlatFault}
 use Rattle.ipc_flat.specs.Faulty.{◌>>=◌, where_some}
-use Rattle.ipc_flat.specs.Flat.{vtable_of, slot_of, table_position, elements_of}
+use Rattle.ipc_flat.specs.Flat.{vtable_of, field_place, table_position, elements_of}
 
 -- a table: the bytes, and the table's place in them
 pub record TableView : Type 0 where
@@ -41,13 +41,13 @@ or_default read x (Some p) = read p
 -- "Tables": the number of w bytes in field k, which `read` reads at the field's place, or the
 -- default x if the field is absent
 unfoldable pub scalar : {X : Type 0} → TableView → ℕ → ℕ → (List ℕ → ℕ → X) → X → Result X FlatFault
-scalar t k w read x = slot_of t.bytes t.at k w >>= λ o. Ok (or_default (read t.bytes) x o)
+scalar t k w read x = field_place t.bytes t.at k w >>= λ o. Ok (or_default (read t.bytes) x o)
 
 -- "Tables": f applied to the place of field k, which holds a four-byte offset; an absent field
 -- stays absent
 unfoldable pub field : {X : Type 0} → TableView → ℕ → (List ℕ → ℕ → Result X FlatFault)
     → Result (Option X) FlatFault
-field t k f = slot_of t.bytes t.at k 4 >>= where_some (f t.bytes)
+field t k f = field_place t.bytes t.at k 4 >>= where_some (f t.bytes)
 
 -- "Strings and Vectors": the vector of elements, each of `width` bytes, to which the offset at p
 -- points

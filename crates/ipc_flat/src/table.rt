@@ -1,6 +1,6 @@
 ghost use Rattle.std.specs.Prelude.{◌≡◌, ◌≤◌, ◌<◌, ◌+◌, ◌^◌, length, IfOk, IfSome, option_map};
 ghost use Rattle.ipc_scalar.specs.Bytes.{byte, int16, int32, int64};
-ghost use Rattle.ipc_flat.specs.Flat.{back_of, slot_of, text_of};
+ghost use Rattle.ipc_flat.specs.Flat.{back_of, field_place, text_of};
 ghost use Rattle.ipc_flat.specs.Views.{IsAnswer, table_at, table_from, scalar, field};
 ghost use Rattle.ipc_flat.specs.Views.{elements_from, structs_from};
 
@@ -14,7 +14,7 @@ use std::marker::Model;
 /// A table in borrowed bytes, whose vtable was found ("Tables"). Contracts describe it as a
 /// `TableView`: the bytes and its position in them.
 ///
-/// A `slot` is the number of a field, from 0. A field is absent if the vtable ends before its
+/// A field's `id` is its number, from 0. A field is absent if the vtable ends before its
 /// entry, or the entry is 0. If it is present and its inline bytes end after the bytes, every
 /// accessor returns `OutOfBounds`. The inline bytes are those of a number, or the four bytes of an
 /// offset.
@@ -70,17 +70,17 @@ impl<'a> TableRef<'a> {
     }
 
     // The place of a field of `width` bytes, or `None` where the field is absent.
-    #[tactic(auto, unfolding(crate::specs::Flat::slot_of))]
-    fn place(&self, slot: u16, width: usize) -> Result<Option<usize>, FlatFault>
+    #[tactic(auto, unfolding(crate::specs::Flat::field_place))]
+    fn place(&self, id: u16, width: usize) -> Result<Option<usize>, FlatFault>
         requires { width ≤ 8 }
-        ensures place { result ≡ slot_of self.now.bytes self.now.at slot width }
+        ensures place { result ≡ field_place self.now.bytes self.now.at id width }
         ensures inside { IfOk result (λ o. IfSome o (λ p. p + width ≤ length self.now.bytes)) }
     {
-        let entry = 4 + 2 * usize::from(slot);
+        let entry = 4 + 2 * usize::from(id);
         if entry + 2 > self.size {
             return Ok(None);
         }
-        let distance = get_u16(self.bytes, self.vtable + entry).unwrap_or(0);
+        let distance = get_u16(self.bytes, self.vtable + entry).unwrap();
         if distance == 0 {
             return Ok(None);
         }
@@ -94,10 +94,10 @@ impl<'a> TableRef<'a> {
     /// Returns the unsigned 8-bit number in a field, or `default` if the field is absent. A boolean
     /// is such a number too: only 0 is false.
     #[tactic(auto, unfolding(crate::specs::Views::scalar), using(crate::proofs::Scalars::byte_is))]
-    pub fn scalar_u8(&self, slot: u16, default: u8) -> Result<u8, FlatFault>
-        ensures { result ≡ scalar self.now slot 1 byte default }
+    pub fn scalar_u8(&self, id: u16, default: u8) -> Result<u8, FlatFault>
+        ensures { result ≡ scalar self.now id 1 byte default }
     {
-        match self.place(slot, 1)? {
+        match self.place(id, 1)? {
             None => Ok(default),
             Some(at) => Ok(self.bytes[at]),
         }
@@ -105,34 +105,34 @@ impl<'a> TableRef<'a> {
 
     /// Returns the signed 16-bit number in a field, or `default` if the field is absent.
     #[tactic(auto, unfolding(crate::specs::Views::scalar))]
-    pub fn scalar_i16(&self, slot: u16, default: i16) -> Result<i16, FlatFault>
-        ensures { result ≡ scalar self.now slot 2 int16 default }
+    pub fn scalar_i16(&self, id: u16, default: i16) -> Result<i16, FlatFault>
+        ensures { result ≡ scalar self.now id 2 int16 default }
     {
-        match self.place(slot, 2)? {
+        match self.place(id, 2)? {
             None => Ok(default),
-            Some(at) => Ok(get_u16(self.bytes, at).unwrap_or(0).cast_signed()),
+            Some(at) => Ok(get_u16(self.bytes, at).unwrap().cast_signed()),
         }
     }
 
     /// Returns the signed 32-bit number in a field, or `default` if the field is absent.
     #[tactic(auto, unfolding(crate::specs::Views::scalar))]
-    pub fn scalar_i32(&self, slot: u16, default: i32) -> Result<i32, FlatFault>
-        ensures { result ≡ scalar self.now slot 4 int32 default }
+    pub fn scalar_i32(&self, id: u16, default: i32) -> Result<i32, FlatFault>
+        ensures { result ≡ scalar self.now id 4 int32 default }
     {
-        match self.place(slot, 4)? {
+        match self.place(id, 4)? {
             None => Ok(default),
-            Some(at) => Ok(get_i32(self.bytes, at).unwrap_or(default)),
+            Some(at) => Ok(get_i32(self.bytes, at).unwrap()),
         }
     }
 
     /// Returns the signed 64-bit number in a field, or `default` if the field is absent.
     #[tactic(auto, unfolding(crate::specs::Views::scalar))]
-    pub fn scalar_i64(&self, slot: u16, default: i64) -> Result<i64, FlatFault>
-        ensures { result ≡ scalar self.now slot 8 int64 default }
+    pub fn scalar_i64(&self, id: u16, default: i64) -> Result<i64, FlatFault>
+        ensures { result ≡ scalar self.now id 8 int64 default }
     {
-        match self.place(slot, 8)? {
+        match self.place(id, 8)? {
             None => Ok(default),
-            Some(at) => Ok(get_i64(self.bytes, at).unwrap_or(default)),
+            Some(at) => Ok(get_i64(self.bytes, at).unwrap()),
         }
     }
 
@@ -141,10 +141,10 @@ impl<'a> TableRef<'a> {
     /// Errors: `OffsetZero` if the offset is 0; `OutOfBounds` if its target or the table's first
     /// four bytes end after the bytes; `BadVtable` if there is no vtable where the table states it.
     #[tactic(auto, unfolding(crate::specs::Views::field))]
-    pub fn table(&self, slot: u16) -> Result<Option<TableRef<'a>>, FlatFault>
-        ensures { result ≡ field self.now slot table_from }
+    pub fn table(&self, id: u16) -> Result<Option<TableRef<'a>>, FlatFault>
+        ensures { result ≡ field self.now id table_from }
     {
-        match self.place(slot, 4)? {
+        match self.place(id, 4)? {
             None => Ok(None),
             Some(at) => Ok(Some(TableRef::from(self.bytes, at)?)),
         }
@@ -156,10 +156,10 @@ impl<'a> TableRef<'a> {
     /// Errors: `OffsetZero` if the offset is 0; `OutOfBounds` if its target, the text's length or
     /// its bytes end after the bytes; `NotUtf8` if the text is not UTF-8.
     #[tactic(auto, unfolding(crate::specs::Views::field))]
-    pub fn text(&self, slot: u16) -> Result<Option<&'a str>, FlatFault>
-        ensures { IsAnswer (option_map (λ s. s.now)) result (field self.now slot text_of) }
+    pub fn text(&self, id: u16) -> Result<Option<&'a str>, FlatFault>
+        ensures { IsAnswer (option_map (λ s. s.now)) result (field self.now id text_of) }
     {
-        match self.place(slot, 4)? {
+        match self.place(id, 4)? {
             None => Ok(None),
             Some(at) => Ok(Some(text_at(self.bytes, at)?)),
         }
@@ -172,10 +172,10 @@ impl<'a> TableRef<'a> {
     /// Errors: `OffsetZero` if the offset is 0; `OutOfBounds` if its target, the count or the
     /// elements, four bytes each, end after the bytes.
     #[tactic(auto, unfolding(crate::specs::Views::field))]
-    pub fn tables(&self, slot: u16) -> Result<Option<TableVec<'a>>, FlatFault>
-        ensures { result ≡ field self.now slot (elements_from 4) }
+    pub fn tables(&self, id: u16) -> Result<Option<TableVec<'a>>, FlatFault>
+        ensures { result ≡ field self.now id (elements_from 4) }
     {
-        match self.place(slot, 4)? {
+        match self.place(id, 4)? {
             None => Ok(None),
             Some(at) => Ok(Some(TableVec::from(self.bytes, at)?)),
         }
@@ -188,10 +188,10 @@ impl<'a> TableRef<'a> {
     /// Errors: `OffsetZero` if the offset is 0; `OutOfBounds` if its target, the count or the
     /// structs end after the bytes.
     #[tactic(auto, unfolding(crate::specs::Views::field))]
-    pub fn structs(&self, slot: u16, width: usize) -> Result<Option<StructVec<'a>>, FlatFault>
-        ensures { result ≡ field self.now slot (structs_from width) }
+    pub fn structs(&self, id: u16, width: usize) -> Result<Option<StructVec<'a>>, FlatFault>
+        ensures { result ≡ field self.now id (structs_from width) }
     {
-        match self.place(slot, 4)? {
+        match self.place(id, 4)? {
             None => Ok(None),
             Some(at) => Ok(Some(StructVec::from(self.bytes, at, width)?)),
         }

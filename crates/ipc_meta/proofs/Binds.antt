@@ -1,5 +1,5 @@
 -- Steps of a reading, one after another.
-use Rattle.std.proofs.Common.{◌≡◌, refl, Bool, true, false}
+use Rattle.std.proofs.Common.{◌≡◌, ◌∙◌, refl, sym, ap, Bool, true, false}
 use Rattle.std.specs.Prelude.{Option, None, Some, Result, Ok, Err, if◌then◌else◌}
 use Rattle.ipc_flat.specs.declared.fault.FlatFault.{FlatFault}
 use Rattle.ipc_flat.specs.Faulty.{◌>>=◌}
@@ -16,6 +16,15 @@ bind_ok (Err e) f y h = absurd (cc)
 pub lift_ok : {A : Type 0} (r : Result A FlatFault) (x : A) → map_fault r ≡ Ok x → r ≡ Ok x
 lift_ok (Ok y) x h = cc
 lift_ok (Err e) x h = absurd (cc)
+
+value_or : {X E : Type 0} → X → Result X E → X
+value_or d (Ok x) = x
+value_or d (Err e) = d
+
+-- an answer has one value
+pub ok_same : {X E : Type 0} (r : Result X E) (x y : X) → r ≡ Ok x → r ≡ Ok y → x ≡ y
+unfolding value_or
+ok_same r x y h k = ap (value_or x) (sym h ∙ k)
 
 -- one of two cases
 pub choose : {X P : Type 0} (c : Bool) (x y z : X) → (if c then x else y) ≡ z → (c ≡ true → x ≡ z → P) → (c ≡ false → y ≡ z → P) → P

@@ -20,7 +20,7 @@ use Rattle.ipc_meta.specs.Totals.{message_pairs}
 use Rattle.ipc_meta.specs.Reading.{batch_read, each, text_read, pair_read, pairs_read, type_read, fields_read, field_read}
 use Rattle.ipc_meta.proofs.Entries.{tables_are}
 use Rattle.ipc_meta.proofs.Sound.{field_roll}
-use Rattle.ipc_meta.proofs.StatedTypes.{type_back}
+use Rattle.ipc_meta.proofs.StatedTypes.{type_back, dictionary_back}
 use Rattle.ipc_model.specs.declared.limits.Limits.{Limits}
 
 -- so many fields, bytes of text and pairs
@@ -204,7 +204,7 @@ module _ (limit : ℕ) where
       (pairs_of below + q) here.4 refl (omega arith) in
       let cs = children_complete t 5 y.children n (d + 1) a (text_of below + m) (pairs_of below + q) r m q here.5 (omega arith) g.1
       (omega arith, refl, refl) in
-      rw (name, here.1, κ, here.3, ps, cs) refl
+      rw (name, here.1, κ, dictionary_back t y.dictionary here.3, ps, cs) refl
 
   -- each field that a table states is read of it where the budget has room for it and all below it
   pub field_complete : (f : Field) → IsReadBack f

@@ -4,7 +4,7 @@ use Rattle.std.specs.Prelude.{pos, negsuc, ◌<◌, nat_lt, List, Option, None, 
 use Rattle.std.specs.Int.{w32, cast_signed}
 use Rattle.std.proofs.lemmas.Bool.Decides.{nat_tests}
 use Rattle.ipc_scalar.specs.Bytes.{int32}
-use Rattle.ipc_flat.specs.Flat.{slot_of}
+use Rattle.ipc_flat.specs.Flat.{field_place}
 use Rattle.ipc_flat.specs.declared.fault.FlatFault.{FlatFault}
 use Rattle.ipc_flat.specs.Views.{TableView, or_default, scalar}
 use Rattle.ipc_flat.specs.Faulty.{◌>>=◌}
@@ -28,7 +28,7 @@ stated_small b (Some p) n h = signed_small _ n h
 -- a number of 32 bits that a table states in its first field is not above the greatest, where it isn't negative
 stated : (t : TableView) (n : ℕ) → scalar t 0 4 int32 (pos 0) ≡ Ok (pos n) → n ≤ 2 ^ 31 - 1
 unfolding scalar
-stated t n i = within (slot_of t.bytes t.at 0 4) i
+stated t n i = within (field_place t.bytes t.at 0 4) i
   where
     within : (r : Result (Option ℕ) FlatFault) → (r >>= (λ o. Ok (or_default (int32 t.bytes) (pos 0) o))) ≡ Ok (pos n)
         → n ≤ 2 ^ 31 - 1

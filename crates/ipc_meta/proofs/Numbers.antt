@@ -3,7 +3,7 @@ use Rattle.std.proofs.Common.{subst, ◌≡◌, ◌∙◌, refl, sym, ap, ℕ, z
 use Rattle.std.proofs.Common.{get_or, append_assoc, Option, None, Some, Result, Ok, Err, arith}
 use Rattle.ipc_flat.specs.declared.fault.FlatFault.{FlatFault}
 use Rattle.ipc_flat.specs.Faulty.{◌>>=◌, where_some}
-use Rattle.ipc_flat.specs.Flat.{slot_of, elements_of}
+use Rattle.ipc_flat.specs.Flat.{field_place, elements_of}
 use Rattle.ipc_flat.specs.Views.{TableView, Structs, field, structs_from}
 use Rattle.ipc_meta.specs.FlatFaults.{map_fault}
 use Rattle.std.specs.Prelude.{slice_range, ℤ}
@@ -65,8 +65,8 @@ width_or d r = d
 pub structs_width : (w : ℕ) (t : TableView) (k : ℕ) (s : Structs) → map_fault (field t k (structs_from w)) ≡ Ok (Some s) → s.width ≡ w
 unfolding field structs_from width_or
 structs_width w t k s h =
-    let f = lift_ok (slot_of t.bytes t.at k 4 >>= where_some (structs_from w t.bytes)) (Some s) h in
-    go (slot_of t.bytes t.at k 4) f
+    let f = lift_ok (field_place t.bytes t.at k 4 >>= where_some (structs_from w t.bytes)) (Some s) h in
+    go (field_place t.bytes t.at k 4) f
   where
     inner : (r : Result (ℕ × ℕ) FlatFault) → ((r >>= λ e. Ok (record { bytes = t.bytes; at = e.0; len = e.1; width = w }))
         >>= λ y. Ok (Some y)) ≡ Ok (Some s) → s.width ≡ w

@@ -14,11 +14,11 @@ use Rattle.ipc_meta.specs.Budgets.{Reading, less_fields, less_text, less_pairs}
 use Rattle.ipc_meta.specs.FlatFaults.{map_fault}
 use Rattle.ipc_meta.specs.Tables.{text_at, flag_at, vector_at, type_at, dictionary_at}
 use Rattle.ipc_meta.specs.Types.{TypeAt}
-use Rattle.ipc_meta.specs.Fields.{TablesAt, VectorAt, PairAt, field_step, FieldAt}
+use Rattle.ipc_meta.specs.Fields.{TablesAt, VectorAt, PairAt, IsEncodedAs, field_step, FieldAt}
 use Rattle.ipc_meta.specs.declared.head.BatchHead.{BatchHead}
 use Rattle.ipc_meta.specs.Heads.{BatchAt, numbers_at}
 use Rattle.ipc_meta.specs.Reading.{batch_read, when_plain, each, text_read, pair_read, pairs_read, type_read, fields_read, field_read}
-use Rattle.ipc_meta.proofs.StatedTypes.{type_stated}
+use Rattle.ipc_meta.proofs.StatedTypes.{type_stated, dictionary_stated}
 use Rattle.ipc_meta.proofs.Binds.{bind_ok, lift_ok}
 
 -- an answer with what is left of the budget
@@ -105,7 +105,7 @@ module _ {X Y : Type 0} (v : X → Y) (k : Y → TableView → Type 0) where
 natural : (X : Type 0) (v : X → Field) (k : Field → TableView → Type 0) (x : Field-F X)
     → field_step X v (λ p. k (v p)) x ≡ field_step Field (λ y. y) k (map-Field X Field v x)
 natural X v k x = λ i t.
-    (text_at t 0 ≡ Ok x.name) × (flag_at t 1 ≡ Ok x.nullable) × TypeAt x.kind t × (dictionary_at t ≡ Ok x.dictionary)
+    (text_at t 0 ≡ Ok x.name) × (flag_at t 1 ≡ Ok x.nullable) × TypeAt x.kind t × IsEncodedAs x.dictionary t
     × VectorAt PairAt x.metadata t 6 × ((es : Elements) × (vector_at t 5 ≡ Ok es) × tables_map v k es.bytes es.at es.len x.children i)
 
 -- a table states a field where it states the field's own members, and its vector of children the children
@@ -145,7 +145,7 @@ field_sound (suc d) t left after x h =
       text_sound t 0 left name.0.1 name.0.0 name.1,
       nullable.1,
       type_stated t κ.0.0 (type_sound t name.0.1 κ.0.1 κ.0.0 κ.1),
-      o.1,
+      dictionary_stated t o.0 o.1,
       pairs_sound t 6 κ.0.1 pairs.0.1 pairs.0.0 pairs.1,
       fields_sound (field_read d) (field_sound d) t 5 pairs.0.1 children.0.1 children.0.0 children.1,
     ) in

@@ -11,9 +11,10 @@ use Rattle.ipc_meta.specs.Budgets.{Reading, less_fields, less_text, less_pairs}
 use Rattle.ipc_meta.specs.FlatFaults.{map_fault}
 use Rattle.ipc_meta.specs.Tables.{text_at, flag_at, vector_at, type_at, dictionary_at}
 use Rattle.ipc_meta.specs.Reading.{each, text_read, pair_read, pairs_read, type_read, fields_read, field_read}
-use Rattle.ipc_meta.specs.Totals.{or_zero, sum_tables, count_in, sum_in, text_len_at, pair_text_in, own_text, tree_sum}
+use Rattle.ipc_meta.specs.Totals.{or_zero, sum_tables, count_in, sum_in, text_len_at, timezone_len_at, pair_text_in, own_text, tree_sum}
 use Rattle.ipc_meta.proofs.Sound.{left_parts}
 use Rattle.ipc_meta.proofs.Binds.{bind_ok, choose, lift_ok}
+use Rattle.ipc_meta.proofs.StatedTypes.{type_stated, timezone_len}
 
 -- left is what is left after, and so many fields, bytes of text and pairs more
 pub record Spent (left after : Budget) (a b c : ℕ) : Type 0 where
@@ -131,14 +132,14 @@ pairs_spent t k left x h =
 
 -- a type that was read takes the length of its time zone, if it has one, from the budget
 pub type_spent : (t : TableView) (left : Budget) (x : DataType × Budget) → type_read t left ≡ Ok x
-    → Spent left x.1 0 (or_zero kind_text (type_at t)) 0
+    → Spent left x.1 0 (timezone_len_at t) 0
 unfolding type_read
 type_spent t left x h =
     let a = bind_ok (type_at t) _ x h in
     let l = bind_ok (less_text (kind_text a.0) left) _ x a.2 in
     let e = left_parts a.0 x.0 l.0 x.1 l.2 in
-    let size : or_zero kind_text (type_at t) ≡ kind_text a.0 = ap (or_zero kind_text) a.1 in
-    subst (λ m. Spent left m 0 (or_zero kind_text (type_at t)) 0) e.1 (rw size (less_text_spent (kind_text a.0) left l.0 l.1))
+    let size : timezone_len_at t ≡ kind_text a.0 = timezone_len t a.0 (type_stated t a.0 a.1) in
+    subst (λ m. Spent left m 0 (timezone_len_at t) 0) e.1 (rw size (less_text_spent (kind_text a.0) left l.0 l.1))
 
 -- fields that were read take their number from the budget, and what each of them takes
 pub fields_spent : (g : TableView → Reading Field) (wa wb wc : TableView → ℕ)

@@ -1,13 +1,14 @@
--- A type is read of a Field table exactly where the table states it.
+-- A type is read of a Field table exactly where the table states it; so is a dictionary.
 use Rattle.std.proofs.Common.{◌≡◌, ◌∙◌, refl, ap, subst, ℕ, true}
 use Rattle.std.proofs.lemmas.Bool.{eqb-true}
 use Rattle.std.proofs.lemmas.Bool.Decides.{Decides-int_eq}
 use Rattle.std.specs.Ordering.{int_eq}
 use Rattle.std.specs.Prelude.{ℤ, pos, negsuc, ◌==◌, Option, None, Some, Ok}
-use Rattle.ipc_scalar.specs.Bytes.{int16, int32}
+use Rattle.ipc_scalar.specs.Bytes.{int16, int32, int64}
 use Rattle.ipc_flat.specs.Flat.{text_of}
 use Rattle.ipc_flat.specs.Views.{TableView, table_from, scalar, field}
 use Rattle.ipc_flat.specs.Faulty.{◌>>=◌}
+use Rattle.ipc_model.specs.Entries.{kind_text}
 use Rattle.ipc_model.specs.Layouts.{time_bits}
 use Rattle.ipc_model.specs.Ranges.{width}
 use Rattle.ipc_model.specs.TypeCodes.{type_code}
@@ -22,11 +23,15 @@ use Rattle.ipc_model.specs.declared.schema.TimeUnit.TheVariants as time
 use Rattle.ipc_model.specs.declared.schema.DataType.{DataType}
 use Rattle.ipc_model.specs.declared.schema.DataType.TheVariants as t
 use Rattle.ipc_model.specs.declared.schema.IndexType.{IndexType}
+use Rattle.ipc_model.specs.declared.schema.Dictionary.{Dictionary}
 use Rattle.ipc_meta.specs.FlatFaults.{map_fault}
 use Rattle.ipc_meta.specs.Tables.{bits_of, ok_or, unit_of, flag_at, int_at, date_at, fixed_at, fixed_list_at}
 use Rattle.ipc_meta.specs.Tables.{timestamp_at, time_in, time_at, duration_at, type_of, type_in, is_type_code, code_at, type_at}
+use Rattle.ipc_meta.specs.Tables.{text_at, index_at, dictionary_in, dictionary_at}
 use Rattle.ipc_meta.specs.Types.{date_code, time_code, StatesType, TypeAt}
-use Rattle.ipc_meta.proofs.Binds.{bind_ok, choose, lift_ok, ok_or_ok}
+use Rattle.ipc_meta.specs.Fields.{IsEncodedAs}
+use Rattle.ipc_meta.specs.Totals.{timezone_len_at}
+use Rattle.ipc_meta.proofs.Binds.{bind_ok, choose, lift_ok, ok_same, ok_or_ok}
 
 -- ---- numbers and their codes
 
@@ -188,6 +193,39 @@ type_stated f κ h =
     go code c None i h = absurd (cc)
     go code c (Some v) i h = let s = table_stated code v κ h in (c ∙ ap Ok s.0, (v, i, s.1))
 
+-- the timezone of a type that is stated has the length of the type's own text
+pub timezone_len : (f : TableView) (κ : DataType) → TypeAt κ f → timezone_len_at f ≡ kind_text κ
+unfolding text_at
+timezone_len f t.Null h = rw (h.0) refl
+timezone_len f (t.Int bits signed) h = rw (h.0) refl
+timezone_len f t.Binary h = rw (h.0) refl
+timezone_len f t.Utf8 h = rw (h.0) refl
+timezone_len f t.Bool h = rw (h.0) refl
+timezone_len f (t.Date unit) h = rw (h.0) refl
+timezone_len f (t.Time unit) h = rw (h.0) refl
+timezone_len f (t.Timestamp unit None) h = rw (h.0, h.1.1, h.1.2.1) refl
+timezone_len f (t.Timestamp unit (Some zone)) h = rw (h.0, h.1.1, h.1.2.1) refl
+timezone_len f t.List h = rw (h.0) refl
+timezone_len f t.Struct h = rw (h.0) refl
+timezone_len f (t.FixedSizeBinary n) h = rw (h.0) refl
+timezone_len f (t.FixedSizeList n) h = rw (h.0) refl
+timezone_len f (t.Duration unit) h = rw (h.0) refl
+
+-- a dictionary that was read of a Field table is the one that the table states
+pub dictionary_stated : (f : TableView) (o : Option Dictionary) → dictionary_at f ≡ Ok o → IsEncodedAs o f
+unfolding dictionary_at
+dictionary_stated f o h =
+    let r = bind_ok (map_fault (field f 4 table_from)) _ o h in go r.0 (lift_ok _ r.0 r.1) r.2
+  where
+    go : (d : Option TableView) → field f 4 table_from ≡ Ok d → dictionary_in d ≡ Ok o → IsEncodedAs o f
+    go None at h = subst (λ o. IsEncodedAs o f) (ok_same (Ok None) None o refl h) at
+    go (Some d) at h =
+        let id = bind_ok (map_fault (scalar d 0 8 int64 (pos 0))) _ o h in
+        let index = bind_ok (index_at d) _ o id.2 in
+        let ordered = bind_ok (flag_at d 2) _ o index.2 in
+        subst (λ o. IsEncodedAs o f) (ok_same _ _ o refl ordered.2)
+        (d, at, record { id = lift_ok _ id.0 id.1; index = index.1; ordered = ordered.1 })
+
 -- ---- what is stated is read
 
 -- the type that a Field table states is read of it
@@ -206,3 +244,9 @@ type_back f t.Struct h = rw (h.0, h.1.1) refl
 type_back f (t.FixedSizeBinary n) h = rw (h.0, h.1.1, h.1.2) refl
 type_back f (t.FixedSizeList n) h = rw (h.0, h.1.1, h.1.2) refl
 type_back f (t.Duration unit) h = rw (h.0, h.1.1, h.1.2, unit_read unit) refl
+
+-- the dictionary that a Field table states is read of it
+pub dictionary_back : (f : TableView) (o : Option Dictionary) → IsEncodedAs o f → dictionary_at f ≡ Ok o
+unfolding dictionary_at
+dictionary_back f None h = rw (h) refl
+dictionary_back f (Some d) h = rw (h.1, h.2.id, h.2.index, h.2.ordered) refl

@@ -3,7 +3,7 @@ use Rattle.std.proofs.Common.{◌≡◌, ap, ℕ, ◌+◌, ◌*◌, Bool, true, 
 use Rattle.std.specs.Prelude.{◌==◌, nat_le, Result, Ok, Err, if◌then◌else◌}
 use Rattle.ipc_scalar.specs.Bytes.{num, int32}
 use Rattle.ipc_flat.specs.Faulty.{◌>>=◌, ok_if, where_some}
-use Rattle.ipc_flat.specs.Flat.{back_of, is_vtable, vtable_behind, vtable_of, vtable_entry, place_of, slot_of, points, table_position}
+use Rattle.ipc_flat.specs.Flat.{back_of, is_vtable, vtable_behind, vtable_of, vtable_entry, place_of, field_place, points, table_position}
 use Rattle.ipc_flat.specs.Flat.{elements_of}
 use Rattle.ipc_flat.specs.declared.fault.FlatFault.{FlatFault}
 use Rattle.ipc_flat.specs.declared.fault.FlatFault.TheVariants.{OffsetZero, OutOfBounds, BadVtable, NotUtf8}
@@ -32,8 +32,8 @@ no_vtable b t = both (ok_if (nat_le (t + 4) (length b)) OutOfBounds (back_of t (
     go (Some v) h = tested (is_vtable b v) BadVtable v (λ i. cc) h
 
 -- the place of a field is no text, so it is never refused as one that isn't UTF-8
-pub no_slot : (b : List ℕ) (t k w : ℕ) → NoText (slot_of b t k w)
-unfolding slot_of
+pub no_slot : (b : List ℕ) (t k w : ℕ) → NoText (field_place b t k w)
+unfolding field_place
 no_slot b t k w = both (vtable_of b t) _ (no_vtable b t) (λ v. go (vtable_entry b v k))
   where
     go : (e : ℕ) → NoText (place_of b t w e)
@@ -78,7 +78,7 @@ no_structs_from width b p = both (elements_of b p width) _ (no_elements b p widt
 no_field : {X : Type 0} (t : TableView) (k : ℕ) (f : List ℕ → ℕ → Result X FlatFault) → ((p : ℕ) → NoText (f t.bytes p))
     → NoText (field t k f)
 unfolding field
-no_field t k f other = both (slot_of t.bytes t.at k 4) _ (no_slot t.bytes t.at k 4) go
+no_field t k f other = both (field_place t.bytes t.at k 4) _ (no_slot t.bytes t.at k 4) go
   where
     go : (o : Option ℕ) → NoText (where_some (f t.bytes) o)
     go None h = cc

@@ -11,7 +11,7 @@ use Rattle.ipc_meta.specs.Budgets.{less_fields}
 use Rattle.ipc_meta.specs.Tables.{flag_at, vector_at, type_at, dictionary_at}
 use Rattle.ipc_meta.specs.Fields.{TablesAt, VectorAt, PairAt}
 use Rattle.ipc_meta.specs.Reading.{text_read, pairs_read, type_read, fields_read, field_read}
-use Rattle.ipc_meta.specs.Totals.{or_zero, sum_tables, count_in, sum_in, text_len_at, pair_text_in, own_text, tree_sum}
+use Rattle.ipc_meta.specs.Totals.{or_zero, sum_tables, count_in, sum_in, text_len_at, timezone_len_at, pair_text_in, own_text, tree_sum}
 use Rattle.ipc_meta.specs.Totals.{total_fields}
 use Rattle.ipc_meta.specs.Totals.{total_text}
 use Rattle.ipc_meta.specs.Totals.{total_pairs}
@@ -20,6 +20,7 @@ use Rattle.ipc_meta.proofs.Entries.{tables_are}
 use Rattle.ipc_meta.proofs.Spent.{children_in, pairs_in}
 use Rattle.ipc_model.specs.declared.limits.Limits.{Limits}
 use Rattle.ipc_meta.proofs.Binds.{bind_ok}
+use Rattle.ipc_meta.proofs.StatedTypes.{type_stated, timezone_len}
 
 abbrev text_of : List Entry → ℕ
 text_of es = sum_by (λ e. e.text) es
@@ -93,7 +94,7 @@ text_sum : (a b c x y z u v : ℕ) → a ≡ x → b ≡ y → c ≡ z → u ≡
 text_sum a b c x y z u v h k l m = omega arith
 
 -- a field's own entry before those of its children
-rolled_sums : (n : ℕ) (y : Field-F Field) (t : TableView) → text_len_at t 0 ≡ length y.name → or_zero kind_text (type_at t)
+rolled_sums : (n : ℕ) (y : Field-F Field) (t : TableView) → text_len_at t 0 ≡ length y.name → timezone_len_at t
     ≡ kind_text y.kind
     → sum_in pair_text_in t 6 ≡ pair_text y.metadata → count_in t 6 ≡ length y.metadata
     → ((d : ℕ) → (length (all_at d (map preorder y.children)) ≡ count_in t 5 + sum_in (tree_sum children_in n) t 5)
@@ -108,7 +109,7 @@ rolled_sums n y t title zone words number children d =
     let below = all_at (d + 1) (map preorder y.children) in
     let text : text_of (head ∷ below) ≡ own_text t + sum_in (tree_sum own_text n) t 5
     = sum_by-cons (λ (e : Entry). e.text) head below
-    ∙ text_sum (text_len_at t 0) (or_zero kind_text (type_at t)) (sum_in pair_text_in t 6) _ _ _ _ _ title zone words sums.1 in
+    ∙ text_sum (text_len_at t 0) (timezone_len_at t) (sum_in pair_text_in t 6) _ _ _ _ _ title zone words sums.1 in
     let pairs : pairs_of (head ∷ below) ≡ pairs_in t + sum_in (tree_sum pairs_in n) t 5
     = sum_by-cons (λ (e : Entry). e.pairs) head below ∙ (ap (λ k. k + pairs_of below) (sym number) ∙ ap (λ k. pairs_in t + k) sums.2) in
     let count : length (head ∷ below) ≡ 1 + (children_in t + sum_in (tree_sum children_in n) t 5) = one_more (length below) _ sums.0 in
@@ -137,7 +138,7 @@ field_sums (suc n) t left after x h =
     } in
     let e = left_parts (roll-Field y) x cs.0.1 after cs.2 in
     let title : text_len_at t 0 ≡ length name.0.0 = ap (or_zero length) (text_sound t 0 left name.0.1 name.0.0 name.1) in
-    let zone : or_zero kind_text (type_at t) ≡ kind_text κ.0.0 = ap (or_zero kind_text) (type_sound t name.0.1 κ.0.1 κ.0.0 κ.1) in
+    let zone = timezone_len t κ.0.0 (type_stated t κ.0.0 (type_sound t name.0.1 κ.0.1 κ.0.0 κ.1)) in
     let pairs = pairs_sound t 6 κ.0.1 ps.0.1 ps.0.0 ps.1 in
     let children = fields_sums n (field_sums n) t 5 ps.0.1 cs.0.1 cs.0.0 cs.1 in
     subst (λ f. SumsAre (suc n) f t) e.0 (rolled_sums n y t title zone (pair_total t 6 ps.0.0 pairs) (pair_count t 6 ps.0.0 pairs)

@@ -20,18 +20,10 @@ use Rattle.ipc_meta.specs.declared.head.Head.TheVariants as head
 use Rattle.ipc_meta.specs.Fields.{SchemaAt}
 use Rattle.ipc_meta.specs.Heads.{BatchAt, DictionaryAt, PairsAt, HeaderAt, HeadOf}
 use Rattle.ipc_meta.specs.Reading.{batch_read, pairs_read, fields_read, field_read}
+use Rattle.ipc_meta.proofs.Binds.{ok_same}
 use Rattle.ipc_meta.proofs.Sound.{left_parts}
 use Rattle.ipc_meta.proofs.Complete.{budget, schema_complete, batch_complete, batch_pairs_complete}
 use Rattle.ipc_model.specs.declared.limits.Limits.{Limits}
-
-value_or : {X E : Type 0} → X → Result X E → X
-value_or d (Ok x) = x
-value_or d (Err e) = d
-
--- an answer has one value
-pub ok_same : {X E : Type 0} (r : Result X E) (x y : X) → r ≡ Ok x → r ≡ Ok y → x ≡ y
-unfolding value_or
-ok_same r x y h k = ap (value_or x) (sym h ∙ k)
 
 some_or : {X : Type 0} → X → Option X → X
 some_or d None = d

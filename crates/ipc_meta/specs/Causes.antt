@@ -14,7 +14,7 @@ use Rattle.ipc_model.specs.Ranges.{width}
 use Rattle.ipc_model.specs.declared.schema.Dictionary.{Dictionary}
 use Rattle.ipc_model.specs.WellFormed.{HasFittingChildren, IsLeaf}
 use Rattle.ipc_meta.specs.Tables.{bits_of, unit_of, flag_at, vector_at, code_at, is_type_code}
-use Rattle.ipc_meta.specs.Tables.{dictionary_at}
+use Rattle.ipc_meta.specs.Fields.{IsEncodedAs}
 use Rattle.ipc_meta.specs.Types.{TypeAt}
 use Rattle.ipc_meta.specs.Totals.{total_fields, total_text, total_pairs, sum_in, count_in}
 use Rattle.ipc_meta.specs.Totals.{pair_text_in, message_pairs}
@@ -90,7 +90,7 @@ HasBadChildren b = HasTableWith b column (λ t. (κ : DataType) × (es : Element
 -- DictionaryEncoding)
 abbrev pub HasDictionaryColumn : List ℕ → ℤ → DataType → Type 0
 HasDictionaryColumn b id κ = HasTableWith b column (λ t. TypeAt κ t
-    × ((d : Dictionary) × (dictionary_at t ≡ Ok (Some d)) × (d.id ≡ id)))
+    × ((d : Dictionary) × IsEncodedAs (Some d) t × (d.id ≡ id)))
 
 -- the texts or the pairs of a schema, or of the message of a record batch, are above their limits
 -- (Schema.fbs, table KeyValue)

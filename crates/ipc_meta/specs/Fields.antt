@@ -1,13 +1,14 @@
 -- Which fields and schemas the tables of the metadata state (Schema.fbs, tables Field and Schema):
 -- relations between whole values and tables, without a reading order.
-use Rattle.std.specs.Prelude.{◌≡◌, ℕ, ◌+◌, ◌-◌, ◌<◌, pos, List, [], ◌∷◌, Ok}
-use Rattle.ipc_scalar.specs.Bytes.{int16}
-use Rattle.ipc_flat.specs.Views.{TableView, Elements, table_from, scalar}
+use Rattle.std.specs.Prelude.{◌≡◌, ℕ, ◌+◌, ◌-◌, ◌<◌, pos, List, [], ◌∷◌, Ok, Option, None, Some}
+use Rattle.ipc_scalar.specs.Bytes.{int16, int64}
+use Rattle.ipc_flat.specs.Views.{TableView, Elements, table_from, scalar, field}
 use Rattle.ipc_model.specs.WellFormed.{WellFormed}
 use Rattle.ipc_model.specs.declared.schema.Field.{Field, rec-Field}
 use Rattle.ipc_model.specs.declared.schema.Field.TheOpen.{Field-F}
+use Rattle.ipc_model.specs.declared.schema.Dictionary.{Dictionary}
 use Rattle.ipc_model.specs.declared.schema.Schema.{Schema}
-use Rattle.ipc_meta.specs.Tables.{text_at, flag_at, vector_at, dictionary_at}
+use Rattle.ipc_meta.specs.Tables.{text_at, flag_at, vector_at, index_at}
 use Rattle.ipc_meta.specs.Types.{TypeAt}
 use Rattle.ipc_model.specs.declared.limits.Limits.{Limits}
 
@@ -27,13 +28,25 @@ module _ {X : Type 0} (At : X → TableView → Type 0) where
 abbrev pub PairAt : List ℕ × List ℕ → TableView → Type 0
 PairAt p t = (text_at t 0 ≡ Ok p.0) × (text_at t 1 ≡ Ok p.1)
 
+-- Schema.fbs, table DictionaryEncoding: the table t states this dictionary: 0 id, 1 indexType, 2
+-- isOrdered
+pub record EncodingAt (t : TableView) (d : Dictionary) : Type 0 where
+  pub id : scalar t 0 8 int64 (pos 0) ≡ Ok d.id
+  pub index : index_at t ≡ Ok d.index
+  pub ordered : flag_at t 2 ≡ Ok d.ordered
+
+-- Schema.fbs, table Field: the table f states this dictionary, or none: 4 dictionary
+abbrev pub IsEncodedAs : Option Dictionary → TableView → Type 0
+IsEncodedAs None f = field f 4 table_from ≡ Ok None
+IsEncodedAs (Some d) f = (t : TableView) × (field f 4 table_from ≡ Ok (Some t)) × EncodingAt t d
+
 -- Schema.fbs, table Field: the table t states this field: 0 name, 1 nullable, 2 and 3 type, 4
 -- dictionary, 5 children, 6 custom_metadata
 abbrev pub field_step : (X : Type 0) → (X → Field) → (X → TableView → Type 0) → Field-F X
     → TableView → Type 0
 field_step X field At f t =
     (text_at t 0 ≡ Ok f.name) × (flag_at t 1 ≡ Ok f.nullable) × TypeAt f.kind t
-    × (dictionary_at t ≡ Ok f.dictionary)
+    × IsEncodedAs f.dictionary t
     × VectorAt PairAt f.metadata t 6 × VectorAt At f.children t 5
 
 -- the Field table t states this field, with all below it

@@ -2,7 +2,7 @@
 -- ill-formed.
 use Rattle.std.specs.Prelude.{◌≡◌, ℕ, ◌+◌, ◌*◌, ◌<◌, true, List, Some, Result, Ok, Err, ◌⊎◌}
 use Rattle.ipc_scalar.specs.Bytes.{byte}
-use Rattle.ipc_flat.specs.Flat.{slot_of, text_of}
+use Rattle.ipc_flat.specs.Flat.{field_place, text_of}
 use Rattle.ipc_flat.specs.Views.{TableView, Elements, table_from, scalar, field, elements_from}
 use Rattle.ipc_flat.specs.Views.{structs_from}
 use Rattle.ipc_flat.specs.declared.fault.FlatFault.{FlatFault}
@@ -132,7 +132,7 @@ IsIllFormed r = map_fault r ≡ Err BadFlat
 -- field k of t, or what its offset points to, is ill-formed; for a vector of tables, also one of
 -- its tables
 abbrev pub HoldsIllFormed : TableView → ℕ → FieldContent → Type 0
-HoldsIllFormed t k (number width) = IsIllFormed (slot_of t.bytes t.at k width)
+HoldsIllFormed t k (number width) = IsIllFormed (field_place t.bytes t.at k width)
 HoldsIllFormed t k table = IsIllFormed (field t k table_from)
 HoldsIllFormed t k text = IsIllFormed (field t k text_of)
 HoldsIllFormed t k tables =

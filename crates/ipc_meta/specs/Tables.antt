@@ -186,6 +186,6 @@ dictionary_in (Some d) =
     Ok (Some (record { id = id; index = index; ordered = ordered }))
 
 -- Schema.fbs, table Field: the field's dictionary: 4 dictionary, absent if the values are not
--- dictionary-encoded
+-- dictionary-encoded. It is a dictionary, or none, exactly if `IsEncodedAs` holds for it
 unfoldable pub dictionary_at : TableView → Result (Option Dictionary) Fault
 dictionary_at f = map_fault (field f 4 table_from) >>= dictionary_in

@@ -1,10 +1,10 @@
 -- The totals of the tables of a schema (Schema.fbs, tables Schema, Field and KeyValue). A table to
 -- which several offsets point is counted once for each; what is absent or cannot be read counts as
 -- 0.
-use Rattle.std.specs.Prelude.{ℕ, zero, suc, ◌+◌, List, length, Result, Ok, Err}
-use Rattle.ipc_flat.specs.Views.{TableView, table_from}
-use Rattle.ipc_model.specs.Entries.{kind_text}
-use Rattle.ipc_meta.specs.Tables.{text_at, vector_at, type_at}
+use Rattle.std.specs.Prelude.{ℕ, zero, suc, ◌+◌, ◌==◌, List, length, Result, Ok, Err}
+use Rattle.std.specs.Prelude.{Option, None, Some, if◌then◌else◌}
+use Rattle.ipc_flat.specs.Views.{TableView, table_from, field}
+use Rattle.ipc_meta.specs.Tables.{text_at, vector_at, code_at}
 use Rattle.ipc_model.specs.declared.limits.Limits.{Limits}
 
 -- w applied to the value, or 0 if there is a fault
@@ -53,9 +53,20 @@ field_children = 5
 abbrev pub field_pairs : ℕ
 field_pairs = 6
 
+-- how many bytes a timezone has (Schema.fbs, table Timestamp, 1 timezone)
+abbrev pub timezone_in : Option TableView → ℕ
+timezone_in None = 0
+timezone_in (Some v) = text_len_at v 1
+
+-- how many bytes the timezone of a Field table's type has: 0 but for a Timestamp, whose code is 10
+-- (Schema.fbs, table Field: 2 the type's code, 3 its table)
+abbrev pub timezone_len_at : TableView → ℕ
+timezone_len_at t = or_zero (λ code. if code == 10 then or_zero timezone_in (field t 3 table_from)
+    else 0) (code_at t)
+
 -- how many bytes a Field table's own name, timezone, keys and values have
 abbrev pub own_text : TableView → ℕ
-own_text t = text_len_at t 0 + or_zero kind_text (type_at t) + sum_in pair_text_in t field_pairs
+own_text t = text_len_at t 0 + timezone_len_at t + sum_in pair_text_in t field_pairs
 
 -- the sum of w over a Field table and those below it, at most `depth` levels
 unfoldable pub tree_sum : (TableView → ℕ) → ℕ → TableView → ℕ

@@ -20,17 +20,17 @@ fn number_pair(bytes: &[u8]) -> (i64, i64)
     requires { length bytes.now ≡ 16 }
     ensures { result ≡ (int64 bytes.now 0, int64 bytes.now 8) }
 {
-    let first = get_i64(bytes, 0).unwrap_or(0);
-    let second = get_i64(bytes, 8).unwrap_or(0);
+    let first = get_i64(bytes, 0).unwrap();
+    let second = get_i64(bytes, 8).unwrap();
     (first, second)
 }
 
 // The numbers of all structs in a field; an absent vector has none.
 #[tactic(auto, unfolding(crate::specs::Heads::numbers_at))]
-fn read_numbers(alloc: Global, table: &TableRef<'_>, slot: u16) -> Result<Items<(i64, i64)>, Fault>
-    ensures { AnswersUnlessOutOfMemory (λ ns. ns) result (numbers_at table.now slot) }
+fn read_numbers(alloc: Global, table: &TableRef<'_>, id: u16) -> Result<Items<(i64, i64)>, Fault>
+    ensures { AnswersUnlessOutOfMemory (λ ns. ns) result (numbers_at table.now id) }
 {
-    let Some(structs) = map_fault(table.structs(slot, 16))? else {
+    let Some(structs) = map_fault(table.structs(id, 16))? else {
         return Ok(Items::new(alloc));
     };
     let mut numbers = Vec::with_capacity(alloc, structs.len())?;

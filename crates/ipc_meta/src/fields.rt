@@ -14,13 +14,13 @@ use std::alloc::Global;
 fn read_text(
     alloc: Global,
     table: &TableRef<'_>,
-    slot: u16,
+    id: u16,
     budget: &mut Budget,
 ) -> Result<Text, Fault>
     ensures { AnswersUnlessOutOfMemory (λ s. (s, budget.new)) result
-        (text_read table.now slot budget.old) }
+        (text_read table.now id budget.old) }
 {
-    let text = map_fault(table.text(slot))?.unwrap_or("");
+    let text = map_fault(table.text(id))?.unwrap_or("");
     budget.take_text(text.len())?;
     Ok(Text::copied(alloc, text)?)
 }
@@ -46,14 +46,14 @@ fn read_pair(
 pub(crate) fn read_pairs(
     alloc: Global,
     table: &TableRef<'_>,
-    slot: u16,
+    id: u16,
     budget: &mut Budget,
 ) -> Result<Items<(Text, Text)>, Fault>
     ensures { AnswersUnlessOutOfMemory (λ ps. (ps, budget.new)) result
-        (pairs_read table.now slot budget.old) }
+        (pairs_read table.now id budget.old) }
 {
     let mut pairs = Vec::new(alloc);
-    let Some(tables) = map_fault(table.tables(slot))? else {
+    let Some(tables) = map_fault(table.tables(id))? else {
         return Ok(Items::from_vec(pairs));
     };
     budget.take_pairs(tables.len())?;
@@ -71,15 +71,15 @@ pub(crate) fn read_pairs(
 pub(crate) fn read_fields(
     alloc: Global,
     table: &TableRef<'_>,
-    slot: u16,
+    id: u16,
     depth: u64,
     budget: &mut Budget,
 ) -> Result<Items<Field>, Fault>
     ensures { AnswersUnlessOutOfMemory (λ fs. (fs, budget.new)) result
-        (fields_read (field_read depth) table.now slot budget.old) }
+        (fields_read (field_read depth) table.now id budget.old) }
 {
     let mut fields = Vec::new(alloc);
-    let Some(tables) = map_fault(table.tables(slot))? else {
+    let Some(tables) = map_fault(table.tables(id))? else {
         return Ok(Items::from_vec(fields));
     };
     budget.take_fields(tables.len())?;

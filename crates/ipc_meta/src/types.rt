@@ -40,10 +40,10 @@ fn unit_of(unit: i16) -> Option<TimeUnit>
 
 /// Reads the boolean in a field: an absent byte and 0 are false, any other byte is true.
 #[tactic(auto, unfolding(crate::specs::Tables::flag_at))]
-pub(crate) fn read_flag(table: &TableRef<'_>, slot: u16) -> Result<bool, Fault>
-    ensures { result ≡ flag_at table.now slot }
+pub(crate) fn read_flag(table: &TableRef<'_>, id: u16) -> Result<bool, Fault>
+    ensures { result ≡ flag_at table.now id }
 {
-    let flag = map_fault(table.scalar_u8(slot, 0))?;
+    let flag = map_fault(table.scalar_u8(id, 0))?;
     Ok(flag > 0)
 }
 

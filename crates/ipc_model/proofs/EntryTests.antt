@@ -36,14 +36,14 @@ chain type children fields depth text conflict nested n =
     else None))))))
 
 -- a fault has the number, its test fails, and none that is returned before it does
-pub record ReturnedEvent (test : SchemaFault → Bool) (n : ℕ) (x : SchemaFault) : Type 0 where
+pub record IsFirstFault (test : SchemaFault → Bool) (n : ℕ) (x : SchemaFault) : Type 0 where
   pub number : entry_number x ≡ n
   pub fails : test x ≡ false
   pub least : (y : SchemaFault) → test y ≡ false → rank x ≤ rank y
 
-told_as : (test : SchemaFault → Bool) (n : ℕ) (x y : SchemaFault) → ◌≡◌ {A = Option SchemaFault} (Some x) (Some y) → ReturnedEvent test n x
-    → ReturnedEvent test n y
-told_as test n x y h t = let same : x ≡ y = cc in subst (λ (z : SchemaFault). ReturnedEvent test n z) same t
+told_as : (test : SchemaFault → Bool) (n : ℕ) (x y : SchemaFault) → ◌≡◌ {A = Option SchemaFault} (Some x) (Some y) → IsFirstFault test n x
+    → IsFirstFault test n y
+told_as test n x y h t = let same : x ≡ y = cc in subst (λ (z : SchemaFault). IsFirstFault test n z) same t
 
 -- true is not false
 pub no : {P : Type 0} → true ≡ false → P
@@ -107,7 +107,7 @@ from_7 i (f.NestedDictionary m) p = omega arith
 from_7 i f.OutOfMemory p = omega arith
 from_7 i _ p = no p
 
-report : (b c d e g h i : Bool) (n : ℕ) (x : SchemaFault) → chain b c d e g h i n ≡ Some x → ReturnedEvent (pick b c d e g h i) n x
+report : (b c d e g h i : Bool) (n : ℕ) (x : SchemaFault) → chain b c d e g h i n ≡ Some x → IsFirstFault (pick b c d e g h i) n x
 report false c d e g h i n x q = told_as _ n (f.BadType n) x q (record { number = refl; fails = refl; least = λ y p. from_1 y })
 report true false d e g h i n x q = told_as _ n (f.BadChildren n) x q
     (record { number = refl; fails = refl; least = λ y p. from_2 false d e g h i y p })
@@ -147,7 +147,7 @@ test_at limits b e = pick (has_good_type e.kind) (has_fitting_children e.kind e.
 
 -- the fault told at an entry has the entry's number, counted from 1, and is the first of the faults whose test fails there
 pub told_at : (limits : Limits) (b : Before) (e : Entry) (x : SchemaFault) → fault_at limits b e ≡ Some x
-    → ReturnedEvent (test_at limits b e) (b.fields + 1) x
+    → IsFirstFault (test_at limits b e) (b.fields + 1) x
 told_at limits b e x h = report (has_good_type e.kind) (has_fitting_children e.kind e.children) (nat_le (b.fields + 1) limits.fields)
     (nat_le e.depth limits.depth) (is_little_text limits (after b e)) (has_conflict b.kinds e.dictionary e.kind) (has_leaf_dictionary e)
     (b.fields + 1) x h

@@ -188,11 +188,11 @@ told_both n ps qs es fs one more = told_append (map (inside n) ps) qs
 
 -- ---- a value's faults are those of its places
 
-abbrev IsStatusOf : Field → Type 0
-IsStatusOf f = (v : Value) → all_told (places f v) ≡ faults f v
+abbrev HasFaultsOfPlaces : Field → Type 0
+HasFaultsOfPlaces f = (v : Value) → all_told (places f v) ≡ faults f v
 
 abbrev Shown : Type 0
-Shown = (f : Field) × IsStatusOf f
+Shown = (f : Field) × HasFaultsOfPlaces f
 
 abbrev fields_of : List Shown → List Field
 fields_of xs = map (λ x. x.0) xs
@@ -235,16 +235,16 @@ layer_told y v =
     ∙ ap (λ (es : List RowFault). here (own_fault y.kind y.nullable (length (map faults (fields_of y.children))) (out-Value v)) ++ es)
     (inner_told y.kind y.children (out-Value v))
 
-roll_told : (x : Field-F Field) (y : Field-F Shown) → map-Field Shown Field (λ z. z.0) y ≡ x → IsStatusOf (roll-Field x)
-roll_told x y is = subst (λ z. IsStatusOf (roll-Field z)) is (λ v.
+roll_told : (x : Field-F Field) (y : Field-F Shown) → map-Field Shown Field (λ z. z.0) y ≡ x → HasFaultsOfPlaces (roll-Field x)
+roll_told x y is = subst (λ z. HasFaultsOfPlaces (roll-Field z)) is (λ v.
     ap (λ (r : Placing). all_told (r v)) (fold-roll-Field Placing placing_step z0) ∙ layer_told y v
     ∙ sym (ap (λ (r : Judgement). r v) (fold-roll-Field Judgement judge_step z0)))
   where
     z0 : Field-F Field
     z0 = map-Field Shown Field (λ z. z.0) y
 
-are_told : (f : Field) → IsStatusOf f
-are_told = ind-Field IsStatusOf roll_told
+are_told : (f : Field) → HasFaultsOfPlaces f
+are_told = ind-Field HasFaultsOfPlaces roll_told
 
 columns_told : (n : ℕ) (fs : List Field) (vs : List Value) → all_told (each_places n (map places fs) vs) ≡ each_faults n (map faults fs) vs
 columns_told n [] vs = refl

@@ -1,8 +1,7 @@
 //! The layouts of types: which buffers each needs, and how wide numbers are.
 ghost use Rattle.std.specs.Prelude.{◌≡◌};
 ghost use Rattle.ipc_model.specs.Layouts.{type_layout, layout, own_buffers, has_validity};
-ghost use Rattle.ipc_model.specs.Layouts.{needs_slot_checks, is_texts, number_bytes, time_bits};
-ghost use Rattle.ipc_model.specs.Ranges.{width};
+ghost use Rattle.ipc_model.specs.Layouts.{needs_slot_checks, is_texts};
 
 use crate::schema::{DataType, DateUnit, Dictionary, IntBits, TimeUnit};
 
@@ -148,39 +147,5 @@ impl Layout {
             Layout::Indices { .. } => true,
             _ => false,
         }
-    }
-}
-
-impl TimeUnit {
-    /// Returns the number of bits of a time of day in this unit: 32 for seconds and milliseconds,
-    /// 64 for microseconds and nanoseconds (Schema.fbs, table Time, `bitWidth`).
-    pub fn time_bits(self) -> IntBits
-        ensures { result ≡ time_bits self }
-    {
-        match self {
-            TimeUnit::Second | TimeUnit::Millisecond => IntBits::B32,
-            TimeUnit::Microsecond | TimeUnit::Nanosecond => IntBits::B64,
-        }
-    }
-}
-
-impl IntBits {
-    /// Returns the number of bits: 8, 16, 32 or 64 (Schema.fbs, table Int, `bitWidth`).
-    pub fn width(self) -> u8
-        ensures { result ≡ width self }
-    {
-        match self {
-            IntBits::B8 => 8,
-            IntBits::B16 => 16,
-            IntBits::B32 => 32,
-            IntBits::B64 => 64,
-        }
-    }
-
-    /// Returns the number of bytes: 1, 2, 4 or 8.
-    pub fn bytes(self) -> usize
-        ensures { result ≡ number_bytes self }
-    {
-        usize::from(self.width() / 8)
     }
 }

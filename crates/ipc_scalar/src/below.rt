@@ -18,7 +18,7 @@ fn pad_block(rest: &[u8]) -> [u8; 64]
 
 // Whether no number in the bytes is above `most`. The last block is filled up with zeros, so that
 // no width needs a loop of its own.
-fn are_at_most<L: Lanes>(bytes: &[u8], most: u64) -> bool
+fn each_at_most<L: Lanes>(bytes: &[u8], most: u64) -> bool
     requires even { length bytes.now % L.width ≡ 0 }
     requires fits { most < 2 ^ (8 * L.width) }
     ensures { IsTrue result ↔ ((i : ℕ) → L.width * i < length bytes.now
@@ -48,9 +48,9 @@ pub fn indices_below(bytes: &[u8], bits: u8, signed: bool, n: usize, limit: u64)
     let most = (limit - 1).min(u64::MAX >> (64 - bits + u8::from(signed)));
     let numbers = &bytes[..n * usize::from(bits / 8)];
     match bits {
-        8 => are_at_most::<u8x64>(numbers, most),
-        16 => are_at_most::<u16x32>(numbers, most),
-        32 => are_at_most::<u32x16>(numbers, most),
-        _ => are_at_most::<u64x8>(numbers, most),
+        8 => each_at_most::<u8x64>(numbers, most),
+        16 => each_at_most::<u16x32>(numbers, most),
+        32 => each_at_most::<u32x16>(numbers, most),
+        _ => each_at_most::<u64x8>(numbers, most),
     }
 }

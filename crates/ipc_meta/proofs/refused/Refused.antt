@@ -3,7 +3,7 @@ use Rattle.std.proofs.Common.{◌≡◌, refl, ap, subst, ℕ, List, inl}
 use Rattle.std.specs.Prelude.{pos, Option, None, Some, Result, Ok, Err}
 use Rattle.ipc_scalar.specs.Bytes.{byte, int64}
 use Rattle.ipc_flat.specs.Views.{TableView, table_from, scalar, field, elements_from, structs_from, or_default}
-use Rattle.ipc_flat.specs.Flat.{slot_of, text_of}
+use Rattle.ipc_flat.specs.Flat.{field_place, text_of}
 use Rattle.ipc_flat.specs.declared.fault.FlatFault.{FlatFault}
 use Rattle.ipc_flat.specs.declared.fault.FlatFault.TheVariants as flat
 use Rattle.ipc_flat.specs.Faulty.{◌>>=◌}
@@ -50,8 +50,8 @@ pub bad_number : (limits : Limits) → {X : Type 0} (b : List ℕ) (kind : Table
     → HasTable b kind t → ReadsField kind k (number w) → map_fault (scalar t k w read x) ≡ Err e → Cause limits b e
 unfolding scalar
 bad_number limits b kind t k w read x e has look h =
-    let none = before_last (slot_of t.bytes t.at k w) (or_default (read t.bytes) x) e h in
-    illegible limits b (slot_of t.bytes t.at k w) e none (λ i. absurd (no_slot t.bytes t.at k w i)) (at_field has look)
+    let none = before_last (field_place t.bytes t.at k w) (or_default (read t.bytes) x) e h in
+    illegible limits b (field_place t.bytes t.at k w) e none (λ i. absurd (no_slot t.bytes t.at k w i)) (at_field has look)
 
 -- where a truth value in a field can't be read, the fault's cause is true of the metadata
 pub bad_flag : (limits : Limits) (b : List ℕ) (kind : TableKind) (t : TableView) (k : ℕ) (e : Fault) → HasTable b kind t

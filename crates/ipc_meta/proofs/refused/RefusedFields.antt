@@ -16,7 +16,7 @@ use Rattle.ipc_meta.specs.Reading.{each, text_read, pair_read, pairs_read, type_
 use Rattle.ipc_meta.specs.Reached as r
 use Rattle.ipc_meta.specs.Reached.{TableKind, schema, batch_message, column, key_value, text, tables, ReadsField, HasTable, Element, IsDeep}
 use Rattle.ipc_meta.specs.Reached.{at_field}
-use Rattle.ipc_meta.specs.Totals.{or_zero, sum_tables, count_in, sum_in, text_len_at, pair_text_in, own_text, tree_sum}
+use Rattle.ipc_meta.specs.Totals.{or_zero, sum_tables, count_in, sum_in, text_len_at, timezone_len_at, pair_text_in, own_text, tree_sum}
 use Rattle.ipc_meta.specs.Totals.{total_fields}
 use Rattle.ipc_meta.specs.Totals.{total_text}
 use Rattle.ipc_meta.specs.Totals.{total_pairs}
@@ -29,6 +29,7 @@ use Rattle.ipc_meta.proofs.Spent.{Spent, less_pairs_spent, less_fields_spent, te
 use Rattle.ipc_meta.proofs.Spent.{sum_none, children_in, pairs_in}
 use Rattle.ipc_model.specs.declared.limits.Limits.{Limits}
 use Rattle.ipc_meta.proofs.Binds.{choose, lift_ok}
+use Rattle.ipc_meta.proofs.StatedTypes.{type_stated, timezone_len}
 
 -- how many fields, bytes of text and pairs are stated in all
 pub record Stated : Type 0 where
@@ -189,12 +190,12 @@ pairs_refused {limits} b all kind t k left e hs room has look pair h =
 -- ---- fields
 
 counted_type_refused : (limits : Limits) (b : List ℕ) (s t : TableView) (left : Budget) (e : Fault) → HasTable b schema s
-    → limits.text + or_zero kind_text (type_at t) ≤ total_text limits s + left.text → HasTable b column t → type_read t left ≡ Err e
+    → limits.text + timezone_len_at t ≤ total_text limits s + left.text → HasTable b column t → type_read t left ≡ Err e
     → Cause limits b e
 unfolding type_read
 counted_type_refused limits b s t left e hs room has h =
     step (type_at t) _ e h (type_refused limits b t e has) (λ κ i h.
-    let size : or_zero kind_text (type_at t) ≡ kind_text κ = ap (or_zero kind_text) i in
+    let size : timezone_len_at t ≡ kind_text κ = timezone_len t κ (type_stated t κ i) in
     step (less_text (kind_text κ) left) _ e h (text_counted limits b (by_schema limits s) (kind_text κ) left e (schema_tells b s hs) (omega
     (arith, room, size))) (λ l j h.
     absurd (cc)))
@@ -234,7 +235,7 @@ field_refused {limits} b s (suc depth) n t left e hs room deep is has h =
     let wa = sum_in (tree_sum children_in depth) t 5 in
     let wb = sum_in (tree_sum own_text depth) t 5 in
     let wc = sum_in (tree_sum pairs_in depth) t 5 in
-    let zone = or_zero kind_text (type_at t) in
+    let zone = timezone_len_at t in
     let words = sum_in pair_text_in t 6 in
     step (text_read t 0 left) _ e h (text_refused limits b (by_schema limits s) column t 0 left e (schema_tells b s hs) (omega (
       arith,

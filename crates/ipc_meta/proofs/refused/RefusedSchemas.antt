@@ -20,11 +20,11 @@ use Rattle.ipc_model.specs.declared.schema.DataType.TheVariants as t
 use Rattle.ipc_model.specs.declared.schema.Dictionary.{Dictionary}
 use Rattle.ipc_model.specs.declared.schema.Schema.{Schema}
 use Rattle.ipc_model.proofs.SameTypes.{same_itself}
-use Rattle.ipc_meta.specs.Fields.{VectorAt, FieldAt}
+use Rattle.ipc_meta.specs.Fields.{VectorAt, IsEncodedAs, FieldAt}
 use Rattle.ipc_meta.specs.Reached.{schema, HasTable}
 use Rattle.ipc_meta.specs.Causes.{HasDictionaryColumn, Cause, in_schema}
 use Rattle.ipc_meta.proofs.GoodTypes.{good_type}
-use Rattle.ipc_meta.proofs.Entries.{ReturnedEvent, entries_told}
+use Rattle.ipc_meta.proofs.Entries.{StatesEntry, entries_told}
 use Rattle.ipc_meta.proofs.Totals.{Totals, schema_totals}
 use Rattle.ipc_meta.proofs.Sound.{fields_sound, field_sound}
 use Rattle.ipc_meta.specs.declared.budget.Budget.{Budget}
@@ -61,11 +61,11 @@ leaf_test _ h leaf = cc
 abbrev AreEncoded : List ℕ → (ℤ → Option DataType) → Type 0
 AreEncoded b kinds = (id : ℤ) (κ : DataType) → kinds id ≡ Some κ → HasDictionaryColumn b id κ
 
-encoded : (b : List ℕ) (s : TableView) (e : Entry) (d : Dictionary) → ReturnedEvent b s e → e.dictionary ≡ Some d
+encoded : (b : List ℕ) (s : TableView) (e : Entry) (d : Dictionary) → StatesEntry b s e → e.dictionary ≡ Some d
     → HasDictionaryColumn b d.id e.kind
-encoded b s e d h is = (h.table, h.has, (h.kind, (d, h.dictionary ∙ ap Ok is, refl)))
+encoded b s e d h is = (h.table, h.has, (h.kind, (d, subst (λ o. IsEncodedAs o h.table) is h.dictionary, refl)))
 
-encoded_after : (b : List ℕ) (s : TableView) (kinds : ℤ → Option DataType) (e : Entry) → ReturnedEvent b s e → AreEncoded b kinds
+encoded_after : (b : List ℕ) (s : TableView) (kinds : ℤ → Option DataType) (e : Entry) → StatesEntry b s e → AreEncoded b kinds
     → AreEncoded b (with_kind kinds e.dictionary e.kind)
 encoded_after b s kinds e h all = go e.dictionary refl
   where
@@ -78,7 +78,7 @@ encoded_after b s kinds e h all = go e.dictionary refl
         (subst (HasDictionaryColumn b d.id) type (encoded b s e d h is)))
         (λ other k. all id κ k)
 
-conflict : (limits : Limits) (b : List ℕ) (s : TableView) (kinds : ℤ → Option DataType) (e : Entry) → ReturnedEvent b s e
+conflict : (limits : Limits) (b : List ℕ) (s : TableView) (kinds : ℤ → Option DataType) (e : Entry) → StatesEntry b s e
     → AreEncoded b kinds
     → has_conflict kinds e.dictionary e.kind ≡ true → Cause limits b (reader_fault (check.DictionaryConflict 0))
 conflict limits b s kinds e h all = go e.dictionary refl
@@ -101,7 +101,7 @@ conflict limits b s kinds e h all = go e.dictionary refl
               same_itself first in cc,
         )
 
-nested : (limits : Limits) (b : List ℕ) (s : TableView) (e : Entry) → ReturnedEvent b s e → has_leaf_dictionary e ≡ false
+nested : (limits : Limits) (b : List ℕ) (s : TableView) (e : Entry) → StatesEntry b s e → has_leaf_dictionary e ≡ false
     → Cause limits b (reader_fault (check.NestedDictionary 0))
 nested limits b s e h = go e.dictionary refl
   where
@@ -144,7 +144,7 @@ text_refused {limits} b s a hs w h = in_schema (
 )
 
 entry_refused : {limits : Limits} → (b : List ℕ) (s : TableView) (a : Before) (e : Entry) (x : SchemaFault) → HasTable b schema s
-    → ReturnedEvent b s e
+    → StatesEntry b s e
     → AreEncoded b a.kinds → Within limits s (after a e) [] → fault_at limits a e ≡ Some x → Cause limits b (reader_fault x)
 entry_refused {limits} b s a e x hs h all w k =
     choose (not (has_good_type e.kind)) _ _ _ k
@@ -176,7 +176,7 @@ entry_refused {limits} b s a e x hs h all w k =
     report same cause = subst (λ y. Cause limits b (reader_fault y)) same cause
 
 scan_refused : {limits : Limits} → (b : List ℕ) (s : TableView) (es : List Entry) (a : Before) (x : SchemaFault) → HasTable b schema s
-    → AllByRecursion (ReturnedEvent b s) es → AreEncoded b a.kinds → Within limits s a es → scan limits a es ≡ Err x
+    → AllByRecursion (StatesEntry b s) es → AreEncoded b a.kinds → Within limits s a es → scan limits a es ≡ Err x
     → Cause limits b (reader_fault x)
 scan_refused {limits} b s [] a x hs h all w k = absurd (cc)
 scan_refused {limits} b s (e ∷ es) a x hs h all w k =

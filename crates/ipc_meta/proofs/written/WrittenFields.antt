@@ -14,9 +14,9 @@ use Rattle.ipc_model.specs.declared.schema.Field.TheOpen.{Field-F}
 use Rattle.ipc_build.specs.Trees.{Tree}
 use Rattle.ipc_build.specs.Encodes.{HasField, EncodesTable}
 use Rattle.ipc_meta.specs.FlatFaults.{map_fault}
-use Rattle.ipc_meta.specs.Tables.{text_at, flag_at, dictionary_in, dictionary_at}
+use Rattle.ipc_meta.specs.Tables.{text_at, flag_at}
 use Rattle.ipc_meta.specs.Types.{TypeAt}
-use Rattle.ipc_meta.specs.Fields.{VectorAt, PairAt, FieldAt}
+use Rattle.ipc_meta.specs.Fields.{VectorAt, PairAt, IsEncodedAs, FieldAt}
 use Rattle.ipc_meta.specs.Written.{flag, with_text, with_byte, with_table, with_tables, with_pairs, with_dictionary, type_tree, field_tree}
 use Rattle.ipc_model.specs.TypeCodes.{type_code}
 use Rattle.ipc_meta.specs.Written as written
@@ -58,12 +58,8 @@ tree_with name nullable κ o cs ps =
 
 abbrev PartsAt : List ℕ → Bool → DataType → Option Dictionary → List Field → List (List ℕ × List ℕ) → TableView → Type 0
 PartsAt name nullable κ o cs ps t =
-    (text_at t 0 ≡ Ok name) × (flag_at t 1 ≡ Ok nullable) × TypeAt κ t × (dictionary_at t ≡ Ok o)
+    (text_at t 0 ≡ Ok name) × (flag_at t 1 ≡ Ok nullable) × TypeAt κ t × IsEncodedAs o t
     × VectorAt PairAt ps t 6 × VectorAt FieldAt cs t 5
-
-no_dictionary : (b : List ℕ) (t : ℕ) → field (tab b t) 4 table_from ≡ Ok None → dictionary_at (tab b t) ≡ Ok None
-unfolding dictionary_at
-no_dictionary b t h = ap (λ (r : Result (Option TableView) FlatFault). map_fault r >>= dictionary_in) h
 
 parts_there : (b : List ℕ) (t : ℕ) (name : List ℕ) (nullable : Bool) (κ : DataType) (o : Option Dictionary) (cs : List Field)
     (ps : List (List ℕ × List ℕ)) → HasGoodType κ
@@ -98,10 +94,10 @@ parts_there b t name nullable κ None cs ps good each h =
       flag_there b t 1 null.0 nullable null.1.0 null.3,
       type_stated (tab b t) κ
           (type_there b t code.0 type.0 type.3.0 κ code.1.0 code.3 type.1.0 type.3.1 good (record { stands = type.3.2; lies = type.3.3 })),
-      no_dictionary b t (field_absent b t 4 table_from
+      field_absent b t 4 table_from
           (h.stands.absent 4 4 (neither (λ e. omega (arith, e))
           (neither (λ e. omega (arith, e)) (neither (λ e. omega (arith, e))
-          (neither (λ e. omega (arith, e)) (neither (λ e. omega (arith, e)) (no_pairs 4 6 ps (λ e. omega (arith, e)))))))))),
+          (neither (λ e. omega (arith, e)) (neither (λ e. omega (arith, e)) (no_pairs 4 6 ps (λ e. omega (arith, e))))))))),
       pairs_there b t 6 ps h.lies.1.1.1.1.1 (λ e. h.stands.absent 6 4
           (neither (λ z. omega (arith, z)) (neither (λ z. omega (arith, z))
           (neither (λ z. omega (arith, z)) (neither (λ z. omega (arith, z)) (neither (λ z. omega (arith, z)) (pairs_absent 6 6 ps e))))))),

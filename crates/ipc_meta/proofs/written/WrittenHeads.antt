@@ -3,7 +3,7 @@ use Rattle.std.proofs.Common.{◌≡◌, ◌∙◌, refl, ap, subst, ℕ, ◌+�
 use Rattle.std.specs.Prelude.{ℤ, pos, Option, Some, Result, Ok}
 use Rattle.ipc_scalar.specs.Bytes.{byte, int16, int64}
 use Rattle.ipc_flat.specs.declared.fault.FlatFault.{FlatFault}
-use Rattle.ipc_flat.specs.Flat.{slot_of, elements_of}
+use Rattle.ipc_flat.specs.Flat.{field_place, elements_of}
 use Rattle.ipc_flat.specs.Views.{Structs, table_from, scalar, field, structs_from}
 use Rattle.ipc_flat.specs.Faulty.{◌>>=◌}
 use Rattle.ipc_model.specs.WellFormed.{WellFormed}
@@ -50,7 +50,8 @@ pairs_read b q (x ∷ xs) h = rw (h.0, h.1, pairs_read b (q + 16) xs h.3) refl
 structs : List ℕ → ℕ → ℕ → Structs
 structs b q n = record { bytes = b; at = q; len = n; width = 16 }
 
-numbers_there : (b : List ℕ) (t k p q : ℕ) (xs : List (ℤ × ℤ)) → slot_of b t k 4 ≡ Ok (Some p) → elements_of b p 16 ≡ Ok (q + 4, length xs)
+numbers_there : (b : List ℕ) (t k p q : ℕ) (xs : List (ℤ × ℤ)) → field_place b t k 4 ≡ Ok (Some p)
+    → elements_of b p 16 ≡ Ok (q + 4, length xs)
     → EncodesPairs Any b (q + 4) xs → numbers_at (tab b t) k ≡ Ok xs
 unfolding numbers_at structs
 numbers_there b t k p q xs s e lies =

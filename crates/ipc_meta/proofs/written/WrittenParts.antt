@@ -4,7 +4,7 @@ use Rattle.std.specs.Prelude.{nat_lt, ◌⊎◌, Option, None, Some, Result, Ok}
 use Rattle.std.specs.List.{AllByRecursion}
 use Rattle.ipc_scalar.specs.Bytes.{num, byte}
 use Rattle.ipc_flat.specs.declared.fault.FlatFault.{FlatFault}
-use Rattle.ipc_flat.specs.Flat.{slot_of, elements_of, text_of}
+use Rattle.ipc_flat.specs.Flat.{field_place, elements_of, text_of}
 use Rattle.ipc_flat.specs.Views.{TableView, Elements, table_from, elements_from}
 use Rattle.ipc_flat.specs.Faulty.{◌>>=◌}
 use Rattle.ipc_build.specs.Trees.{Tree, tables_of}
@@ -17,7 +17,7 @@ use Rattle.ipc_meta.specs.Written.{flag, pair_tree, with_pairs}
 use Rattle.ipc_meta.proofs.written.Standing.{Any, tab, Holds, scalar_there, field_there, field_absent, table_there, elements_there}
 
 -- a text that was written in a field is read there
-pub text_there : (b : List ℕ) (t k p : ℕ) (s : List ℕ) → slot_of b t k 4 ≡ Ok (Some p) → text_of b p ≡ Ok s → text_at (tab b t) k ≡ Ok s
+pub text_there : (b : List ℕ) (t k p : ℕ) (s : List ℕ) → field_place b t k 4 ≡ Ok (Some p) → text_of b p ≡ Ok s → text_at (tab b t) k ≡ Ok s
 unfolding text_at
 text_there b t k p s h g = ap (λ (r : Result (Option (List ℕ)) FlatFault). map_fault r >>= λ o. Ok (or_else [] o))
     (field_there b t k p text_of s h g)
@@ -27,14 +27,14 @@ flag_read true = refl
 flag_read false = refl
 
 -- a truth value that was written in a field is read there
-pub flag_there : (b : List ℕ) (t k p : ℕ) (v : Bool) → slot_of b t k 1 ≡ Ok (Some p) → num b p 1 ≡ flag v → flag_at (tab b t) k ≡ Ok v
+pub flag_there : (b : List ℕ) (t k p : ℕ) (v : Bool) → field_place b t k 1 ≡ Ok (Some p) → num b p 1 ≡ flag v → flag_at (tab b t) k ≡ Ok v
 unfolding flag_at
 flag_there b t k p v h g =
     ap (λ (r : Result ℕ FlatFault). map_fault r >>= λ n. Ok (nat_lt 0 n)) (scalar_there b t k 1 p byte 0 h)
     ∙ (ap (λ (n : ℕ). Ok (nat_lt 0 n)) g ∙ ap Ok (flag_read v))
 
 -- a vector that was written in a field is read there
-pub vector_there : (b : List ℕ) (t k p q n : ℕ) → slot_of b t k 4 ≡ Ok (Some p) → elements_of b p 4 ≡ Ok (q, n)
+pub vector_there : (b : List ℕ) (t k p q n : ℕ) → field_place b t k 4 ≡ Ok (Some p) → elements_of b p 4 ≡ Ok (q, n)
     → vector_at (tab b t) k ≡ Ok (record { bytes = b; at = q; len = n })
 unfolding vector_at
 vector_there b t k p q n h g =
@@ -42,7 +42,8 @@ vector_there b t k p q n h g =
     (field_there b t k p (elements_from 4) (record { bytes = b; at = q; len = n }) h (elements_there b p q n 4 g))
 
 -- where no vector was written in a field, one of no elements is read
-pub vector_absent : (b : List ℕ) (t k : ℕ) → slot_of b t k 4 ≡ Ok None → vector_at (tab b t) k ≡ Ok (record { bytes = b; at = 0; len = 0 })
+pub vector_absent : (b : List ℕ) (t k : ℕ) → field_place b t k 4 ≡ Ok None
+    → vector_at (tab b t) k ≡ Ok (record { bytes = b; at = 0; len = 0 })
 unfolding vector_at
 vector_absent b t k h = ap (λ (r : Result (Option Elements) FlatFault). map_fault r >>= λ o. Ok (no_elements (tab b t) o))
     (field_absent b t k (elements_from 4) h)
@@ -82,7 +83,7 @@ pair_there b p t h =
 
 -- a vector of tables in field k
 pub vector_lies : {X : Type 0} (tree : X → Tree) (At : X → TableView → Type 0) (b : List ℕ) (t k p q : ℕ) (xs : List X)
-    → slot_of b t k 4 ≡ Ok (Some p)
+    → field_place b t k 4 ≡ Ok (Some p)
     → elements_of b p 4 ≡ Ok (q + 4, members (tables_of (map tree xs))) → EncodesTable Any b (in_vector (q + 4)) (tables_of (map tree xs))
     → AllByRecursion (States tree At b) xs → VectorAt At xs (tab b t) k
 vector_lies tree At b t k p q xs s e lies each =
@@ -98,7 +99,7 @@ all_pairs b (p ∷ ps) = ((λ t h. pair_there b p t h), all_pairs b ps)
 
 -- the pairs, where they are the last field of a table
 pub pairs_there : (b : List ℕ) (t k : ℕ) (ps : List (List ℕ × List ℕ)) → EncodesTable Any b (in_table t) (with_pairs k ps)
-    → (ps ≡ [] → slot_of b t k 4 ≡ Ok None) → VectorAt PairAt ps (tab b t) k
+    → (ps ≡ [] → field_place b t k 4 ≡ Ok None) → VectorAt PairAt ps (tab b t) k
 unfolding EncodesTable
 pairs_there b t k [] h absent = (record { bytes = b; at = 0; len = 0 }, vector_absent b t k (absent refl), refl)
 pairs_there b t k (p ∷ ps) h absent = let here =

@@ -5,7 +5,7 @@ use Rattle.std.specs.Int.{w32, cast_signed}
 use Rattle.std.proofs.Math.Facts.{to_z_pos}
 use Rattle.ipc_scalar.specs.Bytes.{num, byte, int16, int32, int64}
 use Rattle.ipc_flat.specs.declared.fault.FlatFault.{FlatFault}
-use Rattle.ipc_flat.specs.Flat.{slot_of, table_position, text_of}
+use Rattle.ipc_flat.specs.Flat.{field_place, table_position, text_of}
 use Rattle.ipc_flat.specs.Views.{TableView, table_from, scalar, field}
 use Rattle.ipc_flat.specs.Faulty.{◌>>=◌}
 use Rattle.ipc_model.specs.WellFormed.{HasGoodType}
@@ -21,7 +21,8 @@ use Rattle.ipc_model.specs.declared.schema.Dictionary.{Dictionary}
 use Rattle.ipc_build.specs.Encodes.{EncodesTable, HasField}
 use Rattle.ipc_meta.specs.FlatFaults.{map_fault}
 use Rattle.ipc_meta.specs.Tables.{bits_of, ok_or, int_at, fixed_at, date_at, unit_of, timestamp_at, type_of, type_in, is_type_code}
-use Rattle.ipc_meta.specs.Tables.{when_type, code_at, type_at, flag_at, index_type_at, index_at, dictionary_in, dictionary_at}
+use Rattle.ipc_meta.specs.Tables.{when_type, code_at, type_at, flag_at, index_type_at, index_at}
+use Rattle.ipc_meta.specs.Fields.{EncodingAt, IsEncodedAs}
 use Rattle.ipc_meta.specs.Tables.{fixed_list_at, time_in, time_at, duration_at}
 use Rattle.ipc_meta.specs.Types.{date_code}
 use Rattle.ipc_meta.specs.Written.{int_tree, type_tree, dictionary_tree}
@@ -45,19 +46,19 @@ int_there e b u bits signed h =
     ∙ (ap (λ (r : Result IntBits Fault). r >>= λ c. flag_at (tab b u) 1 >>= λ s. Ok (integer c s)) (bits_there e bits)
     ∙ ap (λ (r : Result Bool Fault). r >>= λ s. Ok (integer bits s)) (flag_there b u 1 sign.0 signed sign.1.0 sign.3)))
 
-fixed_there : (b : List ℕ) (u n p : ℕ) → slot_of b u 0 4 ≡ Ok (Some p) → int32 b p ≡ cast_signed w32 n → n ≤ 2 ^ 31 - 1
+fixed_there : (b : List ℕ) (u n p : ℕ) → field_place b u 0 4 ≡ Ok (Some p) → int32 b p ≡ cast_signed w32 n → n ≤ 2 ^ 31 - 1
     → (map_fault (scalar (tab b u) 0 4 int32 (pos 0)) >>= fixed_at) ≡ Ok (t.FixedSizeBinary n)
 fixed_there b u n p s e h =
     ap (λ (r : Result ℤ FlatFault). map_fault r >>= fixed_at) (scalar_there b u 0 4 p int32 (pos 0) s)
     ∙ (ap fixed_at e ∙ ap fixed_at (to_z_pos w32 (omega (arith, h))))
 
-fixed_list_there : (b : List ℕ) (u n p : ℕ) → slot_of b u 0 4 ≡ Ok (Some p) → int32 b p ≡ cast_signed w32 n → n ≤ 2 ^ 31 - 1
+fixed_list_there : (b : List ℕ) (u n p : ℕ) → field_place b u 0 4 ≡ Ok (Some p) → int32 b p ≡ cast_signed w32 n → n ≤ 2 ^ 31 - 1
     → (map_fault (scalar (tab b u) 0 4 int32 (pos 0)) >>= fixed_list_at) ≡ Ok (t.FixedSizeList n)
 fixed_list_there b u n p s e h =
     ap (λ (r : Result ℤ FlatFault). map_fault r >>= fixed_list_at) (scalar_there b u 0 4 p int32 (pos 0) s)
     ∙ (ap fixed_list_at e ∙ ap fixed_list_at (to_z_pos w32 (omega (arith, h))))
 
-date_there : (b : List ℕ) (u p : ℕ) (unit : DateUnit) → slot_of b u 0 2 ≡ Ok (Some p) → int16 b p ≡ date_code unit
+date_there : (b : List ℕ) (u p : ℕ) (unit : DateUnit) → field_place b u 0 2 ≡ Ok (Some p) → int16 b p ≡ date_code unit
     → (map_fault (scalar (tab b u) 0 2 int16 (pos 1)) >>= date_at) ≡ Ok (t.Date unit)
 date_there b u p unit s e = ap (λ (r : Result ℤ FlatFault). map_fault r >>= date_at) (scalar_there b u 0 2 p int16 (pos 1) s)
     ∙ (ap date_at e ∙ date_read unit)
@@ -141,8 +142,8 @@ coded t.List = refl
 coded t.Struct = refl
 
 -- a type whose code and table were written in a field is the one that is read
-pub type_there : (b : List ℕ) (t c p u : ℕ) (κ : DataType) → slot_of b t 2 1 ≡ Ok (Some c) → num b c 1 ≡ type_code κ
-    → slot_of b t 3 4 ≡ Ok (Some p) → table_position b p ≡ Ok u
+pub type_there : (b : List ℕ) (t c p u : ℕ) (κ : DataType) → field_place b t 2 1 ≡ Ok (Some c) → num b c 1 ≡ type_code κ
+    → field_place b t 3 4 ≡ Ok (Some p) → table_position b p ≡ Ok u
     → HasGoodType κ → Holds b u (type_tree κ) → type_at (tab b t) ≡ Ok κ
 unfolding type_at code_at
 type_there b t c p u κ sc e sp table good h =
@@ -158,34 +159,27 @@ type_there b t c p u κ sc e sp table good h =
 
 -- ---- the dictionary
 
-abbrev encoding : ℤ → IndexType → Bool → Result (Option Dictionary) Fault
-encoding id index ordered = Ok (Some (record { id = id; index = index; ordered = ordered }))
-
-index_there : (b : List ℕ) (u p v : ℕ) (index : IndexType) → slot_of b u 1 4 ≡ Ok (Some p) → table_position b p ≡ Ok v
+index_there : (b : List ℕ) (u p v : ℕ) (index : IndexType) → field_place b u 1 4 ≡ Ok (Some p) → table_position b p ≡ Ok v
     → Holds b v (int_tree index.bits index.signed) → index_at (tab b u) ≡ Ok index
 index_there b u p v index s table h =
     ap (λ (r : Result (Option TableView) FlatFault). map_fault r >>= index_type_at)
     (field_there b u 1 p table_from (tab b v) s (table_there b p v table))
     ∙ int_there BadIndexType b v index.bits index.signed h
 
-encoding_there : (b : List ℕ) (u : ℕ) (d : Dictionary) → Holds b u (dictionary_tree d) → dictionary_in (Some (tab b u)) ≡ Ok (Some d)
+encoding_there : (b : List ℕ) (u : ℕ) (d : Dictionary) → Holds b u (dictionary_tree d) → EncodingAt (tab b u) d
 unfolding EncodesTable
 encoding_there b u d h =
     let id = h.lies.0 in
     let index = h.lies.1.0 in
     let order = h.lies.1.1.0 in
-    ap (λ (r : Result ℤ FlatFault). map_fault r >>= λ z. index_at (tab b u) >>= λ x. flag_at (tab b u) 2 >>= λ o. encoding z x o)
-    (scalar_there b u 0 8 id.0 int64 (pos 0) id.1.0)
-    ∙ (ap (λ (z : ℤ). index_at (tab b u) >>= λ x. flag_at (tab b u) 2 >>= λ o. encoding z x o) id.3
-    ∙ (ap (λ (r : Result IndexType Fault). r >>= λ x. flag_at (tab b u) 2 >>= λ o. encoding d.id x o)
-    (index_there b u index.0 index.3.0 d.index index.1.0 index.3.1 (record { stands = index.3.2; lies = index.3.3 }))
-    ∙ ap (λ (r : Result Bool Fault). r >>= λ o. encoding d.id d.index o) (flag_there b u 2 order.0 d.ordered order.1.0 order.3)))
+    record {
+      id = scalar_there b u 0 8 id.0 int64 (pos 0) id.1.0 ∙ ap Ok id.3;
+      index = index_there b u index.0 index.3.0 d.index index.1.0 index.3.1 (record { stands = index.3.2; lies = index.3.3 });
+      ordered = flag_there b u 2 order.0 d.ordered order.1.0 order.3;
+    }
 
--- a dictionary whose table was written in a field is the one that is read
-pub dictionary_there : (b : List ℕ) (t p u : ℕ) (d : Dictionary) → slot_of b t 4 4 ≡ Ok (Some p) → table_position b p ≡ Ok u
-    → Holds b u (dictionary_tree d) → dictionary_at (tab b t) ≡ Ok (Some d)
-unfolding dictionary_at
+-- a dictionary whose table was written in a field is the one that the field states
+pub dictionary_there : (b : List ℕ) (t p u : ℕ) (d : Dictionary) → field_place b t 4 4 ≡ Ok (Some p) → table_position b p ≡ Ok u
+    → Holds b u (dictionary_tree d) → IsEncodedAs (Some d) (tab b t)
 dictionary_there b t p u d s table h =
-    ap (λ (r : Result (Option TableView) FlatFault). map_fault r >>= dictionary_in)
-    (field_there b t 4 p table_from (tab b u) s (table_there b p u table))
-    ∙ encoding_there b u d h
+    (tab b u, field_there b t 4 p table_from (tab b u) s (table_there b p u table), encoding_there b u d h)

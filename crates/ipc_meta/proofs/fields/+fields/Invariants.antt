@@ -14,5 +14,5 @@ abbrev pub invariant-read_fields-loop-i : goal.invariant-read_fields-loop-i
 invariant-read_fields-loop-i l = record {
   range : l.i-end ≡ l.tables.len;
   read : with_front l.fields.items (from_ith (field_read l.depth) l.tables.bytes l.tables.at l.i l.tables.len l.budget)
-      ≡ fields_read (field_read l.depth) l.table l.slot l.fn.budget;
+      ≡ fields_read (field_read l.depth) l.table l.id l.fn.budget;
 }

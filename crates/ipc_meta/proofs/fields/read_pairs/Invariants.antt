@@ -8,5 +8,5 @@ abbrev pub invariant-loop-i : goal.invariant-loop-i
 invariant-loop-i l = record {
   range : l.i-end ≡ l.tables.len;
   read : with_front l.pairs.items (from_ith pair_read l.tables.bytes l.tables.at l.i l.tables.len l.budget)
-      ≡ pairs_read l.table l.slot l.fn.budget;
+      ≡ pairs_read l.table l.id l.fn.budget;
 }

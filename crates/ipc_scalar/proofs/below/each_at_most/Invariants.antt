@@ -1,6 +1,6 @@
 use Rattle.std.proofs.Common.{◌↔◌, ℕ, ◌*◌, ◌≤◌, ◌<◌, [], get_or}
 use Rattle.ipc_scalar.specs.Bytes.{num}
-use Rattle.ipc_scalar.proofs.below.are_at_most.Given as goal
+use Rattle.ipc_scalar.proofs.below.each_at_most.Given as goal
 
 abbrev pub invariant-loop-block : goal.invariant-loop-block
 invariant-loop-block g l = g.L.Lanes.at_most l.most l.top

@@ -1,6 +1,6 @@
 use Rattle.std.proofs.Common.{◌∙◌, ap, ◌++◌, ◌-◌, ℕ, List, length, arith}
 use Rattle.ipc_scalar.proofs.Blocks.{all_numbers, zeros}
-use Rattle.ipc_scalar.proofs.below.are_at_most.Goals as goal
+use Rattle.ipc_scalar.proofs.below.each_at_most.Goals as goal
 
 pub returns : goal.returns
 returns g c =
