@@ -19,8 +19,9 @@ use Rattle.ipc_encode.specs.Built.{AreNodes, IsColumn, IsNode, IsPushRefused, Ar
 use Rattle.ipc_encode.specs.Cells.{nulls}
 use Rattle.ipc_encode.specs.Columns.{bits_length, padded_length, validity_length, offsets_length, values_length, data_in}
 use Rattle.ipc_encode.specs.Columns.{ExceedsOffsets}
+use Rattle.ipc_encode.specs.Buffers.{SomeColumn}
 use Rattle.ipc_encode.specs.Limits.{IsWithin}
-use Rattle.ipc_encode.specs.Limits.{HasLongData, HasLongItems, HasLongNode, HasExcessData, AreRowsRefused, SomeColumn, SomeExcessData}
+use Rattle.ipc_encode.specs.Limits.{HasLongData, HasLongItems, HasLongNode, HasExcessData, AreRowsRefused}
 use Rattle.ipc_encode.specs.Numbers.{Numbering}
 use Rattle.ipc_encode.specs.declared.column.ColumnBuilder.{ColumnBuilder}
 use Rattle.ipc_encode.specs.declared.fault.PushFault.{PushFault}
@@ -555,12 +556,12 @@ few_next most (suc i) (field k d rest) given l c at so one (inr (inr later)) =
     few_next most i rest (λ j. given (suc j)) l c at (λ x. so (inr (inr x))) one later
 
 pub short_next : (i : ℕ) (shape : Shape) (given : ℕ → List Value) (l : Layout) (c : Shape) → IsAt i shape l c
-    → (SomeExcessData (first i shape) given → ⊥) → (SomeExcessData (field l c bare) (λ j. given i) → ⊥)
-    → SomeExcessData (first (suc i) shape) given → ⊥
+    → (SomeColumn HasExcessData (first i shape) given → ⊥) → (SomeColumn HasExcessData (field l c bare) (λ j. given i) → ⊥)
+    → SomeColumn HasExcessData (first (suc i) shape) given → ⊥
 short_next i bare given l c at so one h = absurd at
 short_next zero (field k d rest) given l c at so one h =
-    one (subst (λ (s : Shape). SomeExcessData (field l s bare) (λ j. given 0)) at.1
-    (subst (λ (m : Layout). SomeExcessData (field m d bare) (λ j. given 0)) at.0 h))
+    one (subst (λ (s : Shape). SomeColumn HasExcessData (field l s bare) (λ j. given 0)) at.1
+    (subst (λ (m : Layout). SomeColumn HasExcessData (field m d bare) (λ j. given 0)) at.0 h))
 short_next (suc i) (field k d rest) given l c at so one (inl own) = so (inl own)
 short_next (suc i) (field k d rest) given l c at so one (inr (inl child)) = so (inr (inl child))
 short_next (suc i) (field k d rest) given l c at so one (inr (inr later)) =
@@ -610,7 +611,7 @@ held_few known limits (field l c rest) (m ∷ ms) given h (inr (inl child)) = he
 held_few known limits (field l c rest) (m ∷ ms) given h (inr (inr later)) = held_few known limits rest ms (λ j. given (suc j)) h.1 later
 
 pub held_short : (known : Numbering) (limits : Limits) (shape : Shape) (nodes : List Node) (given : ℕ → List Value)
-    → AreNodes (IsColumn known limits) shape nodes given → SomeExcessData shape given → ⊥
+    → AreNodes (IsColumn known limits) shape nodes given → SomeColumn HasExcessData shape given → ⊥
 held_short known limits bare nodes given h x = x
 held_short known limits (field l c rest) [] given h x = absurd h
 held_short known limits (field l c rest) (m ∷ ms) given h (inl own) = column_short known limits l (given 0) _ h.0.0 own
@@ -626,7 +627,7 @@ few_leaf most l vs few (inl own) = few own
 few_leaf most l vs few (inr (inl none)) = none
 few_leaf most l vs few (inr (inr none)) = none
 
-pub short_leaf : (l : Layout) (vs : List Value) → (HasExcessData l vs → ⊥) → SomeExcessData (field l bare bare) (λ j. vs) → ⊥
+pub short_leaf : (l : Layout) (vs : List Value) → (HasExcessData l vs → ⊥) → SomeColumn HasExcessData (field l bare bare) (λ j. vs) → ⊥
 short_leaf l vs short (inl own) = short own
 short_leaf l vs short (inr (inl none)) = none
 short_leaf l vs short (inr (inr none)) = none

@@ -39,7 +39,8 @@ use Rattle.ipc_encode.specs.Cells.{struct_member, part_in, all_parts, fixed_item
 use Rattle.ipc_encode.specs.Cells.{extent, HasUtf8}
 use Rattle.ipc_encode.specs.Columns.{validity_bytes, validity_in}
 use Rattle.ipc_encode.specs.Indices.{InColumn, FindsIndex, InColumns, FindsRows}
-use Rattle.ipc_encode.specs.Limits.{HasLongData, HasLongNode, SomeColumn, IsWithin}
+use Rattle.ipc_encode.specs.Buffers.{SomeColumn}
+use Rattle.ipc_encode.specs.Limits.{HasLongData, HasLongNode, IsWithin}
 use Rattle.ipc_encode.specs.Numbers.{Numbering}
 use Rattle.ipc_encode.specs.Pieces.{True, Number, Valid, Content}
 use Rattle.ipc_encode.specs.Pieces as p

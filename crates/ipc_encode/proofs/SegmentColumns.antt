@@ -20,7 +20,8 @@ use Rattle.ipc_encode.specs.Built.{ArePushesRefused, IsColumn}
 use Rattle.ipc_encode.specs.Buffers.{column_nulls}
 use Rattle.ipc_encode.specs.Columns.{validity_bytes}
 use Rattle.ipc_encode.specs.Faults.{write_fault}
-use Rattle.ipc_encode.specs.Limits.{HasLongData, HasLongItems, HasLongNode, HasExcessData, AreRowsRefused, IsWithin, SomeExcessData}
+use Rattle.ipc_encode.specs.Buffers.{SomeColumn}
+use Rattle.ipc_encode.specs.Limits.{HasLongData, HasLongItems, HasLongNode, HasExcessData, AreRowsRefused, IsWithin}
 use Rattle.ipc_encode.specs.Numbers.{Numbering}
 use Rattle.ipc_encode.specs.Segments.{AddsBuffers, IsBodyRefused, bytes_of_segments, segment_bytes, AddsColumns, AreRefusedAfter}
 use Rattle.ipc_encode.specs.Segments.{ArePartsOf, AreSegmented, IsEmpty}
@@ -217,8 +218,8 @@ with_children limits known lay c vs d mid e own inner =
     long_either first second (inr (inl child)) = second child
     long_either first second (inr (inr none)) = none
 
-    past_either : (SomeExcessData (field lay bare bare) (λ j. vs) → ⊥) → (SomeExcessData c (child_values lay vs) → ⊥)
-        → SomeExcessData (field lay c bare) (λ j. vs) → ⊥
+    past_either : (SomeColumn HasExcessData (field lay bare bare) (λ j. vs) → ⊥) → (SomeColumn HasExcessData c (child_values lay vs) → ⊥)
+        → SomeColumn HasExcessData (field lay c bare) (λ j. vs) → ⊥
     past_either first second (inl long) = first (inl long)
     past_either first second (inr (inl child)) = second child
     past_either first second (inr (inr none)) = none

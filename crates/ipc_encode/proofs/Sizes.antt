@@ -22,7 +22,8 @@ use Rattle.ipc_encode.specs.Cells.{flags, nulls, content, fixed_bytes, items, sl
 use Rattle.ipc_encode.specs.Cells.{all_items}
 use Rattle.ipc_encode.specs.Columns.{validity_bytes, bits_length, padded_length, data_in, values_length}
 use Rattle.ipc_encode.specs.Columns.{ExceedsOffsets, offsets_length, validity_length}
-use Rattle.ipc_encode.specs.Limits.{HasExcessData, HasLongData, HasLongItems, SomeColumn, SomeExcessData}
+use Rattle.ipc_encode.specs.Buffers.{SomeColumn}
+use Rattle.ipc_encode.specs.Limits.{HasExcessData, HasLongData, HasLongItems}
 use Rattle.ipc_encode.specs.Numbers.{Numbering}
 use Rattle.ipc_encode.specs.Writing.{AreStored}
 use Rattle.ipc_encode.specs.Pieces.{Valid, True, Number, Fixed, Content}
@@ -267,15 +268,15 @@ items_past l.Lists vs h = h
 items_past _ vs h = absurd h
 
 some_past : (P : Layout → List Value → Type 0) → ((layout : Layout) (vs : List Value) → P layout vs → HasExcessData layout vs)
-    → (shape : Shape) (given : ℕ → List Value) → SomeColumn P shape given → SomeExcessData shape given
+    → (shape : Shape) (given : ℕ → List Value) → SomeColumn P shape given → SomeColumn HasExcessData shape given
 some_past P past bare given h = h
 some_past P past (field k c rest) given (inl own) = inl (past k (given 0) own)
 some_past P past (field k c rest) given (inr (inl child)) = inr (inl (some_past P past c (child_values k (given 0)) child))
 some_past P past (field k c rest) given (inr (inr later)) = inr (inr (some_past P past rest (λ j. given (suc j)) later))
 
 -- long data of one of the columns passes its offsets, and so do long lists
-pub data_some : (shape : Shape) (given : ℕ → List Value) → SomeColumn HasLongData shape given → SomeExcessData shape given
+pub data_some : (shape : Shape) (given : ℕ → List Value) → SomeColumn HasLongData shape given → SomeColumn HasExcessData shape given
 data_some shape given h = some_past HasLongData data_past shape given h
 
-pub items_some : (shape : Shape) (given : ℕ → List Value) → SomeColumn HasLongItems shape given → SomeExcessData shape given
+pub items_some : (shape : Shape) (given : ℕ → List Value) → SomeColumn HasLongItems shape given → SomeColumn HasExcessData shape given
 items_some shape given h = some_past HasLongItems items_past shape given h

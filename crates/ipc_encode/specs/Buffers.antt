@@ -1,7 +1,7 @@
 -- The nodes, the buffers and the body that are written for rows (Arrow Columnar Format,
 -- "RecordBatch message").
 use Rattle.std.specs.Prelude.{◌≡◌, ℕ, suc, ◌+◌, ◌-◌, ◌%◌, ◌==◌, ℤ, pos, List, [], ◌∷◌, ◌++◌, length}
-use Rattle.std.specs.Prelude.{drop, replicate, if◌then◌else◌}
+use Rattle.std.specs.Prelude.{drop, replicate, if◌then◌else◌, ⊤, ◌⊎◌}
 use Rattle.ipc_model.specs.declared.schema.Field.{Field}
 use Rattle.ipc_model.specs.declared.value.Value.{Value}
 use Rattle.ipc_model.specs.declared.layout.Layout.{Layout}
@@ -77,6 +77,21 @@ child_values l.Lists values j = all_items values
 child_values (l.FixedLists size) values j = all_fixed_items size values
 child_values l.Structs values j = all_parts j values
 child_values _ values j = []
+
+-- the property holds for each column, and each column below it, with its layout and values;
+-- `given` has the values of each column by its number
+abbrev pub EachColumn : (Layout → List Value → Type 0) → Shape → (ℕ → List Value) → Type 0
+EachColumn Property bare given = ⊤
+EachColumn Property (field l children rest) given =
+    Property l (given 0) × (EachColumn Property children (child_values l (given 0))
+    × EachColumn Property rest (λ j. given (suc j)))
+
+-- the property holds for one of the columns, or for a column below it
+abbrev pub SomeColumn : (Layout → List Value → Type 0) → Shape → (ℕ → List Value) → Type 0
+SomeColumn Property bare given = ⊥
+SomeColumn Property (field l children rest) given =
+    Property l (given 0) ⊎ (SomeColumn Property children (child_values l (given 0))
+    ⊎ SomeColumn Property rest (λ j. given (suc j)))
 
 -- how many nulls a null adds to each child
 abbrev pub nulls_below : Layout → ℕ

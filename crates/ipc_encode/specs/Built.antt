@@ -20,13 +20,15 @@ use Rattle.ipc_column.specs.Shapes.{Shape, bare, field, node_count, shape_of}
 use Rattle.ipc_encode.specs.Buffers.{child_values, row_columns, padded_bytes, column_buffers}
 use Rattle.ipc_encode.specs.Buffers.{buffers_of, column_nulls}
 use Rattle.ipc_encode.specs.Bitmaps.{bitmap}
+use Rattle.ipc_encode.specs.Faults.{write_fault}
 use Rattle.ipc_encode.specs.Cells.{HasUtf8, flags, offsets, slots}
 use Rattle.ipc_encode.specs.Columns.{validity_in, data_in}
 use Rattle.ipc_encode.specs.Numbers.{Numbering, indices_of}
 use Rattle.ipc_encode.specs.Pieces.{Bytes, Content, Fixed, Items, Number, True}
 use Rattle.ipc_encode.specs.Indices.{AgreeOn}
+use Rattle.ipc_encode.specs.Buffers.{SomeColumn}
 use Rattle.ipc_encode.specs.Limits.{HasLongData, HasLongItems, HasLongNode, HasExcessData}
-use Rattle.ipc_encode.specs.Limits.{IsWithin, SomeColumn, SomeExcessData}
+use Rattle.ipc_encode.specs.Limits.{AreRowsRefused, IsWithin}
 
 -- the counts of a column of this layout with these values, which are within the limits
 pub record AreCountsOf (limits : Limits) (layout : Layout) (values : List Value)
@@ -129,7 +131,7 @@ HoldColumns indices limits = AreNodes (IsColumn indices limits)
 pub record AreColumnsWithin (limits : Limits) (shape : Shape) (given : ℕ → List Value) : Type
     0 where
   pub few : ¬ HasLongNode limits.slots shape given
-  pub short : ¬ SomeExcessData shape given
+  pub short : ¬ SomeColumn HasExcessData shape given
   pub body : length (padded_bytes (buffers_of shape given)) ≤ limits.body
 
 -- this number of columns that keep to these bounds is within a body: a slot takes at most nine
@@ -224,6 +226,46 @@ pub record AppendsTo {T : Type 0} (indices : Numbering) (limits : Limits) (layou
   pub refused : IfErr result (ArePushesRefused limits (field layout children bare) (λ j. all))
   pub begun : IfErr result (λ e. ¬ (e ≡ fault.OutOfMemory)
       → IsNode (BeginsWith indices limits) layout children node values)
+
+-- a call adds these values to a column and what they give to its children, whatever these held
+-- (`AppendsTo`)
+abbrev pub AddsValues : {T : Type 0} → Numbering → Limits → List Value → Node → Node
+    → Result T PushFault → Type 0
+AddsValues indices limits more old new result =
+    (layout : Layout) (children : Shape) (values : List Value)
+    → IsNode (IsColumn indices limits) layout children old values
+    → AppendsTo indices limits layout children values (values ++ more) new result
+
+-- a call adds values to each of several columns, by the column's number, whatever these held
+-- (`Appends`)
+abbrev pub AddsToEach : {T : Type 0} → Numbering → Limits → (ℕ → List Value) → List Node
+    → List Node → Result T PushFault → Type 0
+AddsToEach indices limits more old new result = (shape : Shape) (given : ℕ → List Value)
+    → HoldColumns indices limits shape old given
+    → Appends indices limits shape given (λ j. given j ++ more j) new result
+
+-- at Ok the builder stores one row more, whatever it stored
+abbrev pub StoresRowMore : {T : Type 0} → Numbering → List Value → Builder → Builder
+    → Result T PushFault → Type 0
+StoresRowMore indices row old new result =
+    (limits : Limits) (fields : List Field) (rows : List (List Value))
+    → StoresRows indices limits fields rows old
+    → OnOk result (StoresRows indices limits fields (rows ++ row ∷ []) new)
+
+-- a fault is true of the rows that the builder stored with one row more
+abbrev pub RefusesRowMore : {T : Type 0} → Numbering → List Value → Builder → Result T PushFault
+    → Type 0
+RefusesRowMore indices row old result =
+    (limits : Limits) (fields : List Field) (rows : List (List Value))
+    → StoresRows indices limits fields rows old
+    → IfErr result (λ e. AreRowsRefused limits fields (rows ++ row ∷ []) (write_fault e))
+
+-- at a fault the builder stores the rows that it stored, unless memory ran out
+abbrev pub KeepsRows : {T : Type 0} → Numbering → Builder → Builder → Result T PushFault → Type 0
+KeepsRows indices old new result =
+    (limits : Limits) (fields : List Field) (rows : List (List Value))
+    → StoresRows indices limits fields rows old
+    → IfErr result (λ e. ¬ (e ≡ fault.OutOfMemory) → StoresRows indices limits fields rows new)
 
 -- a growth of the builder's memory was refused earlier
 abbrev pub HasFailed : Builder → Type 0

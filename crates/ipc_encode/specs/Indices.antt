@@ -1,5 +1,5 @@
 -- Properties of the indices of values (Arrow Columnar Format, "Dictionary-encoded Layout").
-use Rattle.std.specs.Prelude.{◌≡◌, ℕ, suc, ℤ, pos, Bool, true, false, List, Some, slice_get, ⊤}
+use Rattle.std.specs.Prelude.{◌≡◌, ℕ, ℤ, pos, Bool, true, false, List, Some, slice_get, ⊤}
 use Rattle.std.specs.List.{AllByRecursion}
 use Rattle.ipc_model.specs.Ranges.{width, IsSignedWithin, IsUnsignedWithin}
 use Rattle.ipc_model.specs.declared.schema.Field.{Field}
@@ -8,10 +8,10 @@ use Rattle.ipc_model.specs.declared.value.Value.{Value}
 use Rattle.ipc_model.specs.declared.layout.Layout.{Layout}
 use Rattle.ipc_model.specs.declared.layout.Layout.TheVariants as l
 use Rattle.ipc_column.specs.Dictionaries.{Dictionaries, values_for}
-use Rattle.ipc_column.specs.Shapes.{Shape, bare, field, shape_of}
+use Rattle.ipc_column.specs.Shapes.{Shape, shape_of}
 use Rattle.ipc_encode.specs.Pieces.{Valid}
 use Rattle.ipc_encode.specs.Cells.{is_set}
-use Rattle.ipc_encode.specs.Buffers.{child_values, row_columns}
+use Rattle.ipc_encode.specs.Buffers.{EachColumn, row_columns}
 use Rattle.ipc_encode.specs.Numbers.{Numbering}
 
 -- `Asked` holds for each value other than null in a column of indices, with their width and sign
@@ -30,10 +30,7 @@ InColumn Asked l.Structs values = ⊤
 
 -- `Asked` holds for the indices of each column and each column below it (`InColumn`)
 abbrev pub InColumns : (IntBits → Bool → ℤ → Value → Type 0) → Shape → (ℕ → List Value) → Type 0
-InColumns Asked bare given = ⊤
-InColumns Asked (field l children rest) given = InColumn Asked l (given 0)
-    × (InColumns Asked children (child_values l (given 0))
-    × InColumns Asked rest (λ j. given (suc j)))
+InColumns Asked = EachColumn (InColumn Asked)
 
 -- `Asked` holds for the indices of the columns of rows (`InColumn`)
 abbrev pub InRows : (IntBits → Bool → ℤ → Value → Type 0) → List Field → List (List Value) → Type 0

@@ -1,5 +1,5 @@
 -- When rows are too many or too long for one batch (Arrow Columnar Format, "Array lengths").
-use Rattle.std.specs.Prelude.{ℕ, suc, ◌<◌, List, length, ◌⊎◌, ⊤}
+use Rattle.std.specs.Prelude.{ℕ, ◌<◌, List, length, ◌⊎◌, ⊤}
 use Rattle.ipc_model.specs.declared.fault.WriteFault.{WriteFault}
 use Rattle.ipc_model.specs.declared.fault.WriteFault.TheVariants as fault
 use Rattle.ipc_model.specs.declared.schema.Field.{Field}
@@ -7,25 +7,15 @@ use Rattle.ipc_model.specs.declared.value.Value.{Value}
 use Rattle.ipc_model.specs.declared.layout.Layout.{Layout}
 use Rattle.ipc_model.specs.declared.layout.Layout.TheVariants as l
 use Rattle.ipc_encode.specs.Pieces.{Content}
-use Rattle.ipc_column.specs.Shapes.{Shape, bare, field, shape_of}
+use Rattle.ipc_column.specs.Shapes.{Shape, shape_of}
 use Rattle.ipc_encode.specs.Cells.{slots, all_items}
-use Rattle.ipc_encode.specs.Buffers.{child_values, row_columns, rows_body}
+use Rattle.ipc_encode.specs.Buffers.{SomeColumn, row_columns, rows_body}
 use Rattle.ipc_model.specs.Limits.{max_data}
 use Rattle.ipc_model.specs.declared.limits.Limits.{Limits}
 
 -- a column, or one below it, has more slots than this (Arrow Columnar Format, "Array lengths")
 abbrev pub HasLongNode : ℕ → Shape → (ℕ → List Value) → Type 0
-HasLongNode most bare given = ⊥
-HasLongNode most (field l children rest) given =
-    (most < length (given 0)) ⊎ (HasLongNode most children (child_values l (given 0))
-    ⊎ HasLongNode most rest (λ j. given (suc j)))
-
--- the property holds for one of the columns, or for a column below it, with its layout and values
-abbrev pub SomeColumn : (Layout → List Value → Type 0) → Shape → (ℕ → List Value) → Type 0
-SomeColumn Property bare given = ⊥
-SomeColumn Property (field l children rest) given =
-    Property l (given 0) ⊎ (SomeColumn Property children (child_values l (given 0))
-    ⊎ SomeColumn Property rest (λ j. given (suc j)))
+HasLongNode most = SomeColumn (λ layout values. most < length values)
 
 -- there are more bytes of binary or UTF-8 data than a 32-bit offset can address (Arrow Columnar
 -- Format, "Variable-size Binary Layout")
@@ -64,13 +54,6 @@ HasExcessData l.Lists values = max_data < length (all_items values)
 HasExcessData l.Structs values = ⊥
 HasExcessData (l.FixedLists size) values = ⊥
 HasExcessData (l.Indices bits signed id) values = ⊥
-
--- one of the columns, or a column below it, has more data than offsets can address
-abbrev pub SomeExcessData : Shape → (ℕ → List Value) → Type 0
-SomeExcessData bare given = ⊥
-SomeExcessData (field l children rest) given =
-    HasExcessData l (given 0) ⊎ (SomeExcessData children (child_values l (given 0))
-    ⊎ SomeExcessData rest (λ j. given (suc j)))
 
 -- the rows are within the limits
 pub record IsWithin (limits : Limits) (fields : List Field) (rows : List

@@ -14,8 +14,8 @@ number_or (Some number) other = number
 number_or None other = other
 
 -- the index of each value, or 0 if it has none
-abbrev pub index_or_zero : (ℤ → Value → Option ℕ) → Numbering
-index_or_zero index id value = number_or (index id value) 0
+abbrev pub known_indices : (ℤ → Value → Option ℕ) → Numbering
+known_indices index id value = number_or (index id value) 0
 
 -- each index replaced by its new number, if it has one
 abbrev pub new_indices : (ℤ → ℕ → Option ℕ) → Numbering → Numbering

@@ -12,8 +12,9 @@ use Rattle.ipc_encode.specs.declared.segments.SegmentedParts.{SegmentedParts}
 use Rattle.ipc_encode.specs.declared.segments.Draft.{Draft}
 use Rattle.ipc_encode.specs.Buffers.{body_with, buffers_of, buffers_with, nodes_of}
 use Rattle.ipc_encode.specs.Buffers.{padded_bytes, ranges_from, row_buffers_with, row_nodes}
-use Rattle.ipc_encode.specs.Limits.{HasLongData, HasLongItems, HasLongNode, SomeColumn}
-use Rattle.ipc_encode.specs.Limits.{SomeExcessData}
+use Rattle.ipc_encode.specs.Buffers.{SomeColumn}
+use Rattle.ipc_encode.specs.Limits.{HasLongData, HasLongItems, HasLongNode}
+use Rattle.ipc_encode.specs.Limits.{HasExcessData}
 use Rattle.ipc_encode.specs.Numbers.{Numbering}
 use Rattle.ipc_encode.specs.Writing.{AllStored}
 
@@ -56,7 +57,7 @@ pub record AddsColumns (limits : Limits) (indices : Numbering) (shape : Shape)
   pub nodes : new.nodes.items ≡ old.nodes.items ++ nodes_of shape given
   pub buffers : AddsBuffers old new (buffers_with indices shape given)
   pub few : ¬ HasLongNode limits.slots shape given
-  pub short : ¬ SomeExcessData shape given
+  pub short : ¬ SomeColumn HasExcessData shape given
   pub stores : AllStored shape given
   pub body : new.len ≤ limits.body
 

@@ -1,12 +1,12 @@
 -- What is written for columns (Arrow Columnar Format, "Physical Memory Layout").
-use Rattle.std.specs.Prelude.{ℕ, suc, List, ⊤}
+use Rattle.std.specs.Prelude.{ℕ, List, ⊤}
 use Rattle.std.specs.List.{AllByRecursion}
 use Rattle.ipc_model.specs.declared.value.Value.{Value}
 use Rattle.ipc_model.specs.declared.layout.Layout.{Layout}
 use Rattle.ipc_model.specs.declared.layout.Layout.TheVariants as l
-use Rattle.ipc_column.specs.Shapes.{Shape, bare, field}
+use Rattle.ipc_column.specs.Shapes.{Shape}
 use Rattle.ipc_encode.specs.Cells.{HasUtf8}
-use Rattle.ipc_encode.specs.Buffers.{child_values}
+use Rattle.ipc_encode.specs.Buffers.{EachColumn}
 
 -- the texts in a column of variable length are UTF-8; nothing is stated for other layouts
 abbrev pub AreStored : Layout → List Value → Type 0
@@ -22,7 +22,4 @@ AreStored (l.Indices bits signed id) values = ⊤
 
 -- the texts of each column and each column below it are UTF-8 (`AreStored`)
 abbrev pub AllStored : Shape → (ℕ → List Value) → Type 0
-AllStored bare given = ⊤
-AllStored (field l children rest) given =
-    AreStored l (given 0) × (AllStored children (child_values l (given 0))
-    × AllStored rest (λ j. given (suc j)))
+AllStored = EachColumn AreStored

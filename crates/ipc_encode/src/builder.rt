@@ -13,11 +13,12 @@ ghost use Rattle.ipc_column.specs.Rows.{Rows};
 ghost use Rattle.ipc_column.specs.Shapes.{Shape, node_count, shape_of};
 ghost use Rattle.ipc_encode.specs.Buffers.{AreLaidOut, row_columns};
 ghost use Rattle.ipc_encode.specs.Built.{AreShares, HasFailed, HoldColumns, BeginsWithRows};
-ghost use Rattle.ipc_encode.specs.Built.{HoldsAgreeing, HoldsRows, StoresRows};
+ghost use Rattle.ipc_encode.specs.Built.{HoldsAgreeing, HoldsRows, KeepsRows, RefusesRowMore};
+ghost use Rattle.ipc_encode.specs.Built.{StoresRowMore, StoresRows};
 ghost use Rattle.ipc_encode.specs.Faults.{write_fault};
 ghost use Rattle.ipc_encode.specs.Indices.{FindsRows};
 ghost use Rattle.ipc_encode.specs.Limits.{AreRowsRefused, AreColumnsTooLong, IsWithin};
-ghost use Rattle.ipc_encode.specs.Numbers.{Numbering, new_indices, index_or_zero};
+ghost use Rattle.ipc_encode.specs.Numbers.{Numbering, new_indices, known_indices};
 ghost use Rattle.ipc_encode.specs.Segments.{AreSegmented, bytes_of_segments};
 
 use crate::built_columns::add_nodes;
@@ -141,18 +142,18 @@ impl Builder {
     ) -> Result<bool, PushFault>
         requires { self.old.rows < self.old.limits.slots }
         ensures appended { (limits : Limits) (fields : List Field) (rows : List (List Value))
-            → HoldsRows (index_or_zero (I.IndexOf.index indices.now)) limits fields rows self.old
-            → OnOk result (HoldsRows (index_or_zero (I.IndexOf.index indices.now)) limits fields
+            → HoldsRows (known_indices (I.index indices.now)) limits fields rows self.old
+            → OnOk result (HoldsRows (known_indices (I.index indices.now)) limits fields
             (rows ++ row.now ∷ []) self.new) }
         ensures fits { IfOk result (λ all. IsTrue all → RowFits fields.now row.now) }
         ensures refused { (limits : Limits) (fields : List Field) (rows : List (List Value))
-            → HoldsRows (index_or_zero (I.IndexOf.index indices.now)) limits fields rows self.old
+            → HoldsRows (known_indices (I.index indices.now)) limits fields rows self.old
             → IfErr result (λ fault. AreRowsRefused self.old.bounds fields
             (rows ++ row.now ∷ []) (write_fault fault)) }
         ensures kept { (limits : Limits) (fields : List Field) (rows : List (List Value))
-            → HoldsRows (index_or_zero (I.IndexOf.index indices.now)) limits fields rows self.old
+            → HoldsRows (known_indices (I.index indices.now)) limits fields rows self.old
             → IfErr result (λ fault. ¬ (fault ≡ PushFault.OutOfMemory)
-            → HoldsRows (index_or_zero (I.IndexOf.index indices.now)) limits fields rows self.new) }
+            → HoldsRows (known_indices (I.index indices.now)) limits fields rows self.new) }
         ensures fails { IfErr result
             (λ fault. fault ≡ PushFault.OutOfMemory → HasFailed self.new) }
         ensures count { OnErr result (self.new.rows ≡ self.old.rows) }
@@ -223,20 +224,12 @@ impl Builder {
         row: &[Value],
         indices: &I,
     ) -> Result<bool, PushFault>
-        ensures pushed { (limits : Limits) (fields : List Field) (rows : List (List Value))
-            → StoresRows (index_or_zero (I.IndexOf.index indices.now)) limits fields rows self.old
-            → OnOk result (StoresRows (index_or_zero (I.IndexOf.index indices.now)) limits fields
-            (rows ++ row.now ∷ []) self.new) }
+        ensures pushed { StoresRowMore (known_indices (I.index indices.now)) row.now
+            self.old self.new result }
         ensures fits { IfOk result (λ all. IsTrue all → RowFits fields.now row.now) }
-        ensures refused { (limits : Limits) (fields : List Field) (rows : List (List Value))
-            → StoresRows (index_or_zero (I.IndexOf.index indices.now)) limits fields rows self.old
-            → IfErr result (λ fault. AreRowsRefused limits fields (rows ++ row.now ∷ [])
-            (write_fault fault)) }
-        ensures kept { (limits : Limits) (fields : List Field) (rows : List (List Value))
-            → StoresRows (index_or_zero (I.IndexOf.index indices.now)) limits fields rows self.old
-            → IfErr result (λ fault. ¬ (fault ≡ PushFault.OutOfMemory)
-            → StoresRows (index_or_zero (I.IndexOf.index indices.now)) limits fields rows
-            self.new) }
+        ensures refused { RefusesRowMore (known_indices (I.index indices.now)) row.now
+            self.old result }
+        ensures kept { KeepsRows (known_indices (I.index indices.now)) self.old self.new result }
         ensures fails { IfErr result
             (λ fault. fault ≡ PushFault.OutOfMemory → HasFailed self.new) }
         ensures failed { HasFailed self.old → result ≡ Err PushFault.Failed }
@@ -267,20 +260,12 @@ impl Builder {
         indices: &I,
     ) -> Result<bool, PushFault>
         requires { self.old.rows < self.old.limits.slots }
-        ensures pushed { (limits : Limits) (fields : List Field) (rows : List (List Value))
-            → StoresRows (index_or_zero (I.IndexOf.index indices.now)) limits fields rows self.old
-            → OnOk result (StoresRows (index_or_zero (I.IndexOf.index indices.now)) limits fields
-            (rows ++ row.now ∷ []) self.new) }
+        ensures pushed { StoresRowMore (known_indices (I.index indices.now)) row.now
+            self.old self.new result }
         ensures fits { IfOk result (λ all. IsTrue all → RowFits fields.now row.now) }
-        ensures refused { (limits : Limits) (fields : List Field) (rows : List (List Value))
-            → StoresRows (index_or_zero (I.IndexOf.index indices.now)) limits fields rows self.old
-            → IfErr result (λ fault. AreRowsRefused limits fields (rows ++ row.now ∷ [])
-            (write_fault fault)) }
-        ensures kept { (limits : Limits) (fields : List Field) (rows : List (List Value))
-            → StoresRows (index_or_zero (I.IndexOf.index indices.now)) limits fields rows self.old
-            → IfErr result (λ fault. ¬ (fault ≡ PushFault.OutOfMemory)
-            → StoresRows (index_or_zero (I.IndexOf.index indices.now)) limits fields rows
-            self.new) }
+        ensures refused { RefusesRowMore (known_indices (I.index indices.now)) row.now
+            self.old result }
+        ensures kept { KeepsRows (known_indices (I.index indices.now)) self.old self.new result }
         ensures fails { IfErr result
             (λ fault. fault ≡ PushFault.OutOfMemory → HasFailed self.new) }
     {
@@ -324,7 +309,7 @@ impl Builder {
             → StoresRows known limits fields rows self
             → AllByRecursion (IsFieldWellFormed limits) (entries fields)
             → AllByRecursion (RowFits fields) rows
-            → FindsRows m (new_indices (N.Renumber.number numbers.now) known) fields rows
+            → FindsRows m (new_indices (N.number numbers.now) known) fields rows
             → IfOk result (λ parts. Rows limits m fields (record {
               length = pos (length rows);
               nodes = parts.nodes;
@@ -333,7 +318,7 @@ impl Builder {
         ensures segmented { (known : Numbering) (limits : Limits) (fields : List Field)
             (rows : List (List Value)) → StoresRows known limits fields rows self
             → IfOk result
-            (AreSegmented (new_indices (N.Renumber.number numbers.now) known) fields rows) }
+            (AreSegmented (new_indices (N.number numbers.now) known) fields rows) }
         ensures body { (known : Numbering) (limits : Limits) (fields : List Field)
             (rows : List (List Value)) → StoresRows known limits fields rows self
             → IfOk result (λ parts. parts.len ≤ limits.body) }
@@ -393,7 +378,7 @@ pub fn encode<I: IndexOf>(
     ensures rows { (m : Dictionaries)
         → AllByRecursion (IsFieldWellFormed limits.now) (entries fields.now)
         → AllByRecursion (RowFits fields.now) rows.now
-        → FindsRows m (index_or_zero (I.IndexOf.index indices.now)) fields.now rows.now
+        → FindsRows m (known_indices (I.index indices.now)) fields.now rows.now
         → IfOk result (λ parts. Rows limits.now m fields.now (record {
           length = pos (length rows.now);
           nodes = parts.nodes;
@@ -401,7 +386,7 @@ pub fn encode<I: IndexOf>(
         }) parts.body.items rows.now) }
     // They are one list of nodes, buffers and bytes.
     ensures laid_out { IfOk result
-        (AreLaidOut (index_or_zero (I.IndexOf.index indices.now)) fields.now rows.now) }
+        (AreLaidOut (known_indices (I.index indices.now)) fields.now rows.now) }
     // What is written is within the limits.
     ensures within { IfOk result (λ parts. IsWithin limits.now fields.now rows.now) }
     ensures body { IfOk result (λ parts. length parts.body.items ≤ limits.now.body) }

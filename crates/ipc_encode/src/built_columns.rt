@@ -24,7 +24,7 @@ use std::mem;
 
 // The number of an index in its slot, null where there is none.
 fn as_number<N: Renumber>(index: Option<u64>, id: i64, numbers: &N) -> Value
-    ensures { result ≡ as_number (new_index (N.Renumber.number numbers.now id) index) }
+    ensures { result ≡ as_number (new_index (N.number numbers.now id) index) }
 {
     match index {
         Some(index) => Value::UInt(numbers.to(id, index)),
@@ -42,7 +42,7 @@ fn push_indices<N: Renumber>(
 ) -> Result<(), AllocError>
     ensures { OnOk result (bytes.new.items ≡ bytes.old.items
         ++ slots (Number bits)
-        (map as_number (map (new_index (N.Renumber.number numbers.now id)) indices.now))) }
+        (map as_number (map (new_index (N.number numbers.now id)) indices.now))) }
 {
     for index in indices {
         push_number(bytes, &as_number(*index, id, numbers), bits)?;
@@ -71,14 +71,14 @@ fn add_data<N: Renumber>(
     ensures adds { (known : Numbering) (values : List Value) → HoldsValues known values contents.old
         → OnOk result (AddsBuffers draft.old draft.new
         (data_buffers (data_layout contents.old)
-        (written_values (new_indices (N.Renumber.number numbers.now) known)
+        (written_values (new_indices (N.number numbers.now) known)
         (data_layout contents.old) values))) }
     ensures within { OnOk result (draft.new.len ≤ limits.now.body) }
     ensures refused { (known : Numbering) (values : List Value)
         → HoldsValues known values contents.old
         → IfErr result (IsBodyRefused limits.now (draft.old.len + length (padded_bytes
         (data_buffers (data_layout contents.old)
-        (written_values (new_indices (N.Renumber.number numbers.now) known)
+        (written_values (new_indices (N.number numbers.now) known)
         (data_layout contents.old) values))))) }
 {
     match contents {
@@ -115,7 +115,7 @@ fn add_column<N: Renumber>(
     ensures adds { (known : Numbering) (kept : Limits) (layout : Layout) (values : List Value)
         → kept.slots ≤ limits.now.slots → IsColumn known kept layout values column.old
         → OnOk result (AddsColumns limits.now
-        (new_indices (N.Renumber.number numbers.now) known) (field layout bare bare)
+        (new_indices (N.number numbers.now) known) (field layout bare bare)
         (λ j. values) draft.old draft.new) }
     ensures within { OnOk result (draft.new.len ≤ limits.now.body) }
     ensures refused { (known : Numbering) (kept : Limits) (layout : Layout)
@@ -150,7 +150,7 @@ pub(crate) fn add_node<N: Renumber>(
         → kept.slots ≤ limits.now.slots
         → IsNode (IsColumn known kept) layout children node.old values
         → OnOk result (AddsColumns limits.now
-        (new_indices (N.Renumber.number numbers.now) known) (field layout children bare)
+        (new_indices (N.number numbers.now) known) (field layout children bare)
         (λ j. values) draft.old draft.new) }
     ensures within { OnOk result (draft.new.len ≤ limits.now.body) }
     ensures refused { (known : Numbering) (kept : Limits) (layout : Layout)
@@ -178,7 +178,7 @@ pub(crate) fn add_nodes<N: Renumber>(
         → kept.slots ≤ limits.now.slots
         → HoldColumns known kept shape nodes.old given
         → OnOk result (AddsColumns limits.now
-        (new_indices (N.Renumber.number numbers.now) known) shape given draft.old draft.new) }
+        (new_indices (N.number numbers.now) known) shape given draft.old draft.new) }
     ensures within { OnOk result (draft.new.len ≤ limits.now.body) }
     ensures refused { (known : Numbering) (kept : Limits) (shape : Shape)
         (given : ℕ → List Value)

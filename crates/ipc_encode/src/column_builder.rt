@@ -14,7 +14,7 @@ ghost use Rattle.ipc_encode.specs.Built.{AreBytesWithin, AreContents, AreListEnd
 ghost use Rattle.ipc_encode.specs.Built.{IsColumn, IsPushRefused, data_layout};
 ghost use Rattle.ipc_encode.specs.Cells.{is_set, slot_bytes};
 ghost use Rattle.ipc_encode.specs.Columns.{validity_in, data_in};
-ghost use Rattle.ipc_encode.specs.Numbers.{Numbering, index_of, index_or_zero};
+ghost use Rattle.ipc_encode.specs.Numbers.{Numbering, index_of, known_indices};
 ghost use Rattle.ipc_encode.specs.Pieces.{Number, Fixed, Valid};
 
 use crate::bitmaps::{push_bit, set_bits};
@@ -175,7 +175,7 @@ fn push_items(
 
 /// Returns the index of a value that is not null. A value that is not known has index 0.
 pub(crate) fn known_index<I: IndexOf>(indices: &I, id: i64, value: &Value) -> Option<u64>
-    ensures { result ≡ index_of (index_or_zero (I.IndexOf.index indices.now) id) value.now }
+    ensures { result ≡ index_of (known_indices (I.index indices.now) id) value.now }
 {
     match value {
         Value::Null => None,
@@ -294,24 +294,22 @@ impl ColumnData {
         indices: &I,
     ) -> Result<(), PushFault>
         ensures pushed { (vs : List Value)
-            → HoldsValues (index_or_zero (I.IndexOf.index indices.now)) vs self.old
-            → length vs ≡ slots
-            → OnOk result (HoldsValues (index_or_zero (I.IndexOf.index indices.now))
+            → HoldsValues (known_indices (I.index indices.now)) vs self.old → length vs ≡ slots
+            → OnOk result (HoldsValues (known_indices (I.index indices.now))
             (vs ++ value.now ∷ []) self.new) }
         ensures layout { data_layout self.new ≡ data_layout self.old }
         ensures bytes { (vs : List Value)
-            → HoldsValues (index_or_zero (I.IndexOf.index indices.now)) vs self.old
+            → HoldsValues (known_indices (I.index indices.now)) vs self.old
             → OnOk result (AreBytesWithin limits.now (data_layout self.old)
             (data_in (data_layout self.old) (vs ++ value.now ∷ []))) }
         ensures refused { (vs : List Value)
-            → HoldsValues (index_or_zero (I.IndexOf.index indices.now)) vs self.old
-            → length vs ≡ slots
+            → HoldsValues (known_indices (I.index indices.now)) vs self.old → length vs ≡ slots
             → IfErr result
             (IsPushRefused limits.now (data_layout self.old) (vs ++ value.now ∷ [])) }
         ensures kept { (vs : List Value)
-            → HoldsValues (index_or_zero (I.IndexOf.index indices.now)) vs self.old
+            → HoldsValues (known_indices (I.index indices.now)) vs self.old
             → IfErr result (λ fault. ¬ (fault ≡ PushFault.OutOfMemory)
-            → HoldsValues (index_or_zero (I.IndexOf.index indices.now)) vs self.new) }
+            → HoldsValues (known_indices (I.index indices.now)) vs self.new) }
     {
         match self {
             ColumnData::Null | ColumnData::FixedLists(_) | ColumnData::Structs => Ok(()),
@@ -368,20 +366,16 @@ impl ColumnBuilder {
         indices: &I,
     ) -> Result<(), PushFault>
         ensures pushed { (layout : Layout) (values : List Value)
-            → IsColumn (index_or_zero (I.IndexOf.index indices.now)) limits.now layout values
-            self.old
-            → OnOk result (IsColumn (index_or_zero (I.IndexOf.index indices.now)) limits.now layout
+            → IsColumn (known_indices (I.index indices.now)) limits.now layout values self.old
+            → OnOk result (IsColumn (known_indices (I.index indices.now)) limits.now layout
             (values ++ value.now ∷ []) self.new) }
         ensures refused { (layout : Layout) (values : List Value)
-            → IsColumn (index_or_zero (I.IndexOf.index indices.now)) limits.now layout values
-            self.old
+            → IsColumn (known_indices (I.index indices.now)) limits.now layout values self.old
             → IfErr result (IsPushRefused limits.now layout (values ++ value.now ∷ [])) }
         ensures kept { (layout : Layout) (values : List Value)
-            → IsColumn (index_or_zero (I.IndexOf.index indices.now)) limits.now layout values
-            self.old
+            → IsColumn (known_indices (I.index indices.now)) limits.now layout values self.old
             → IfErr result (λ fault. ¬ (fault ≡ PushFault.OutOfMemory)
-            → IsColumn (index_or_zero (I.IndexOf.index indices.now)) limits.now layout values
-            self.new) }
+            → IsColumn (known_indices (I.index indices.now)) limits.now layout values self.new) }
     {
         let ColumnBuilder { slots, nulls, .. } = *self;
         if !has_valid_slot(self.data.has_validity(), value) {
@@ -408,20 +402,16 @@ impl ColumnBuilder {
         requires { (layouts.has_validity (data_layout self.old.data) && is_set Valid value.now)
             ≡ false }
         ensures pushed { (layout : Layout) (values : List Value)
-            → IsColumn (index_or_zero (I.IndexOf.index indices.now)) limits.now layout values
-            self.old
-            → OnOk result (IsColumn (index_or_zero (I.IndexOf.index indices.now)) limits.now layout
+            → IsColumn (known_indices (I.index indices.now)) limits.now layout values self.old
+            → OnOk result (IsColumn (known_indices (I.index indices.now)) limits.now layout
             (values ++ value.now ∷ []) self.new) }
         ensures refused { (layout : Layout) (values : List Value)
-            → IsColumn (index_or_zero (I.IndexOf.index indices.now)) limits.now layout values
-            self.old
+            → IsColumn (known_indices (I.index indices.now)) limits.now layout values self.old
             → IfErr result (IsPushRefused limits.now layout (values ++ value.now ∷ [])) }
         ensures kept { (layout : Layout) (values : List Value)
-            → IsColumn (index_or_zero (I.IndexOf.index indices.now)) limits.now layout values
-            self.old
+            → IsColumn (known_indices (I.index indices.now)) limits.now layout values self.old
             → IfErr result (λ fault. ¬ (fault ≡ PushFault.OutOfMemory)
-            → IsColumn (index_or_zero (I.IndexOf.index indices.now)) limits.now layout values
-            self.new) }
+            → IsColumn (known_indices (I.index indices.now)) limits.now layout values self.new) }
     {
         let ColumnBuilder { slots, nulls, .. } = *self;
         if slots >= limits.slots as usize {

@@ -14,7 +14,7 @@ ghost use Rattle.ipc_encode.specs.Buffers.{row_columns};
 ghost use Rattle.ipc_encode.specs.Cells.{cells, cell};
 ghost use Rattle.ipc_encode.specs.Indices.{FindsRows};
 ghost use Rattle.ipc_encode.specs.Limits.{AreRowsRefused, IsWithin};
-ghost use Rattle.ipc_encode.specs.Numbers.{new_indices, index_or_zero};
+ghost use Rattle.ipc_encode.specs.Numbers.{new_indices, known_indices};
 ghost use Rattle.ipc_encode.specs.Segments.{AddsColumns, AreRefusedAfter, AreSegmented};
 ghost use Rattle.ipc_encode.specs.Segments.{bytes_of_segments};
 ghost use Rattle.ipc_model.specs.declared.layout.Layout.{Layout};
@@ -55,17 +55,13 @@ fn take_column<I: IndexOf>(
     indices: &I,
 ) -> Result<(), PushFault>
     ensures taken { (layout : Layout) (children : Shape)
-        → IsNode (IsColumn (index_or_zero (I.IndexOf.index indices.now)) limits.now) layout children
-        node.old
-        []
-        → OnOk result (IsNode (IsColumn (index_or_zero (I.IndexOf.index indices.now)) limits.now)
-        layout
+        → IsNode (IsColumn (known_indices (I.index indices.now)) limits.now) layout children
+        node.old []
+        → OnOk result (IsNode (IsColumn (known_indices (I.index indices.now)) limits.now) layout
         children node.new (cells column batch.now.rows)) }
     ensures refused { (layout : Layout) (children : Shape)
-        → IsNode (IsColumn (index_or_zero (I.IndexOf.index indices.now)) limits.now) layout children
-        node.old
-        []
-        → IfErr result (ArePushesRefused limits.now (field layout children bare)
+        → IsNode (IsColumn (known_indices (I.index indices.now)) limits.now) layout children
+        node.old [] → IfErr result (ArePushesRefused limits.now (field layout children bare)
         (λ j. cells column batch.now.rows)) }
 {
     let alloc = *node.children.allocator();
@@ -94,7 +90,7 @@ fn add_field<'a, I: IndexOf, N: Renumber>(
 ) -> Result<(), PushFault>
     requires { draft.old.len ≤ limits.now.body }
     ensures adds { OnOk result (AddsColumns limits.now
-        (new_indices (N.Renumber.number numbers.now) (index_or_zero (I.IndexOf.index indices.now)))
+        (new_indices (N.number numbers.now) (known_indices (I.index indices.now)))
         (shapes.field (field_layout field.now) (child_shape field.now) bare)
         (λ j. cells column batch.now.rows) draft.old draft.new) }
     ensures refused { IfErr result (AreRefusedAfter limits.now draft.old.len
@@ -139,7 +135,7 @@ fn add_fields<'a, I: IndexOf, N: Renumber>(
 ) -> Result<(), PushFault>
     requires { draft.old.len ≤ limits.now.body }
     ensures adds { OnOk result (AddsColumns limits.now
-        (new_indices (N.Renumber.number numbers.now) (index_or_zero (I.IndexOf.index indices.now)))
+        (new_indices (N.number numbers.now) (known_indices (I.index indices.now)))
         (shape_of fields.now) (row_columns batch.now.rows) draft.old draft.new) }
     ensures refused { IfErr result (AreRefusedAfter limits.now draft.old.len (shape_of fields.now)
         (row_columns batch.now.rows)) }
@@ -195,17 +191,16 @@ pub fn encode_columns<'a, I: IndexOf, N: Renumber>(
     ensures rows { (m : Dictionaries)
         → AllByRecursion (IsFieldWellFormed limits.now) (entries fields.now)
         → AllByRecursion (RowFits fields.now) batch.now.rows
-        → FindsRows m (new_indices (N.Renumber.number numbers.now)
-        (index_or_zero (I.IndexOf.index indices.now))) fields.now batch.now.rows
+        → FindsRows m (new_indices (N.number numbers.now)
+        (known_indices (I.index indices.now))) fields.now batch.now.rows
         → IfOk result (λ parts. Rows limits.now m fields.now (record {
           length = pos (length batch.now.rows);
           nodes = parts.nodes;
           buffers = parts.buffers;
         }) (bytes_of_segments parts.segments.items) batch.now.rows) }
     // They are one list of nodes, buffers and bytes.
-    ensures segmented { IfOk result
-        (AreSegmented (new_indices (N.Renumber.number numbers.now)
-        (index_or_zero (I.IndexOf.index indices.now))) fields.now batch.now.rows) }
+    ensures segmented { IfOk result (AreSegmented (new_indices (N.number numbers.now)
+        (known_indices (I.index indices.now))) fields.now batch.now.rows) }
     // What is written is within the limits.
     ensures within { IfOk result (λ parts. IsWithin limits.now fields.now batch.now.rows) }
     ensures body { IfOk result (λ parts. parts.len ≤ limits.now.body) }

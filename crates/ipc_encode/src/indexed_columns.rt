@@ -12,7 +12,7 @@ ghost use Rattle.ipc_column.specs.Values.{is_valid};
 ghost use Rattle.ipc_encode.specs.Buffers.{padded_bytes};
 ghost use Rattle.ipc_encode.specs.Cells.{cell, cells, is_set, number_bits, slots};
 ghost use Rattle.ipc_encode.specs.EntryNumbers.{HasNumbers};
-ghost use Rattle.ipc_encode.specs.Numbers.{as_number, index_of, index_or_zero, new_indices};
+ghost use Rattle.ipc_encode.specs.Numbers.{as_number, index_of, known_indices, new_indices};
 ghost use Rattle.ipc_encode.specs.Numbers.{numbers_of};
 ghost use Rattle.ipc_encode.specs.Pieces.{Number, Valid};
 ghost use Rattle.ipc_encode.specs.Segments.{AddsBuffers, AddsColumns, AreRefusedAfter};
@@ -54,8 +54,7 @@ fn cell_number<I: IndexOf, N: Renumber>(
     requires row { row < length batch.now.rows }
     requires column { column < batch.now.columns }
     ensures { IfOk result (λ found. found ≡ index_of
-        (new_indices (N.Renumber.number numbers.now) (index_or_zero (I.IndexOf.index indices.now))
-        id)
+        (new_indices (N.number numbers.now) (known_indices (I.index indices.now)) id)
         (cell column (slice_index_or batch.now.rows row []))) }
 {
     let value = batch.read_cell(alloc, row, column)?;
@@ -82,18 +81,16 @@ fn slot_number<I: IndexOf, N: Renumber>(
     requires column { column < batch.now.columns }
     requires slots { AreOfColumn batch.now.rows column (slot_values view.now) }
     requires slot { slot < length (slot_values view.now) }
-    requires noted { HasNumbers (new_indices (N.Renumber.number numbers.now)
-        (index_or_zero (I.IndexOf.index indices.now)) id) view.now.column.dictionary
-        table.old.items }
-    ensures noted { OnOk result (HasNumbers (new_indices (N.Renumber.number numbers.now)
-        (index_or_zero (I.IndexOf.index indices.now)) id) view.now.column.dictionary
-        table.new.items) }
+    requires noted { HasNumbers (new_indices (N.number numbers.now)
+        (known_indices (I.index indices.now)) id) view.now.column.dictionary table.old.items }
+    ensures noted { OnOk result (HasNumbers (new_indices (N.number numbers.now)
+        (known_indices (I.index indices.now)) id) view.now.column.dictionary table.new.items) }
     ensures marked { IfOk result (λ found. is_some found ≡ true
         → is_set Valid (slice_index_or (slot_values view.now) slot Null)
         ≡ is_valid view.now.column.validity slot) }
     ensures number { IfOk result (λ found. IfSome found (λ number. number
-        ≡ number_bits (as_number (index_of (new_indices (N.Renumber.number numbers.now)
-        (index_or_zero (I.IndexOf.index indices.now)) id)
+        ≡ number_bits (as_number (index_of (new_indices (N.number numbers.now)
+        (known_indices (I.index indices.now)) id)
         (slice_index_or (slot_values view.now) slot Null))))) }
 {
     let Some(entry) = view.entry_at(slot) else {
@@ -124,8 +121,8 @@ fn push_slot_numbers<I: IndexOf, N: Renumber>(
     ensures marks { IfOk result (λ all. all ≡ true
         → MarksNulls view.now.column.validity (slot_values view.now)) }
     ensures numbers { IfOk result (λ all. all ≡ true → values.new.items ≡ values.old.items
-        ++ slots (Number bits) (numbers_of (new_indices (N.Renumber.number numbers.now)
-        (index_or_zero (I.IndexOf.index indices.now)) id) (slot_values view.now))) }
+        ++ slots (Number bits) (numbers_of (new_indices (N.number numbers.now)
+        (known_indices (I.index indices.now)) id) (slot_values view.now))) }
 {
     let alloc = *values.allocator();
     let mut table = new_table(alloc, view)?;
@@ -184,7 +181,7 @@ pub(crate) fn add_indexed<'a, I: IndexOf, N: Renumber>(
     numbers: &N,
 ) -> Result<bool, PushFault>
     ensures adds { IfOk result (λ added. added ≡ true → AddsColumns limits.now
-        (new_indices (N.Renumber.number numbers.now) (index_or_zero (I.IndexOf.index indices.now)))
+        (new_indices (N.number numbers.now) (known_indices (I.index indices.now)))
         (shapes.field (field_layout field.now) (child_shape field.now) bare)
         (λ j. cells column batch.now.rows) draft.old draft.new) }
     ensures none { IfOk result (λ added. added ≡ false → draft.new ≡ draft.old) }

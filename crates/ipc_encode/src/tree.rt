@@ -1,5 +1,5 @@
 //! Columns with their children: what a value adds to them.
-ghost use Rattle.std.specs.Prelude.{◌≡◌, ◌≤◌, ◌↔◌, length, IsTrue, [], IfOk, ◌<◌, ◌^◌, ◌++◌, ℕ};
+ghost use Rattle.std.specs.Prelude.{◌≡◌, ◌≤◌, ◌↔◌, length, IsTrue, [], IfOk, ◌<◌, ◌^◌, ◌++◌};
 ghost use Rattle.std.specs.Prelude.{List, ◌∷◌, IfErr, IfSome, OnOk, option_copied, replicate};
 ghost use Rattle.std.specs.List.{AllByRecursion};
 ghost use Rattle.ipc_model.specs.Fits.{RowFits};
@@ -10,11 +10,11 @@ ghost use Rattle.ipc_model.specs.declared.value.Value.{Value};
 ghost use Rattle.ipc_model.specs.declared.value.Value.TheVariants.{Null};
 ghost use Rattle.ipc_column.specs.Shapes.{field_shape, shape_of, Shape, bare, field};
 ghost use Rattle.ipc_encode.specs.Buffers.{child_values, nulls_below};
-ghost use Rattle.ipc_encode.specs.Built.{Appends, AppendsTo, ArePushesRefused, BeginsWith};
-ghost use Rattle.ipc_encode.specs.Built.{HoldColumns, IsColumn, IsNode};
+ghost use Rattle.ipc_encode.specs.Built.{AddsToEach, AddsValues, Appends, ArePushesRefused};
+ghost use Rattle.ipc_encode.specs.Built.{BeginsWith, HoldColumns, IsColumn, IsNode};
 ghost use Rattle.ipc_encode.specs.Cells.{cell, items};
 ghost use Rattle.ipc_encode.specs.Fitting.{FitsOwn, FitsSome, InsideFits, ItemsFit};
-ghost use Rattle.ipc_encode.specs.Numbers.{Numbering, index_or_zero};
+ghost use Rattle.ipc_encode.specs.Numbers.{Numbering, known_indices};
 ghost use Rattle.ipc_encode.specs.declared.tree.Node.{out-Node};
 
 use crate::column::ColumnBuilder;
@@ -99,22 +99,17 @@ fn append_own_nulls<I: IndexOf>(
     indices: &I,
 ) -> Result<(), PushFault>
     ensures appended { (layout : Layout) (values : List Value)
-        → IsColumn (index_or_zero (I.IndexOf.index indices.now)) limits.now layout values
-        column.old
-        → OnOk result
-        (IsColumn (index_or_zero (I.IndexOf.index indices.now)) limits.now layout
+        → IsColumn (known_indices (I.index indices.now)) limits.now layout values column.old
+        → OnOk result (IsColumn (known_indices (I.index indices.now)) limits.now layout
         (values ++ replicate count Null) column.new) }
     ensures refused { (layout : Layout) (children : Shape) (values : List Value)
-        → IsColumn (index_or_zero (I.IndexOf.index indices.now)) limits.now layout values
-        column.old
+        → IsColumn (known_indices (I.index indices.now)) limits.now layout values column.old
         → IfErr result (ArePushesRefused limits.now (field layout children bare)
         (λ j. values ++ replicate count Null)) }
     ensures begun { (layout : Layout) (values : List Value)
-        → IsColumn (index_or_zero (I.IndexOf.index indices.now)) limits.now layout values
-        column.old
+        → IsColumn (known_indices (I.index indices.now)) limits.now layout values column.old
         → IfErr result (λ fault. ¬ (fault ≡ PushFault.OutOfMemory)
-        → BeginsWith (index_or_zero (I.IndexOf.index indices.now)) limits.now layout values
-        column.new) }
+        → BeginsWith (known_indices (I.index indices.now)) limits.now layout values column.new) }
 {
     for _ in 0..count {
         column.push(&Value::Null, limits, indices)?;
@@ -130,11 +125,8 @@ fn append_null<I: IndexOf>(
     limits: &Limits,
     indices: &I,
 ) -> Result<(), PushFault>
-    ensures { (layout : Layout) (children : Shape) (values : List Value)
-        → IsNode (IsColumn (index_or_zero (I.IndexOf.index indices.now)) limits.now) layout children
-        node.old values
-        → AppendsTo (index_or_zero (I.IndexOf.index indices.now)) limits.now layout children values
-        (values ++ replicate count Null) node.new result }
+    ensures { AddsValues (known_indices (I.index indices.now)) limits.now
+        (replicate count Null) node.old node.new result }
 {
     if count > limits.slots {
         return Err(PushFault::TooMany);
@@ -152,10 +144,8 @@ fn append_nulls<I: IndexOf>(
     limits: &Limits,
     indices: &I,
 ) -> Result<(), PushFault>
-    ensures { (shape : Shape) (given : ℕ → List Value)
-        → HoldColumns (index_or_zero (I.IndexOf.index indices.now)) limits.now shape nodes.old given
-        → Appends (index_or_zero (I.IndexOf.index indices.now)) limits.now shape given
-        (λ j. given j ++ replicate count Null) nodes.new result }
+    ensures { AddsToEach (known_indices (I.index indices.now)) limits.now
+        (λ j. replicate count Null) nodes.old nodes.new result }
 {
     for i in 0..nodes.len() {
         append_null(&mut nodes[i], count, limits, indices)?;
@@ -228,11 +218,8 @@ pub(crate) fn append<I: IndexOf>(
     limits: &Limits,
     indices: &I,
 ) -> Result<bool, PushFault>
-    ensures appended { (layout : Layout) (children : Shape) (values : List Value)
-        → IsNode (IsColumn (index_or_zero (I.IndexOf.index indices.now)) limits.now) layout children
-        node.old values
-        → AppendsTo (index_or_zero (I.IndexOf.index indices.now)) limits.now layout children values
-        (values ++ value.now ∷ []) node.new result }
+    ensures appended { AddsValues (known_indices (I.index indices.now)) limits.now
+        (value.now ∷ []) node.old node.new result }
     ensures fits { IfOk result (λ all. IsTrue all
         → FitsSome (option_copied field.entry) value.now) }
 {
@@ -252,11 +239,8 @@ fn append_deep<I: IndexOf>(
     limits: &Limits,
     indices: &I,
 ) -> Result<bool, PushFault>
-    ensures appended { (layout : Layout) (children : Shape) (values : List Value)
-        → IsNode (IsColumn (index_or_zero (I.IndexOf.index indices.now)) limits.now) layout children
-        node.old values
-        → AppendsTo (index_or_zero (I.IndexOf.index indices.now)) limits.now layout children values
-        (values ++ value.now ∷ []) node.new result }
+    ensures appended { AddsValues (known_indices (I.index indices.now)) limits.now
+        (value.now ∷ []) node.old node.new result }
     ensures fits { IfOk result (λ all. IsTrue all
         → FitsSome (option_copied field.entry) value.now) }
 {
@@ -285,9 +269,9 @@ fn append_below<I: IndexOf>(
     indices: &I,
 ) -> Result<bool, PushFault>
     ensures appended { (shape : Shape) (values : List Value)
-        → HoldColumns (index_or_zero (I.IndexOf.index indices.now)) limits.now shape nodes.old
+        → HoldColumns (known_indices (I.index indices.now)) limits.now shape nodes.old
         (child_values layout values)
-        → Appends (index_or_zero (I.IndexOf.index indices.now)) limits.now shape
+        → Appends (known_indices (I.index indices.now)) limits.now shape
         (child_values layout values)
         (child_values layout (values ++ value.now ∷ [])) nodes.new result }
     ensures fits { IfOk result (λ all. IsTrue all → InsideFits fields.now value.now) }
@@ -330,10 +314,8 @@ fn append_items<I: IndexOf>(
     limits: &Limits,
     indices: &I,
 ) -> Result<bool, PushFault>
-    ensures appended { (shape : Shape) (given : ℕ → List Value)
-        → HoldColumns (index_or_zero (I.IndexOf.index indices.now)) limits.now shape nodes.old given
-        → Appends (index_or_zero (I.IndexOf.index indices.now)) limits.now shape given
-        (λ j. given j ++ items.now) nodes.new result }
+    ensures appended { AddsToEach (known_indices (I.index indices.now)) limits.now
+        (λ j. items.now) nodes.old nodes.new result }
     ensures fits { IfOk result (λ all. IsTrue all → ItemsFit fields.now items.now) }
 {
     let mut fit = false;
@@ -352,11 +334,8 @@ fn append_all<I: IndexOf>(
     limits: &Limits,
     indices: &I,
 ) -> Result<bool, PushFault>
-    ensures appended { (layout : Layout) (children : Shape) (before : List Value)
-        → IsNode (IsColumn (index_or_zero (I.IndexOf.index indices.now)) limits.now) layout children
-        node.old before
-        → AppendsTo (index_or_zero (I.IndexOf.index indices.now)) limits.now layout children before
-        (before ++ values.now) node.new result }
+    ensures appended { AddsValues (known_indices (I.index indices.now)) limits.now
+        values.now node.old node.new result }
     ensures fits { IfOk result (λ all. IsTrue all
         → AllByRecursion (FitsSome (option_copied field.entry)) values.now) }
 {
@@ -386,10 +365,8 @@ pub(crate) fn append_parts<I: IndexOf>(
     limits: &Limits,
     indices: &I,
 ) -> Result<bool, PushFault>
-    ensures appended { (shape : Shape) (given : ℕ → List Value)
-        → HoldColumns (index_or_zero (I.IndexOf.index indices.now)) limits.now shape nodes.old given
-        → Appends (index_or_zero (I.IndexOf.index indices.now)) limits.now shape given
-        (λ j. given j ++ cell j parts.now ∷ []) nodes.new result }
+    ensures appended { AddsToEach (known_indices (I.index indices.now)) limits.now
+        (λ j. cell j parts.now ∷ []) nodes.old nodes.new result }
     ensures fits { IfOk result (λ all. IsTrue all → RowFits fields.now parts.now) }
 {
     let mut fit = have_fields(parts, nodes, fields);

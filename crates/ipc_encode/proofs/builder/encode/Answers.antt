@@ -5,7 +5,7 @@ use Rattle.ipc_model.specs.declared.value.Value.{Value}
 use Rattle.ipc_encode.specs.Built.{StoresRows}
 use Rattle.ipc_encode.specs.Faults.{write_fault}
 use Rattle.ipc_encode.specs.Limits.{AreRowsRefused}
-use Rattle.ipc_encode.specs.Numbers.{index_or_zero}
+use Rattle.ipc_encode.specs.Numbers.{known_indices}
 use Rattle.ipc_encode.proofs.Growing.{refused_more}
 use Rattle.ipc_encode.proofs.Indexed.{body_within}
 use Rattle.ipc_encode.proofs.builder.encode.Goals as goal
@@ -22,7 +22,7 @@ returns-in_err-builder-clause-refused g c =
     c.in_err-builder.ensures.refused)
 
 pub loop-row-init : goal.loop-row-init
-loop-row-init g c = c.in_ok-builder.ensures.rows (index_or_zero (g.I.IndexOf.index c.args.indices.now))
+loop-row-init g c = c.in_ok-builder.ensures.rows (known_indices (g.I.IndexOf.index c.args.indices.now))
 
 pub returns-in_err-push-clause-refused : goal.returns-in_err-push-clause-refused
 returns-in_err-push-clause-refused g c =
@@ -41,7 +41,7 @@ returns-in_err-push-clause-refused g c =
 
 pub loop-row-preserved : goal.loop-row-preserved
 loop-row-preserved g c =
-    let known = index_or_zero (g.I.IndexOf.index c.args.indices.now) in
+    let known = known_indices (g.I.IndexOf.index c.args.indices.now) in
     let limits = c.args.limits.now in
     let fields = c.args.fields.now in
     let rows = c.args.rows.now in
@@ -53,7 +53,7 @@ loop-row-preserved g c =
 
 pub returns-in_err-parts-clause-refused : goal.returns-in_err-parts-clause-refused
 returns-in_err-parts-clause-refused g c =
-    let known = index_or_zero (g.I.IndexOf.index c.args.indices.now) in
+    let known = known_indices (g.I.IndexOf.index c.args.indices.now) in
     let limits = c.args.limits.now in
     let fields = c.args.fields.now in
     let rows = c.args.rows.now in
@@ -65,7 +65,7 @@ returns-in_err-parts-clause-refused g c =
 
 pub returns-clause-rows : goal.returns-clause-rows
 returns-clause-rows g c = λ m fine conform finds.
-    let known = index_or_zero (g.I.IndexOf.index c.args.indices.now) in
+    let known = known_indices (g.I.IndexOf.index c.args.indices.now) in
     let limits = c.args.limits.now in
     let fields = c.args.fields.now in
     let rows = c.args.rows.now in
@@ -76,7 +76,7 @@ returns-clause-rows g c = λ m fine conform finds.
 
 pub returns-clause-laid_out : goal.returns-clause-laid_out
 returns-clause-laid_out g c =
-    let known = index_or_zero (g.I.IndexOf.index c.args.indices.now) in
+    let known = known_indices (g.I.IndexOf.index c.args.indices.now) in
     let limits = c.args.limits.now in
     let fields = c.args.fields.now in
     let rows = c.args.rows.now in
@@ -91,7 +91,7 @@ returns-clause-laid_out g c =
 
 pub returns-clause-body : goal.returns-clause-body
 returns-clause-body g c =
-    let known = index_or_zero (g.I.IndexOf.index c.args.indices.now) in
+    let known = known_indices (g.I.IndexOf.index c.args.indices.now) in
     let limits = c.args.limits.now in
     let fields = c.args.fields.now in
     let rows = c.args.rows.now in

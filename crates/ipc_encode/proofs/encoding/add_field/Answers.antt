@@ -5,7 +5,7 @@ use Rattle.ipc_column.specs.Nested.{only_column, slot_values}
 use Rattle.ipc_column.specs.checks.Rules.{HasUtf8Texts}
 use Rattle.ipc_column.specs.Shapes.{bare, field, child_shape, field_layout, field_shape}
 use Rattle.ipc_encode.specs.Cells.{cells}
-use Rattle.ipc_encode.specs.Numbers.{new_indices, index_or_zero}
+use Rattle.ipc_encode.specs.Numbers.{new_indices, known_indices}
 use Rattle.ipc_encode.specs.Segments.{AddsColumns, AreRefusedAfter}
 use Rattle.ipc_encode.proofs.Copied.{column_cells}
 use Rattle.ipc_encode.proofs.SegmentColumns.{pushes_refused}
@@ -21,7 +21,7 @@ add_whole-requires-clause-whole g c =
 
 pub returns-then-has_field_layout-clause-adds : goal.returns-then-has_field_layout-clause-adds
 returns-then-has_field_layout-clause-adds g c =
-    let known = new_indices (g.N.Renumber.number c.args.numbers.now) (index_or_zero (g.I.IndexOf.index c.args.indices.now)) in
+    let known = new_indices (g.N.Renumber.number c.args.numbers.now) (known_indices (g.I.IndexOf.index c.args.indices.now)) in
     let same = column_cells c.args.batch.now.rows c.args.column c.column.result c.column.ensures ∙ sym c.slots-view.ensures.values in
     on_ok_weaker c.add_whole.result
     (λ h. subst (λ (vs : List Value). AddsColumns c.args.limits.now known
@@ -45,7 +45,7 @@ add_node-requires g c = subst (λ (d : Draft). d.len ≤ c.args.limits.now.body)
 
 pub returns-in_err-take_column-clause-refused : goal.returns-in_err-take_column-clause-refused
 returns-in_err-take_column-clause-refused g c =
-    let known = index_or_zero (g.I.IndexOf.index c.args.indices.now) in
+    let known = known_indices (g.I.IndexOf.index c.args.indices.now) in
     let limits = c.args.limits.now in
     let lay = (field_shape c.args.field.now).0 in
     let ch = (field_shape c.args.field.now).1 in
@@ -56,7 +56,7 @@ returns-in_err-take_column-clause-refused g c =
 
 pub returns-clause-adds : goal.returns-clause-adds
 returns-clause-adds g c =
-    let known = index_or_zero (g.I.IndexOf.index c.args.indices.now) in
+    let known = known_indices (g.I.IndexOf.index c.args.indices.now) in
     let new = new_indices (g.N.Renumber.number c.args.numbers.now) known in
     let limits = c.args.limits.now in
     let lay = (field_shape c.args.field.now).0 in
@@ -70,7 +70,7 @@ returns-clause-adds g c =
 
 pub returns-clause-refused : goal.returns-clause-refused
 returns-clause-refused g c =
-    let known = index_or_zero (g.I.IndexOf.index c.args.indices.now) in
+    let known = known_indices (g.I.IndexOf.index c.args.indices.now) in
     let limits = c.args.limits.now in
     let lay = (field_shape c.args.field.now).0 in
     let ch = (field_shape c.args.field.now).1 in

@@ -2,7 +2,7 @@ use Rattle.std.proofs.Common.{subst, add-one, arith}
 use Rattle.std.proofs.lemmas.Result.{err_from_is_err_and}
 use Rattle.ipc_column.specs.Shapes.{Shape, child_shape, field_layout, shape_of}
 use Rattle.ipc_encode.specs.Buffers.{row_columns}
-use Rattle.ipc_encode.specs.Numbers.{new_indices, index_or_zero}
+use Rattle.ipc_encode.specs.Numbers.{new_indices, known_indices}
 use Rattle.ipc_encode.specs.Segments.{AddsColumns}
 use Rattle.ipc_encode.proofs.SegmentColumns.{all_fields, columns_next, columns_none, columns_refused, shape_at}
 use Rattle.ipc_encode.proofs.encoding.add_fields.Goals as goal
@@ -30,7 +30,7 @@ returns-in_err-add_field-clause-refused g c =
 
 pub returns-clause-adds : goal.returns-clause-adds
 returns-clause-adds g c =
-    let known = new_indices (g.N.Renumber.number c.args.numbers.now) (index_or_zero (g.I.IndexOf.index c.args.indices.now)) in
+    let known = new_indices (g.N.Renumber.number c.args.numbers.now) (known_indices (g.I.IndexOf.index c.args.indices.now)) in
     let all = all_fields c.args.fields.now c.loop-i.i (omega (arith, c.loop-i-test.false, c.loop-i.auto.i-end)) in
     subst (λ (s : Shape). AddsColumns c.args.limits.now known s (row_columns c.args.batch.now.rows) c.args.draft.now c.loop-i.draft) all
     c.loop-i.invariant

@@ -1,6 +1,6 @@
 use Rattle.std.proofs.Common.{sym, subst, ℕ, ◌≤◌, arith}
 use Rattle.std.proofs.lemmas.Result.{err_from_is_err_and}
-use Rattle.ipc_encode.specs.Numbers.{new_indices, index_or_zero}
+use Rattle.ipc_encode.specs.Numbers.{new_indices, known_indices}
 use Rattle.ipc_encode.specs.Segments.{bytes_of_segments}
 use Rattle.ipc_encode.proofs.Reading.{rows_of_parts}
 use Rattle.ipc_encode.proofs.SegmentColumns.{columns_within, rows_refused_after, segmented}
@@ -26,13 +26,13 @@ returns-clause-body g c =
 
 pub returns-clause-segmented : goal.returns-clause-segmented
 returns-clause-segmented g c =
-    let known = new_indices (g.N.Renumber.number c.args.numbers.now) (index_or_zero (g.I.IndexOf.index c.args.indices.now)) in
+    let known = new_indices (g.N.Renumber.number c.args.numbers.now) (known_indices (g.I.IndexOf.index c.args.indices.now)) in
     segmented c.args.limits.now known c.args.fields.now c.args.batch.now.rows c.new-draft.result c.add_fields.new.draft
     c.finish.result c.new-draft.ensures c.in_ok-add_fields.ensures.adds c.finish.ensures
 
 pub returns-clause-rows : goal.returns-clause-rows
 returns-clause-rows g c = λ m fine fits finds.
-    let known = new_indices (g.N.Renumber.number c.args.numbers.now) (index_or_zero (g.I.IndexOf.index c.args.indices.now)) in
+    let known = new_indices (g.N.Renumber.number c.args.numbers.now) (known_indices (g.I.IndexOf.index c.args.indices.now)) in
     let fields = c.args.fields.now in
     let rows = c.args.batch.now.rows in
     let draft = c.add_fields.new.draft in

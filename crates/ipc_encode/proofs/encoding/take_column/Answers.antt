@@ -5,7 +5,7 @@ use Rattle.ipc_model.specs.declared.value.Value.{Value}
 use Rattle.ipc_column.specs.Shapes.{bare, field}
 use Rattle.ipc_encode.specs.Cells.{cell, cells}
 use Rattle.ipc_encode.specs.Built.{ArePushesRefused, IsColumn, IsNode}
-use Rattle.ipc_encode.specs.Numbers.{index_or_zero}
+use Rattle.ipc_encode.specs.Numbers.{known_indices}
 use Rattle.ipc_encode.proofs.Copied.{cells_next}
 use Rattle.ipc_encode.proofs.Growing.{all_refused}
 use Rattle.ipc_encode.proofs.Steps.{cells_length}
@@ -35,7 +35,7 @@ loop-row-preserved g c = λ layout children h.
     let inside : row < length rows = omega (arith, c.loop-row-test.true, c.rows-row-end.ensures) in
     let is : c.in_ok-value.value ≡ cell column (get_or rows row []) = c.in_ok-value.ensures.value in
     let so_far = take row (cells column rows) in
-    subst (λ (vs : List Value). IsNode (IsColumn (index_or_zero (g.I.IndexOf.index c.args.indices.now)) c.args.limits.now) layout children
+    subst (λ (vs : List Value). IsNode (IsColumn (known_indices (g.I.IndexOf.index c.args.indices.now)) c.args.limits.now) layout children
     c.append.new.node vs) (ap (λ (v : Value). so_far ++ v ∷ []) is ∙ cells_next column rows row inside)
     (c.in_ok-append.ensures.appended layout children so_far (c.loop-row.invariant layout children h)).appended
 
@@ -46,5 +46,5 @@ returns-clause-taken g c = λ layout children h.
     let size = cells_length column rows in
     let whole : take c.loop-row.row (cells column rows) ≡ cells column rows =
     take_all c.loop-row.row (cells column rows) (omega (arith, size, c.loop-row-test.false, c.loop-row.auto.row-end)) in
-    subst (λ (vs : List Value). IsNode (IsColumn (index_or_zero (g.I.IndexOf.index c.args.indices.now)) c.args.limits.now) layout children
+    subst (λ (vs : List Value). IsNode (IsColumn (known_indices (g.I.IndexOf.index c.args.indices.now)) c.args.limits.now) layout children
     c.loop-row.node vs) whole (c.loop-row.invariant layout children h)

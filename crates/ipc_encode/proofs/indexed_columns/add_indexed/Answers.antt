@@ -7,7 +7,7 @@ use Rattle.ipc_column.specs.Nested.{slot_values}
 use Rattle.ipc_column.specs.Shapes.{Shape, bare, field}
 use Rattle.ipc_encode.specs.Buffers.{padded_bytes}
 use Rattle.ipc_encode.specs.Cells.{cells, slots}
-use Rattle.ipc_encode.specs.Numbers.{index_or_zero, new_indices, numbers_of}
+use Rattle.ipc_encode.specs.Numbers.{known_indices, new_indices, numbers_of}
 use Rattle.ipc_encode.specs.Pieces.{Number}
 use Rattle.ipc_encode.specs.Segments.{AddsColumns, AreRefusedAfter, IsBodyRefused}
 use Rattle.ipc_encode.proofs.Copied.{column_cells}
@@ -45,7 +45,7 @@ returns-in_err-add_buffers-clause-refused g c =
     let vs = slot_values s in
     let limits = c.args.limits.now in
     let len = c.args.draft.now.len in
-    let known = new_indices (g.N.Renumber.number c.args.numbers.now) (index_or_zero (g.I.IndexOf.index c.args.indices.now)) in
+    let known = new_indices (g.N.Renumber.number c.args.numbers.now) (known_indices (g.I.IndexOf.index c.args.indices.now)) in
     let bits = c.in-Indices.bits in
     let id = to_z w64 (of_z w64 c.in-Indices.id) in
     let read : id ≡ c.in-Indices.id = search rules in
@@ -79,7 +79,7 @@ returns-clause-adds g c = λ added.
     let limits = c.args.limits.now in
     let d = c.args.draft.now in
     let e = c.add_buffers.new.draft in
-    let known = new_indices (g.N.Renumber.number c.args.numbers.now) (index_or_zero (g.I.IndexOf.index c.args.indices.now)) in
+    let known = new_indices (g.N.Renumber.number c.args.numbers.now) (known_indices (g.I.IndexOf.index c.args.indices.now)) in
     let bits = c.in-Indices.bits in
     let id = to_z w64 (of_z w64 c.in-Indices.id) in
     let read : id ≡ c.in-Indices.id = search rules in

@@ -3,7 +3,7 @@ use Rattle.std.proofs.lemmas.Int.{to_z-of_z}
 use Rattle.std.proofs.lemmas.Option.{get_or_from_slice_get}
 use Rattle.ipc_model.specs.declared.value.Value.TheVariants.{Null}
 use Rattle.ipc_encode.specs.Cells.{cell}
-use Rattle.ipc_encode.specs.Numbers.{index_of, index_or_zero, new_index, new_indices}
+use Rattle.ipc_encode.specs.Numbers.{index_of, known_indices, new_index, new_indices}
 use Rattle.ipc_encode.proofs.Indexed.{changed_is}
 use Rattle.ipc_encode.proofs.indexed_columns.cell_number.Goals as goal
 use Rattle.ipc_encode.proofs.indexed_columns.cell_number.Goals.{in-Some, in-None}
@@ -11,7 +11,7 @@ use Rattle.ipc_encode.proofs.indexed_columns.cell_number.Goals.{in-Some, in-None
 pub returns : goal.returns
 returns g c =
     let number = g.N.Renumber.number c.args.numbers.now in
-    let known = index_or_zero (g.I.IndexOf.index c.args.indices.now) in
+    let known = known_indices (g.I.IndexOf.index c.args.indices.now) in
     let id = to_z w64 (of_z w64 c.args.id) in
     let value = cell c.args.column (get_or c.args.batch.now.rows c.args.row []) in
     let is : c.in_ok-value.value ≡ value = sym (get_or_from_slice_get (get_or c.args.batch.now.rows c.args.row []) c.args.column _ Null

@@ -9,7 +9,7 @@ use Rattle.ipc_model.specs.declared.value.Value.TheVariants.{Null}
 use Rattle.ipc_column.specs.Nested.{slot_values}
 use Rattle.ipc_column.specs.Values.{is_valid}
 use Rattle.ipc_encode.specs.Cells.{is_set, number_bits, slots}
-use Rattle.ipc_encode.specs.Numbers.{as_number, index_of, index_or_zero, new_indices, numbers_of}
+use Rattle.ipc_encode.specs.Numbers.{as_number, index_of, known_indices, new_indices, numbers_of}
 use Rattle.ipc_encode.specs.Pieces.{Number, Valid}
 use Rattle.ipc_encode.proofs.Bits.{all_marked}
 use Rattle.ipc_encode.proofs.EntryNumbers.{numbers_pushed}
@@ -18,7 +18,7 @@ use Rattle.ipc_encode.proofs.indexed_columns.push_slot_numbers.Goals as goal
 
 pub loop-slot-init : goal.loop-slot-init
 loop-slot-init g c = record {
-  noted = c.in_ok-table.ensures (new_indices (g.N.Renumber.number c.args.numbers.now) (index_or_zero
+  noted = c.in_ok-table.ensures (new_indices (g.N.Renumber.number c.args.numbers.now) (known_indices
       (g.I.IndexOf.index c.args.indices.now)) (to_z w64 (of_z w64 c.args.id)));
   marked = λ i m. absurd (omega (arith, m));
   pushed = sym (append-nil c.args.values.now.items);
@@ -26,7 +26,7 @@ loop-slot-init g c = record {
 
 pub loop-slot-preserved : goal.loop-slot-preserved
 loop-slot-preserved g c =
-    let f = new_indices (g.N.Renumber.number c.args.numbers.now) (index_or_zero (g.I.IndexOf.index c.args.indices.now))
+    let f = new_indices (g.N.Renumber.number c.args.numbers.now) (known_indices (g.I.IndexOf.index c.args.indices.now))
     (to_z w64 (of_z w64 c.args.id)) in
     let marks = c.args.view.now.column.validity in
     let vs = slot_values c.args.view.now in
@@ -54,7 +54,7 @@ returns-clause-marks g c = λ all.
 pub returns-clause-numbers : goal.returns-clause-numbers
 returns-clause-numbers g c = λ all.
     let number = g.N.Renumber.number c.args.numbers.now in
-    let known = index_or_zero (g.I.IndexOf.index c.args.indices.now) in
+    let known = known_indices (g.I.IndexOf.index c.args.indices.now) in
     let id = to_z w64 (of_z w64 c.args.id) in
     let vs = slot_values c.args.view.now in
     let ns = numbers_of (new_indices number known id) vs in

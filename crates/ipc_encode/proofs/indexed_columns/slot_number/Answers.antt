@@ -7,7 +7,7 @@ use Rattle.ipc_column.proofs.lending.Slots.{bitmap_front}
 use Rattle.ipc_column.specs.Nested.{slot_values}
 use Rattle.ipc_column.specs.Values.{is_valid}
 use Rattle.ipc_encode.specs.Cells.{cell, is_set, number_bits}
-use Rattle.ipc_encode.specs.Numbers.{as_number, index_of, index_or_zero, new_indices}
+use Rattle.ipc_encode.specs.Numbers.{as_number, index_of, known_indices, new_indices}
 use Rattle.ipc_encode.specs.Pieces.{Valid}
 use Rattle.ipc_encode.proofs.EntryNumbers.{cell_is, entry_is, found_number, found_valid, null_number, null_unset, numbers_set}
 use Rattle.ipc_encode.proofs.EntryNumbers.{unmarked_null}
@@ -29,7 +29,7 @@ returns-then-is_marked-clause-marked g c = λ some.
 
 pub returns-then-is_marked-clause-number : goal.returns-then-is_marked-clause-number
 returns-then-is_marked-clause-number g c =
-    let f = new_indices (g.N.Renumber.number c.args.numbers.now) (index_or_zero (g.I.IndexOf.index c.args.indices.now)) c.args.id in
+    let f = new_indices (g.N.Renumber.number c.args.numbers.now) (known_indices (g.I.IndexOf.index c.args.indices.now)) c.args.id in
     let slot = c.args.slot in
     let clear : is_valid c.buffers.result.validity.now slot ≡ false = sym c.is_valid-is_marked.ensures ∙ c.if-is_marked.true in
     let null = unmarked_null c.args.view.now c.buffers.result c.buffers.ensures slot c.requires.slot clear in
@@ -37,7 +37,7 @@ returns-then-is_marked-clause-number g c =
 
 pub returns-in-Some-index-clause-marked : goal.returns-in-Some-index-clause-marked
 returns-in-Some-index-clause-marked g c = λ some.
-    let f = new_indices (g.N.Renumber.number c.args.numbers.now) (index_or_zero (g.I.IndexOf.index c.args.indices.now)) c.args.id in
+    let f = new_indices (g.N.Renumber.number c.args.numbers.now) (known_indices (g.I.IndexOf.index c.args.indices.now)) c.args.id in
     let table = c.args.table.now.items in
     let entry = c.in-Some.entry in
     let within = c.in-Some.ensures.within in
@@ -52,7 +52,7 @@ returns-in-Some-index-clause-marked g c = λ some.
 
 pub returns-in-Some-index-clause-number : goal.returns-in-Some-index-clause-number
 returns-in-Some-index-clause-number g c =
-    let f = new_indices (g.N.Renumber.number c.args.numbers.now) (index_or_zero (g.I.IndexOf.index c.args.indices.now)) c.args.id in
+    let f = new_indices (g.N.Renumber.number c.args.numbers.now) (known_indices (g.I.IndexOf.index c.args.indices.now)) c.args.id in
     let table = c.args.table.now.items in
     let entry = c.in-Some.entry in
     let within = c.in-Some.ensures.within in
@@ -67,7 +67,7 @@ returns-in-Some-index-clause-number g c =
 pub returns-clause-noted : goal.returns-clause-noted
 returns-clause-noted g c =
     let number = g.N.Renumber.number c.args.numbers.now in
-    let known = index_or_zero (g.I.IndexOf.index c.args.indices.now) in
+    let known = known_indices (g.I.IndexOf.index c.args.indices.now) in
     let f = new_indices number known c.args.id in
     let s = c.args.view.now in
     let entry = c.in-Some.entry in
@@ -82,7 +82,7 @@ returns-clause-noted g c =
 pub returns-clause-marked : goal.returns-clause-marked
 returns-clause-marked g c =
     let number = g.N.Renumber.number c.args.numbers.now in
-    let known = index_or_zero (g.I.IndexOf.index c.args.indices.now) in
+    let known = known_indices (g.I.IndexOf.index c.args.indices.now) in
     let f = new_indices number known c.args.id in
     let vs = slot_values c.args.view.now in
     let rows = c.args.batch.now.rows in
@@ -95,7 +95,7 @@ returns-clause-marked g c =
 pub returns-clause-number : goal.returns-clause-number
 returns-clause-number g c =
     let number = g.N.Renumber.number c.args.numbers.now in
-    let known = index_or_zero (g.I.IndexOf.index c.args.indices.now) in
+    let known = known_indices (g.I.IndexOf.index c.args.indices.now) in
     let f = new_indices number known c.args.id in
     let vs = slot_values c.args.view.now in
     let rows = c.args.batch.now.rows in

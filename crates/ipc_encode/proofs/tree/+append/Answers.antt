@@ -17,7 +17,7 @@ use Rattle.ipc_encode.specs.declared.tree.Node.{Node, out-Node}
 use Rattle.ipc_encode.specs.Buffers.{child_values, nulls_below}
 use Rattle.ipc_encode.specs.Cells.{cell}
 use Rattle.ipc_encode.specs.Built.{AreNodes, BeginsWith, IsNode, IsColumn, ArePushesRefused, Appends}
-use Rattle.ipc_encode.specs.Numbers.{index_or_zero}
+use Rattle.ipc_encode.specs.Numbers.{known_indices}
 use Rattle.ipc_encode.proofs.Steps.{fixed_are, parts_are, fixed_gives, struct_gives, lists_more, fixed_more, nulls_more, structs_more}
 use Rattle.ipc_encode.proofs.Steps.{list_are}
 use Rattle.ipc_encode.proofs.Growing.{own_refused, child_refused, mixed_refused, all_refused, node_is}
@@ -32,7 +32,7 @@ use Rattle.ipc_encode.proofs.tree.+append.Goals as goal
 
 pub append-returns-in_err-push-clause-appended : goal.append-returns-in_err-push-clause-appended
 append-returns-in_err-push-clause-appended g t c = λ layout children values h.
-    let known = index_or_zero (g.I.IndexOf.index c.args.indices.now) in
+    let known = known_indices (g.I.IndexOf.index c.args.indices.now) in
     let limits = c.args.limits.now in
     let begun = nodes_begin known limits children (out-Node c.args.node.now).children.items (child_values layout values) h.1 in
     let p = err_from_is_err_and c.from_residual.result c.from_residual.ensures.1 in
@@ -46,7 +46,7 @@ append-returns-in_err-push-clause-appended g t c = λ layout children values h.
 
 pub append-returns-then-is_leaf-clause-appended : goal.append-returns-then-is_leaf-clause-appended
 append-returns-then-is_leaf-clause-appended g t c = λ layout children values h.
-    let P = IsColumn (index_or_zero (g.I.IndexOf.index c.args.indices.now)) c.args.limits.now in
+    let P = IsColumn (known_indices (g.I.IndexOf.index c.args.indices.now)) c.args.limits.now in
     let more = values ++ c.args.value.now ∷ [] in
     record {
       appended = node_is P layout children more _ (c.in_ok-push.ensures.pushed layout values h.0)
@@ -58,7 +58,7 @@ append-returns-then-is_leaf-clause-appended g t c = λ layout children values h.
 
 pub append_deep-returns-in_err-inside-clause-appended : goal.append_deep-returns-in_err-inside-clause-appended
 append_deep-returns-in_err-inside-clause-appended g t c = λ layout children values h.
-    let known = index_or_zero (g.I.IndexOf.index c.args.indices.now) in
+    let known = known_indices (g.I.IndexOf.index c.args.indices.now) in
     let limits = c.args.limits.now in
     let P = IsColumn known limits in
     let Q = BeginsWith known limits in
@@ -82,7 +82,7 @@ append_deep-returns-in_err-inside-clause-appended g t c = λ layout children val
 
 pub append_deep-returns-in_err-push-clause-appended : goal.append_deep-returns-in_err-push-clause-appended
 append_deep-returns-in_err-push-clause-appended g t c = λ layout children values h.
-    let known = index_or_zero (g.I.IndexOf.index c.args.indices.now) in
+    let known = known_indices (g.I.IndexOf.index c.args.indices.now) in
     let limits = c.args.limits.now in
     let P = IsColumn known limits in
     let Q = BeginsWith known limits in
@@ -106,7 +106,7 @@ append_deep-returns-in_err-push-clause-appended g t c = λ layout children value
 
 pub append_deep-returns-clause-appended : goal.append_deep-returns-clause-appended
 append_deep-returns-clause-appended g t c = λ layout children values h.
-    let P = IsColumn (index_or_zero (g.I.IndexOf.index c.args.indices.now)) c.args.limits.now in
+    let P = IsColumn (known_indices (g.I.IndexOf.index c.args.indices.now)) c.args.limits.now in
     let more = values ++ c.args.value.now ∷ [] in
     let laid = c.layout.ensures ∙ h.0.laid in
     let lent = lent_node P layout children values more c.args.node.now
@@ -143,7 +143,7 @@ append_below-returns-in_err-fit-in-Lists-clause-appended g t c = λ shape values
 
 pub append_below-returns-in_ok-fit-in-Lists-clause-appended : goal.append_below-returns-in_ok-fit-in-Lists-clause-appended
 append_below-returns-in_ok-fit-in-Lists-clause-appended g t c = λ shape values h.
-    let P = IsColumn (index_or_zero (g.I.IndexOf.index c.args.indices.now)) c.args.limits.now in
+    let P = IsColumn (known_indices (g.I.IndexOf.index c.args.indices.now)) c.args.limits.now in
     record {
       appended = subst (λ (all : ℕ → List Value). AreNodes P shape c.append_items.new.nodes all)
           (lists_more c.args.layout values c.args.value.now c.items.result.now c.in-Lists.is (sym c.items.ensures))
@@ -160,7 +160,7 @@ append_below-returns-in_ok-fit-in-Lists-clause-fits g t c = λ all.
 
 pub append_below-returns-in-Struct-clause-appended : goal.append_below-returns-in-Struct-clause-appended
 append_below-returns-in-Struct-clause-appended g t c = λ shape values h.
-    subst (λ (all : ℕ → List Value). Appends (index_or_zero (g.I.IndexOf.index c.args.indices.now)) c.args.limits.now shape
+    subst (λ (all : ℕ → List Value). Appends (known_indices (g.I.IndexOf.index c.args.indices.now)) c.args.limits.now shape
     (child_values c.args.layout values) all c.append_parts.new.nodes c.append_parts.result)
     (structs_more c.args.layout values c.args.value.now (λ j. cell j c.as_slice-in-Struct.result.now) c.in-Structs.is
     (λ j. parts_are c.args.value.now c.in-Struct.parts c.in-Struct.is j ∙ ap (λ (ps : List Value). cell j ps)
@@ -179,7 +179,7 @@ append_below-returns-in-List-clause-appended g t c = λ shape values h.
     let many : length c.in-List.items ≡ c.in-FixedLists.size =
     ap (λ (vs : List Value). length vs) (sym c.as_slice.ensures) ∙ c.if-as_slice-size.true in
     let is = fixed_are c.in-FixedLists.size c.args.value.now c.in-List.items c.in-List.is many ∙ sym c.as_slice-in-List.ensures in
-    subst (λ (all : ℕ → List Value). Appends (index_or_zero (g.I.IndexOf.index c.args.indices.now)) c.args.limits.now shape
+    subst (λ (all : ℕ → List Value). Appends (known_indices (g.I.IndexOf.index c.args.indices.now)) c.args.limits.now shape
     (child_values c.args.layout values) all c.append_items-in-List.new.nodes c.append_items-in-List.result)
     (fixed_more c.args.layout c.in-FixedLists.size values c.args.value.now c.as_slice-in-List.result.now c.in-FixedLists.is is)
     (c.append_items-in-List.ensures.appended shape (child_values c.args.layout values) h)
@@ -232,7 +232,7 @@ append_below-returns-in_ok-append_nulls-in_default-value-clause-appended g t c =
     let more = nulls_more c.args.layout values c.args.value.now c.nulls_below.result (c.nulls_below.ensures.count
     ∙ sym (ap nulls_below c.in-FixedLists.is))
     (λ j. fixed_gives c.args.layout c.in-FixedLists.size c.args.value.now c.in-FixedLists.is other j) in
-    let P = IsColumn (index_or_zero (g.I.IndexOf.index c.args.indices.now)) c.args.limits.now in
+    let P = IsColumn (known_indices (g.I.IndexOf.index c.args.indices.now)) c.args.limits.now in
     record {
       appended = subst (λ (all : ℕ → List Value). AreNodes P shape c.append_nulls.new.nodes all) more
           (c.in_ok-append_nulls-in_default-value.ensures shape (child_values c.args.layout values) h).appended;
@@ -266,7 +266,7 @@ append_below-returns-in_ok-append_nulls-in_default-value-2-clause-appended g t c
     let more = nulls_more c.args.layout values c.args.value.now c.nulls_below-in_default-value-2.result
     c.nulls_below-in_default-value-2.ensures.count
     (λ j. struct_gives c.args.layout c.args.value.now c.in-Structs.is c.in_default-value-2.not-Struct j) in
-    let P = IsColumn (index_or_zero (g.I.IndexOf.index c.args.indices.now)) c.args.limits.now in
+    let P = IsColumn (known_indices (g.I.IndexOf.index c.args.indices.now)) c.args.limits.now in
     record {
       appended = subst (λ (all : ℕ → List Value). AreNodes P shape c.append_nulls-in_default-value-2.new.nodes all) more
           (c.in_ok-append_nulls-in_default-value-2.ensures shape (child_values c.args.layout values) h).appended;
@@ -285,7 +285,7 @@ append_below-returns-in_default-clause-fits g t c = c.is_flat-in_default.ensures
 
 pub append_items-returns-in_err-fit-clause-appended : goal.append_items-returns-in_err-fit-clause-appended
 append_items-returns-in_err-fit-clause-appended g t c = λ shape given h.
-    let known = index_or_zero (g.I.IndexOf.index c.args.indices.now) in
+    let known = known_indices (g.I.IndexOf.index c.args.indices.now) in
     let limits = c.args.limits.now in
     let P = IsColumn known limits in
     let inside : c.loop-i.i < length c.loop-i.nodes = omega (arith, c.loop-i.invariant.unvisited.0, c.loop-i-test.true) in
@@ -304,8 +304,8 @@ append_items-returns-in_err-fit-clause-appended g t c = λ shape given h.
 pub append_items-loop-i-preserved : goal.append_items-loop-i-preserved
 append_items-loop-i-preserved g t c = record {
   unvisited = search rules;
-  appended = λ shape given h. rw add-one (mixed_more (IsColumn (index_or_zero (g.I.IndexOf.index c.args.indices.now)) c.args.limits.now)
-      (IsColumn (index_or_zero (g.I.IndexOf.index c.args.indices.now)) c.args.limits.now) c.loop-i.i shape c.loop-i.nodes given
+  appended = λ shape given h. rw add-one (mixed_more (IsColumn (known_indices (g.I.IndexOf.index c.args.indices.now)) c.args.limits.now)
+      (IsColumn (known_indices (g.I.IndexOf.index c.args.indices.now)) c.args.limits.now) c.loop-i.i shape c.loop-i.nodes given
       (λ j. given j ++ c.args.items.now)
       c.append_all.new.node c.index-nodes-i.result (omega (arith, c.loop-i.invariant.unvisited.0, c.loop-i-test.true))
       (λ l below held. (c.in_ok-fit.ensures.appended l below (given c.loop-i.i) held).appended)
@@ -316,8 +316,8 @@ append_items-loop-i-preserved g t c = record {
 
 pub append_items-returns-clause-appended : goal.append_items-returns-clause-appended
 append_items-returns-clause-appended g t c = λ shape given h. record {
-  appended = mixed_all (IsColumn (index_or_zero (g.I.IndexOf.index c.args.indices.now)) c.args.limits.now)
-      (IsColumn (index_or_zero (g.I.IndexOf.index c.args.indices.now)) c.args.limits.now) c.loop-i.i shape c.loop-i.nodes given
+  appended = mixed_all (IsColumn (known_indices (g.I.IndexOf.index c.args.indices.now)) c.args.limits.now)
+      (IsColumn (known_indices (g.I.IndexOf.index c.args.indices.now)) c.args.limits.now) c.loop-i.i shape c.loop-i.nodes given
       (λ j. given j ++ c.args.items.now)
       (omega (arith, c.loop-i.invariant.unvisited.0, c.loop-i-test.false, c.loop-i.auto.i-end)) (c.loop-i.invariant.appended shape given h);
   refused = tt;
@@ -335,7 +335,7 @@ append_parts-loop-i-init g t c = record {
 
 pub append_parts-returns-in_err-one-in-Some-clause-appended : goal.append_parts-returns-in_err-one-in-Some-clause-appended
 append_parts-returns-in_err-one-in-Some-clause-appended g t c = λ shape given h.
-    let known = index_or_zero (g.I.IndexOf.index c.args.indices.now) in
+    let known = known_indices (g.I.IndexOf.index c.args.indices.now) in
     let limits = c.args.limits.now in
     let P = IsColumn known limits in
     let inside : c.loop-i.i < length c.loop-i.nodes = omega (arith, c.loop-i.invariant.unvisited.0, c.loop-i-test.true) in
@@ -355,7 +355,7 @@ append_parts-returns-in_err-one-in-Some-clause-appended g t c = λ shape given h
 
 pub append_parts-returns-in_err-append_null-in-None-clause-appended : goal.append_parts-returns-in_err-append_null-in-None-clause-appended
 append_parts-returns-in_err-append_null-in-None-clause-appended g t c = λ shape given h.
-    let known = index_or_zero (g.I.IndexOf.index c.args.indices.now) in
+    let known = known_indices (g.I.IndexOf.index c.args.indices.now) in
     let limits = c.args.limits.now in
     let P = IsColumn known limits in
     let inside : c.loop-i.i < length c.loop-i.nodes = omega (arith, c.loop-i.invariant.unvisited.0, c.loop-i-test.true) in
@@ -378,13 +378,13 @@ append_parts-loop-i-preserved g t c = elim c.match-get.branch [
   | append_parts-in-Some+in_ok-one-in-Some w ↦ record {
     unvisited = rw w.nodes-is (search rules);
     appended = λ shape given h. rw (w.nodes-is, add-one)
-        (mixed_more (IsColumn (index_or_zero (g.I.IndexOf.index c.args.indices.now)) c.args.limits.now)
-        (IsColumn (index_or_zero (g.I.IndexOf.index c.args.indices.now)) c.args.limits.now) c.loop-i.i shape c.loop-i.nodes
+        (mixed_more (IsColumn (known_indices (g.I.IndexOf.index c.args.indices.now)) c.args.limits.now)
+        (IsColumn (known_indices (g.I.IndexOf.index c.args.indices.now)) c.args.limits.now) c.loop-i.i shape c.loop-i.nodes
         given
         (λ j. given j ++ cell j c.args.parts.now ∷ []) w.append.new.node w.index-nodes-i.result
         (omega (arith, c.loop-i.invariant.unvisited.0, c.loop-i-test.true))
         (λ l child_values held. subst (λ (v : Value). IsNode
-        (IsColumn (index_or_zero (g.I.IndexOf.index c.args.indices.now)) c.args.limits.now) l child_values w.append.new.node
+        (IsColumn (known_indices (g.I.IndexOf.index c.args.indices.now)) c.args.limits.now) l child_values w.append.new.node
         (given c.loop-i.i ++ v ∷ [])) (search rules)
         (w.in_ok-one-in-Some.ensures.appended l child_values (given c.loop-i.i) held).appended)
         (c.loop-i.invariant.appended shape given h));
@@ -399,13 +399,13 @@ append_parts-loop-i-preserved g t c = elim c.match-get.branch [
   | append_parts-in-None+in_ok-append_null-in-None w ↦ record {
     unvisited = rw w.nodes-is (search rules);
     appended = λ shape given h. rw (w.nodes-is, add-one)
-        (mixed_more (IsColumn (index_or_zero (g.I.IndexOf.index c.args.indices.now)) c.args.limits.now)
-        (IsColumn (index_or_zero (g.I.IndexOf.index c.args.indices.now)) c.args.limits.now) c.loop-i.i shape c.loop-i.nodes
+        (mixed_more (IsColumn (known_indices (g.I.IndexOf.index c.args.indices.now)) c.args.limits.now)
+        (IsColumn (known_indices (g.I.IndexOf.index c.args.indices.now)) c.args.limits.now) c.loop-i.i shape c.loop-i.nodes
         given
         (λ j. given j ++ cell j c.args.parts.now ∷ []) w.append_null.new.node w.index-nodes-i-in-None.result
         (omega (arith, c.loop-i.invariant.unvisited.0, c.loop-i-test.true))
         (λ l child_values held. subst (λ (v : Value). IsNode
-        (IsColumn (index_or_zero (g.I.IndexOf.index c.args.indices.now)) c.args.limits.now) l child_values
+        (IsColumn (known_indices (g.I.IndexOf.index c.args.indices.now)) c.args.limits.now) l child_values
         w.append_null.new.node
         (given c.loop-i.i ++ v ∷ [])) (search rules)
         (w.in_ok-append_null-in-None.ensures l child_values (given c.loop-i.i) held).appended) (c.loop-i.invariant.appended shape given h));
@@ -418,8 +418,8 @@ append_parts-loop-i-preserved g t c = elim c.match-get.branch [
 
 pub append_parts-returns-clause-appended : goal.append_parts-returns-clause-appended
 append_parts-returns-clause-appended g t c = λ shape given h. record {
-  appended = mixed_all (IsColumn (index_or_zero (g.I.IndexOf.index c.args.indices.now)) c.args.limits.now)
-      (IsColumn (index_or_zero (g.I.IndexOf.index c.args.indices.now)) c.args.limits.now) c.loop-i.i shape c.loop-i.nodes given
+  appended = mixed_all (IsColumn (known_indices (g.I.IndexOf.index c.args.indices.now)) c.args.limits.now)
+      (IsColumn (known_indices (g.I.IndexOf.index c.args.indices.now)) c.args.limits.now) c.loop-i.i shape c.loop-i.nodes given
       (λ j. given j ++ cell j c.args.parts.now ∷ [])
       (omega (arith, c.loop-i.invariant.unvisited.0, c.loop-i-test.false, c.loop-i.auto.i-end)) (c.loop-i.invariant.appended shape given h);
   refused = tt;
@@ -444,7 +444,7 @@ values_next before values i value inside is =
 
 pub append_all-returns-in_err-one-clause-appended : goal.append_all-returns-in_err-one-clause-appended
 append_all-returns-in_err-one-clause-appended g t c = λ layout children before h.
-    let known = index_or_zero (g.I.IndexOf.index c.args.indices.now) in
+    let known = known_indices (g.I.IndexOf.index c.args.indices.now) in
     let limits = c.args.limits.now in
     let i = c.loop-value.value-index in
     let values = c.args.values.now in
@@ -463,7 +463,7 @@ append_all-returns-in_err-one-clause-appended g t c = λ layout children before 
 pub append_all-loop-value-preserved : goal.append_all-loop-value-preserved
 append_all-loop-value-preserved g t c = record {
   appended = λ layout children before h.
-      let P = IsColumn (index_or_zero (g.I.IndexOf.index c.args.indices.now)) c.args.limits.now in
+      let P = IsColumn (known_indices (g.I.IndexOf.index c.args.indices.now)) c.args.limits.now in
       let i = c.loop-value.value-index in
       let values = c.args.values.now in
       let one = c.in_ok-one.ensures.appended layout children (before ++ take i values)

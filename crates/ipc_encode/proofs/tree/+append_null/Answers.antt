@@ -9,7 +9,7 @@ use Rattle.ipc_column.specs.Shapes.{bare}
 use Rattle.ipc_encode.specs.declared.tree.Node.{Node}
 use Rattle.ipc_encode.specs.Buffers.{child_values, nulls_below}
 use Rattle.ipc_encode.specs.Built.{AreNodes, BeginsWith, IsColumn, ArePushesRefused}
-use Rattle.ipc_encode.specs.Numbers.{index_or_zero}
+use Rattle.ipc_encode.specs.Numbers.{known_indices}
 use Rattle.ipc_encode.proofs.Steps.{more_below, nulls_give}
 use Rattle.ipc_encode.proofs.Growing.{child_refused, mixed_refused, node_is, lent_column, lent_children, lent_node, mixed_more, mixed_all}
 use Rattle.ipc_encode.proofs.Beginnings.{below_less, column_begins, mixed_begin, node_begins, nodes_begin}
@@ -32,13 +32,13 @@ append_null-returns-then-count-limits g t c = λ layout children values h. recor
     length-replicate c.args.count Null,
     c.if-count-limits.true,
   )));
-  begun = λ other. node_begins (index_or_zero (g.I.IndexOf.index c.args.indices.now)) c.args.limits.now layout children
+  begun = λ other. node_begins (known_indices (g.I.IndexOf.index c.args.indices.now)) c.args.limits.now layout children
       c.args.node.now values h;
 }
 
 pub append_null-returns-in_err-append_nulls : goal.append_null-returns-in_err-append_nulls
 append_null-returns-in_err-append_nulls g t c = λ layout children values h.
-    let known = index_or_zero (g.I.IndexOf.index c.args.indices.now) in
+    let known = known_indices (g.I.IndexOf.index c.args.indices.now) in
     let limits = c.args.limits.now in
     let Q = BeginsWith known limits in
     let held = subst (λ (ns : List Node). AreNodes (IsColumn known limits) children ns (child_values layout values))
@@ -60,7 +60,7 @@ append_null-returns-in_err-append_nulls g t c = λ layout children values h.
 
 pub append_null-returns : goal.append_null-returns
 append_null-returns g t c = λ layout children values h.
-    let known = index_or_zero (g.I.IndexOf.index c.args.indices.now) in
+    let known = known_indices (g.I.IndexOf.index c.args.indices.now) in
     let limits = c.args.limits.now in
     let P = IsColumn known limits in
     let Q = BeginsWith known limits in
@@ -82,7 +82,7 @@ append_null-returns g t c = λ layout children values h.
 
 pub append_nulls-returns-in_err-append_null : goal.append_nulls-returns-in_err-append_null
 append_nulls-returns-in_err-append_null g t c = λ shape given h.
-    let known = index_or_zero (g.I.IndexOf.index c.args.indices.now) in
+    let known = known_indices (g.I.IndexOf.index c.args.indices.now) in
     let limits = c.args.limits.now in
     let P = IsColumn known limits in
     let inside : c.loop-i.i < length c.loop-i.nodes = omega (arith, c.loop-i.invariant.unvisited.0, c.loop-i-test.true) in
@@ -101,8 +101,8 @@ append_nulls-returns-in_err-append_null g t c = λ shape given h.
 pub append_nulls-loop-i-preserved : goal.append_nulls-loop-i-preserved
 append_nulls-loop-i-preserved g t c = record {
   unvisited = search rules;
-  appended = λ shape given h. rw add-one (mixed_more (IsColumn (index_or_zero (g.I.IndexOf.index c.args.indices.now)) c.args.limits.now)
-      (IsColumn (index_or_zero (g.I.IndexOf.index c.args.indices.now)) c.args.limits.now) c.loop-i.i shape c.loop-i.nodes given
+  appended = λ shape given h. rw add-one (mixed_more (IsColumn (known_indices (g.I.IndexOf.index c.args.indices.now)) c.args.limits.now)
+      (IsColumn (known_indices (g.I.IndexOf.index c.args.indices.now)) c.args.limits.now) c.loop-i.i shape c.loop-i.nodes given
       (λ j. given j ++ replicate c.args.count Null)
       c.append_null.new.node c.index-nodes-i.result (omega (arith, c.loop-i.invariant.unvisited.0, c.loop-i-test.true))
       (λ l below held. (c.in_ok-append_null.ensures l below (given c.loop-i.i) held).appended)
@@ -111,8 +111,8 @@ append_nulls-loop-i-preserved g t c = record {
 
 pub append_nulls-returns : goal.append_nulls-returns
 append_nulls-returns g t c = λ shape given h. record {
-  appended = mixed_all (IsColumn (index_or_zero (g.I.IndexOf.index c.args.indices.now)) c.args.limits.now)
-      (IsColumn (index_or_zero (g.I.IndexOf.index c.args.indices.now)) c.args.limits.now) c.loop-i.i shape c.loop-i.nodes given
+  appended = mixed_all (IsColumn (known_indices (g.I.IndexOf.index c.args.indices.now)) c.args.limits.now)
+      (IsColumn (known_indices (g.I.IndexOf.index c.args.indices.now)) c.args.limits.now) c.loop-i.i shape c.loop-i.nodes given
       (λ j. given j ++ replicate c.args.count Null)
       (omega (arith, c.loop-i.invariant.unvisited.0, c.loop-i-test.false, c.loop-i.auto.i-end)) (c.loop-i.invariant.appended shape given h);
   refused = tt;

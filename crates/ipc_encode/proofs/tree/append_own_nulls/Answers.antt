@@ -4,7 +4,7 @@ use Rattle.ipc_model.specs.declared.value.Value.{Value}
 use Rattle.ipc_model.specs.declared.value.Value.TheVariants.{Null}
 use Rattle.ipc_column.specs.Shapes.{bare, field}
 use Rattle.ipc_encode.specs.Built.{ArePushesRefused, IsColumn}
-use Rattle.ipc_encode.specs.Numbers.{index_or_zero}
+use Rattle.ipc_encode.specs.Numbers.{known_indices}
 use Rattle.ipc_encode.proofs.Steps.{null_next, nulls_first}
 use Rattle.ipc_encode.proofs.Growing.{own_refused, all_refused}
 use Rattle.ipc_encode.proofs.tree.append_own_nulls.Goals as goal
@@ -29,6 +29,6 @@ returns-in_err-push-clause-begun g c = λ layout values h.
 
 pub loop-preserved : goal.loop-preserved
 loop-preserved g c = λ layout values h.
-    subst (λ (vs : List Value). IsColumn (index_or_zero (g.I.IndexOf.index c.args.indices.now)) c.args.limits.now layout vs
+    subst (λ (vs : List Value). IsColumn (known_indices (g.I.IndexOf.index c.args.indices.now)) c.args.limits.now layout vs
     c.push.new.self) (null_next values c.loop.counter)
     (c.in_ok-push.ensures.pushed layout (values ++ replicate c.loop.counter Null) (c.loop.invariant layout values h))

@@ -5,13 +5,13 @@ use Rattle.ipc_column.specs.Shapes.{shape_of}
 use Rattle.ipc_encode.specs.declared.tree.Node.{Node}
 use Rattle.ipc_encode.specs.Buffers.{row_columns}
 use Rattle.ipc_encode.specs.Built.{AreNodes, ArePushesRefused, BeginsWith, HoldColumns}
-use Rattle.ipc_encode.specs.Numbers.{index_or_zero}
+use Rattle.ipc_encode.specs.Numbers.{known_indices}
 use Rattle.ipc_encode.proofs.Held.{columns_push, rows_refused}
 use Rattle.ipc_encode.proofs.builder.Builder.append.Goals as goal
 
 pub returns-in-Ok-clause-appended : goal.returns-in-Ok-clause-appended
 returns-in-Ok-clause-appended g c = λ limits fields rows before.
-    let known = index_or_zero (g.I.IndexOf.index c.args.indices.now) in
+    let known = known_indices (g.I.IndexOf.index c.args.indices.now) in
     let builder = c.args.self.now in
     let next = rows ++ c.args.row.now ∷ [] in
     let held = subst (λ (ns : List Node). HoldColumns known builder.bounds (shape_of fields) ns (row_columns rows))
@@ -31,7 +31,7 @@ returns-in-Ok-clause-appended g c = λ limits fields rows before.
 
 pub returns-in-Err-clause-refused : goal.returns-in-Err-clause-refused
 returns-in-Err-clause-refused g c = λ limits fields rows before.
-    let known = index_or_zero (g.I.IndexOf.index c.args.indices.now) in
+    let known = known_indices (g.I.IndexOf.index c.args.indices.now) in
     let builder = c.args.self.now in
     let next = rows ++ c.args.row.now ∷ [] in
     let held = subst (λ (ns : List Node). HoldColumns known builder.bounds (shape_of fields) ns (row_columns rows))
@@ -43,7 +43,7 @@ returns-in-Err-clause-refused g c = λ limits fields rows before.
 
 pub returns-in-Err-clause-kept : goal.returns-in-Err-clause-kept
 returns-in-Err-clause-kept g c = λ limits fields rows before other.
-    let known = index_or_zero (g.I.IndexOf.index c.args.indices.now) in
+    let known = known_indices (g.I.IndexOf.index c.args.indices.now) in
     let builder = c.args.self.now in
     let held = subst (λ (ns : List Node). HoldColumns known builder.bounds (shape_of fields) ns (row_columns rows))
     (sym c.deref_mut.ensures.value) before.columns_are in

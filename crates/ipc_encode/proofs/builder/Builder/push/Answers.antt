@@ -1,12 +1,12 @@
 use Rattle.std.proofs.Common.{rules, ◌∙◌, ap, [], ◌∷◌, ◌++◌, length-append, arith}
 use Rattle.ipc_model.specs.declared.limits.Limits.{Limits}
-use Rattle.ipc_encode.specs.Numbers.{index_or_zero}
+use Rattle.ipc_encode.specs.Numbers.{known_indices}
 use Rattle.ipc_encode.proofs.Held.{shared_within, still_stored, stored_held}
 use Rattle.ipc_encode.proofs.builder.Builder.push.Goals as goal
 
 pub returns-in-Ok-clause-pushed : goal.returns-in-Ok-clause-pushed
 returns-in-Ok-clause-pushed g c = λ limits fields rows before.
-    let known = index_or_zero (g.I.IndexOf.index c.args.indices.now) in
+    let known = known_indices (g.I.IndexOf.index c.args.indices.now) in
     let builder = c.append.new.self in
     let next = rows ++ c.args.row.now ∷ [] in
     let held = c.in-Ok.ensures.appended limits fields rows (stored_held known limits fields rows c.args.self.now before) in

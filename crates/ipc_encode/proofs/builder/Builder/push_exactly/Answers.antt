@@ -11,14 +11,14 @@ use Rattle.ipc_encode.specs.Built.{HoldColumns}
 use Rattle.ipc_encode.specs.Cells.{cell}
 use Rattle.ipc_encode.specs.Faults.{write_fault}
 use Rattle.ipc_encode.specs.Limits.{AreRowsRefused, IsWithin}
-use Rattle.ipc_encode.specs.Numbers.{index_or_zero}
+use Rattle.ipc_encode.specs.Numbers.{known_indices}
 use Rattle.ipc_encode.proofs.Beginnings.{nodes_begin, nodes_less}
 use Rattle.ipc_encode.proofs.Held.{built_within, columns_push, still_stored, unshared}
 use Rattle.ipc_encode.proofs.builder.Builder.push_exactly.Goals as goal
 
 pub returns-in_err-all-clause-refused : goal.returns-in_err-all-clause-refused
 returns-in_err-all-clause-refused g c = λ limits fields rows before.
-    let known = index_or_zero (g.I.IndexOf.index c.args.indices.now) in
+    let known = known_indices (g.I.IndexOf.index c.args.indices.now) in
     let start = unshared known limits fields rows c.args.self.now c.unshare.new.self c.unshare.ensures before in
     let same = ap (λ (b : Builder). b.bounds) c.unshare.ensures ∙ before.limits_are in
     let p = err_from_is_err_and c.from_residual.result c.from_residual.ensures.1 in
@@ -27,7 +27,7 @@ returns-in_err-all-clause-refused g c = λ limits fields rows before.
 
 pub returns-in_err-all-clause-kept : goal.returns-in_err-all-clause-kept
 returns-in_err-all-clause-kept g c = λ limits fields rows before.
-    let known = index_or_zero (g.I.IndexOf.index c.args.indices.now) in
+    let known = known_indices (g.I.IndexOf.index c.args.indices.now) in
     let start = unshared known limits fields rows c.args.self.now c.unshare.new.self c.unshare.ensures before in
     let p = err_from_is_err_and c.from_residual.result c.from_residual.ensures.1 in
     rw (p.1, p.2) (λ other.
@@ -35,7 +35,7 @@ returns-in_err-all-clause-kept g c = λ limits fields rows before.
 
 pub returns-in-Ok-clause-pushed : goal.returns-in-Ok-clause-pushed
 returns-in-Ok-clause-pushed g c = λ limits fields rows before.
-    let known = index_or_zero (g.I.IndexOf.index c.args.indices.now) in
+    let known = known_indices (g.I.IndexOf.index c.args.indices.now) in
     let builder = c.append.new.self in
     let next = rows ++ c.args.row.now ∷ [] in
     let start = unshared known limits fields rows c.args.self.now c.unshare.new.self c.unshare.ensures before in
@@ -60,7 +60,7 @@ returns-in-Ok-clause-pushed g c = λ limits fields rows before.
 
 pub returns-in-Err-clause-refused : goal.returns-in-Err-clause-refused
 returns-in-Err-clause-refused g c = λ limits fields rows before.
-    let known = index_or_zero (g.I.IndexOf.index c.args.indices.now) in
+    let known = known_indices (g.I.IndexOf.index c.args.indices.now) in
     let builder = c.append.new.self in
     let next = rows ++ c.args.row.now ∷ [] in
     let start = unshared known limits fields rows c.args.self.now c.unshare.new.self c.unshare.ensures before in
@@ -74,7 +74,7 @@ returns-in-Err-clause-refused g c = λ limits fields rows before.
 
 pub returns-in-Err-clause-kept : goal.returns-in-Err-clause-kept
 returns-in-Err-clause-kept g c = λ limits fields rows before other.
-    let known = index_or_zero (g.I.IndexOf.index c.args.indices.now) in
+    let known = known_indices (g.I.IndexOf.index c.args.indices.now) in
     let bounds = c.append.new.self.bounds in
     let nodes = c.append.new.self.nodes.items in
     let row = c.args.row.now in
