@@ -378,6 +378,33 @@ uint32_t arrowstream_writer_send(arrowstream_writer *writer);
  * Returns ARROWSTREAM_OK, or ARROWSTREAM_WRITE + 2 to 9 or 11. */
 uint32_t arrowstream_writer_columns(arrowstream_writer *writer, const arrowstream_batch *batch);
 
+typedef struct {
+    size_t size;    /* sizeof(arrowstream_canonical) */
+    size_t bytes;   /* bytes of the body: a multiple of 8 */
+    size_t nodes;   /* one for each field, with the fields below it */
+    size_t buffers; /* buffers of these fields */
+} arrowstream_canonical;
+
+/* Lays a batch that was read out in memory of the caller: `bytes` gets the body of the message that
+ * arrowstream_writer_columns would send for it, in one block. Each buffer begins at a multiple of 8
+ * bytes and is followed by zeros up to the next one. A validity bitmap has bytes only if a slot is
+ * null. Null slots are zeros or empty, offsets begin at 0, and no byte is there that no row shows.
+ * An index is that of its value among those that are sent of its dictionary once
+ * arrowstream_writer_columns is called with the batch.
+ *
+ * `numbers` gets two numbers for each field of the schema and each field below it, in pre-order:
+ * its slots, and the nulls among them. They are followed by two for each buffer, in the order of
+ * the fields: where it begins in `bytes`, and its length in bytes without the zeros after it.
+ *
+ * Sets `out` to the room that all of it takes. If `length` is less than `bytes`, or `count` is less
+ * than twice the sum of `nodes` and `buffers`, nothing is copied: call again with more room.
+ *
+ * Nothing is sent, and the writer goes on after each refusal. Returns ARROWSTREAM_OK, or
+ * ARROWSTREAM_WRITE + 2 to 8 or 11; then nothing is copied, and `out` is left as it is. */
+uint32_t arrowstream_writer_canonical(arrowstream_writer *writer, const arrowstream_batch *batch,
+                                      uint8_t *bytes, size_t length, int64_t *numbers,
+                                      size_t count, arrowstream_canonical *out);
+
 /* Sends the end-of-stream mark, and ends the writer. Returns ARROWSTREAM_MISUSE also if rows or
  * pairs were not sent, or a row or its list or struct has not ended. */
 uint32_t arrowstream_writer_finish(arrowstream_writer *writer);

@@ -2,7 +2,8 @@
  * status and the line that each call has to answer.
  *
  *     c_writes stream     writes the stream of the script to standard output
- *     c_writes copy       writes the columns of the stream on standard input to standard output
+ *     c_writes copy       writes the columns of the stream on standard input to standard output,
+ *                         and compares each body with the one that is copied to one block
  *     c_writes growths    refuses each growth of memory in turn, and prints their number
  *
  * With a refused growth each call answers as without it, or that memory ran out; from then on the
@@ -259,6 +260,94 @@ static void copy_schema(arrowstream_reader *reader, arrowstream_writer *writer) 
         stop("another schema", 0);
 }
 
+/* What a writer copies of a batch, in memory of exactly its size. The caller frees it. */
+typedef struct {
+    uint32_t status;
+    arrowstream_canonical room;
+    size_t count;
+    uint8_t *bytes;
+    int64_t *numbers;
+} canonical;
+
+static int is_untouched(const canonical *copy) {
+    return (copy->room.bytes == 0 || copy->bytes[0] == FILL)
+        && (copy->count == 0 || copy->numbers[0] == FILL);
+}
+
+/* Buffers follow one another at multiples of 8 bytes, with zeros between them. */
+static void check_ranges(const canonical *copy) {
+    size_t end = 0;
+    for (size_t i = 0; i < copy->room.buffers; i++) {
+        const int64_t *range = copy->numbers + 2 * (copy->room.nodes + i);
+        if (range[0] != (int64_t)((end + 7) / 8 * 8) || range[1] < 0) stop("another range", i);
+        for (; end < (size_t)range[0]; end++)
+            if (copy->bytes[end] != 0) stop("a byte between buffers", i);
+        end += (size_t)range[1];
+    }
+    if (copy->room.bytes != (end + 7) / 8 * 8) stop("another size of a body", end);
+    for (; end < copy->room.bytes; end++)
+        if (copy->bytes[end] != 0) stop("a byte after the last buffer", end);
+}
+
+/* Refuses each growth of the call in turn: nothing is copied, and the writer goes on. */
+static void refuse_growths(arrowstream_writer *writer, const arrowstream_batch *batch,
+                           const canonical *copy) {
+    for (unsigned long growth = 1;; growth++) {
+        arrowstream_canonical room = {.size = sizeof room};
+        asked = 0;
+        refused = growth;
+        uint32_t status = arrowstream_writer_canonical(writer, batch, copy->bytes, copy->room.bytes,
+                                                       copy->numbers, copy->count, &room);
+        refused = 0;
+        if (asked < growth) break;
+        if (status != ARROWSTREAM_WRITE_OUT_OF_MEMORY || room.bytes != 0 || !is_untouched(copy))
+            stop("a refused growth of a copy", growth);
+    }
+}
+
+static canonical canonical_of(arrowstream_writer *writer, const arrowstream_batch *batch) {
+    canonical copy = {.room = {.size = sizeof copy.room}};
+    arrowstream_canonical room = {.size = sizeof room}, small = {.size = sizeof small - 1};
+    if (arrowstream_writer_canonical(writer, batch, NULL, 0, NULL, 0, &small) != ARROWSTREAM_MISUSE)
+        stop("a small struct", 0);
+    if (arrowstream_writer_canonical(NULL, batch, NULL, 0, NULL, 0, &room) != ARROWSTREAM_MISUSE
+        || arrowstream_writer_canonical(writer, NULL, NULL, 0, NULL, 0, &room) != ARROWSTREAM_MISUSE
+        || room.bytes != 0)
+        stop("a copy at NULL", 0);
+    copy.status = arrowstream_writer_canonical(writer, batch, NULL, 0, NULL, 0, &copy.room);
+    if (copy.status != ARROWSTREAM_OK) return copy;
+    copy.count = 2 * (copy.room.nodes + copy.room.buffers);
+    copy.bytes = __real_malloc(copy.room.bytes);
+    copy.numbers = __real_malloc(copy.count * sizeof *copy.numbers);
+    if (!copy.bytes || !copy.numbers) stop("no memory", 0);
+    for (int part = 0; part < 3; part++) {
+        memset(copy.bytes, FILL, copy.room.bytes);
+        for (size_t i = 0; i < copy.count; i++) copy.numbers[i] = FILL;
+        size_t length = copy.room.bytes - (part == 0 && copy.room.bytes > 0);
+        size_t count = copy.count - (part == 1 && copy.count > 0);
+        int is_short = length < copy.room.bytes || count < copy.count;
+        if (part == 2) refuse_growths(writer, batch, &copy);
+        if (arrowstream_writer_canonical(writer, batch, copy.bytes, length, copy.numbers, count,
+                                         &room) != ARROWSTREAM_OK
+            || memcmp(&room, &copy.room, sizeof room) != 0)
+            stop("another copy", (size_t)part);
+        if (is_short && !is_untouched(&copy)) stop("a copy without room", (size_t)part);
+    }
+    check_ranges(&copy);
+    return copy;
+}
+
+/* Takes all bytes at once, and writes them. They end with the body that was copied. */
+static void take_body(arrowstream_writer *writer, const canonical *copy) {
+    size_t ready = arrowstream_writer_ready(writer), body = copy->room.bytes;
+    uint8_t *bytes = __real_malloc(ready);
+    if (!bytes || arrowstream_writer_take(writer, bytes, ready) != ready) stop("no bytes", ready);
+    if (ready < body || memcmp(bytes + ready - body, copy->bytes, body) != 0)
+        stop("another body", ready);
+    if (fwrite(bytes, 1, ready, stdout) != ready) stop("no output", ready);
+    free(bytes);
+}
+
 static void copy_batch(arrowstream_reader *reader, arrowstream_writer *writer) {
     arrowstream_batch *batch = NULL;
     if (arrowstream_reader_take(reader, &batch) != ARROWSTREAM_OK) stop("no batch", 0);
@@ -267,10 +356,15 @@ static void copy_batch(arrowstream_reader *reader, arrowstream_writer *writer) {
         stop("columns of NULL", rows);
     if (arrowstream_writer_columns(NULL, batch) != ARROWSTREAM_MISUSE)
         stop("columns at NULL", rows);
-    if (arrowstream_writer_columns(writer, batch) != ARROWSTREAM_OK) stop("refused columns", rows);
-    if (arrowstream_batch_rows(batch) != rows) stop("another batch", rows);
-    arrowstream_batch_free(batch);
     take(writer, 1);
+    canonical copy = canonical_of(writer, batch);
+    if (arrowstream_writer_ready(writer) != 0) stop("bytes of a copy", rows);
+    if (arrowstream_writer_columns(writer, batch) != copy.status) stop("another status", rows);
+    if (arrowstream_batch_rows(batch) != rows) stop("another batch", rows);
+    if (copy.status == ARROWSTREAM_OK) take_body(writer, &copy);
+    free(copy.bytes);
+    free(copy.numbers);
+    arrowstream_batch_free(batch);
 }
 
 /* Writes the columns of the stream on standard input. */

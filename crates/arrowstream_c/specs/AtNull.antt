@@ -1,7 +1,8 @@
 -- What the exports that write through a pointer answer at a null handle.
-use Rattle.std.specs.Prelude.{◌≡◌, ℕ, List}
-use Rattle.arrowstream_c.specs.Handles.{misuse}
+use Rattle.std.specs.Prelude.{◌≡◌, ℕ, ℤ, List}
+use Rattle.arrowstream_c.specs.Handles.{RefusesMisuse, misuse}
 use Rattle.arrowstream_c.specs.Numbers.{BySize, progress_size}
+use Rattle.arrowstream_c.specs.declared.answers.Canonical.{Canonical}
 use Rattle.arrowstream_c.specs.declared.answers.Progress.{Progress}
 
 -- no byte is copied, and none is wanted
@@ -24,3 +25,8 @@ IsNowhere old new status =
 -- no byte is moved
 abbrev pub TakesNothing : List ℕ → List ℕ → ℕ → Type 0
 TakesNothing old new count = (count ≡ 0) × (new ≡ old)
+
+-- no batch is copied
+abbrev pub CopiesNothing : List ℕ → List ℕ → List ℤ → List ℤ → Canonical → Canonical → ℕ → Type 0
+CopiesNothing bytes_old bytes_new numbers_old numbers_new old new status =
+    RefusesMisuse bytes_old bytes_new status × (numbers_new ≡ numbers_old) × (new ≡ old)

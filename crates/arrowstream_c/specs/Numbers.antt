@@ -10,6 +10,7 @@ use Rattle.ipc_model.specs.Ranges.{width}
 use Rattle.ipc_model.specs.Limits.{IsStandard, HaveLimitValues}
 use Rattle.ipc_stream_read.specs.declared.end.End.{End}
 use Rattle.ipc_stream_read.specs.declared.end.End.TheVariants as end
+use Rattle.ipc_stream.specs.declared.canonical.CanonicalSize.{CanonicalSize}
 use Rattle.ipc_stream_session.specs.declared.arrival.Arrival.{Arrival}
 use Rattle.ipc_stream_session.specs.declared.arrival.Arrival.TheVariants as arrival
 use Rattle.ipc_stream_session.specs.declared.buffer.BufferKind.{BufferKind}
@@ -19,6 +20,7 @@ use Rattle.ipc_stream_session.specs.declared.field.FieldFacts.{FieldFacts}
 use Rattle.ipc_stream_session.specs.declared.field.FieldText.{FieldText}
 use Rattle.ipc_stream_session.specs.declared.field.FieldText.TheVariants as text
 use Rattle.arrowstream_c.specs.Handles.{RefusesMisuse}
+use Rattle.arrowstream_c.specs.declared.answers.Canonical.{Canonical}
 use Rattle.arrowstream_c.specs.declared.answers.Column.{Column}
 use Rattle.arrowstream_c.specs.declared.answers.FieldNumbers.{FieldNumbers}
 use Rattle.arrowstream_c.specs.declared.answers.LayoutNumbers.{LayoutNumbers}
@@ -43,6 +45,10 @@ column_size = 80
 -- the number of bytes of a struct that describes a field
 abbrev pub field_size : ℕ
 field_size = 48
+
+-- the number of bytes of a struct of the room that a batch takes
+abbrev pub canonical_size : ℕ
+canonical_size = 32
 
 -- what a call does with a struct of the caller that has at least the size of this version, and what
 -- it does with a smaller one
@@ -164,3 +170,10 @@ pub record ShowsField (facts : FieldFacts) (size : ℕ) (n : FieldNumbers) : Typ
   pub dictionary : ShowsDictionary facts.dictionary n
   pub children : n.children ≡ facts.children
   pub pairs : n.pairs ≡ facts.pairs
+
+-- the numbers are the room that a batch takes, in a struct of this size
+pub record ShowsRoom (room : CanonicalSize) (size : ℕ) (n : Canonical) : Type 0 where
+  pub size_is : n.size ≡ size
+  pub bytes : n.bytes ≡ room.bytes
+  pub nodes : n.nodes ≡ room.nodes
+  pub buffers : n.buffers ≡ room.buffers

@@ -1,15 +1,19 @@
 -- What each export of a writer answers, and which state it leaves.
 use Rattle.std.specs.Prelude.{◌≡◌, ◌≤◌, ⊤, ℕ, ℤ, not, ◌==◌, List, Option, Some, None, Result}
+use Rattle.std.specs.Prelude.{Err, Ok}
 use Rattle.std.specs.declared.alloc.Global.{Global}
 use Rattle.std.specs.declared.string.String.{String}
 use Rattle.ipc_model.specs.declared.fault.Fault.{Fault}
 use Rattle.ipc_model.specs.declared.value.Value.TheVariants as value
+use Rattle.ipc_stream.specs.declared.canonical.CanonicalSize.{CanonicalSize}
 use Rattle.ipc_stream_session.specs.declared.batch.ReadBatch.{ReadBatch}
 use Rattle.ipc_stream_session.specs.declared.cells.Nesting.TheVariants as nesting
 use Rattle.ipc_stream_session.specs.declared.write_session.WriteSession.{WriteSession}
 use Rattle.ipc_stream_session.specs.Writes as s
 use Rattle.arrowstream_c.specs.Calls.{GivesText}
-use Rattle.arrowstream_c.specs.Numbers.{AreCapped, limits_size}
+use Rattle.arrowstream_c.specs.AtNull.{CopiesNothing}
+use Rattle.arrowstream_c.specs.Numbers.{AreCapped, BySize, ShowsRoom, canonical_size, limits_size}
+use Rattle.arrowstream_c.specs.declared.answers.Canonical.{Canonical}
 use Rattle.arrowstream_c.specs.declared.answers.ReadLimits.{ReadLimits}
 
 -- a new writer within the limits that were asked for, or none: memory ran out, or the limits are in
@@ -84,6 +88,27 @@ SendsRows was is status = s.ReportsStatus s.SendsRows was is status
 abbrev pub SendsColumns : WriteSession → ReadBatch → WriteSession → ReadBatch → ℕ → Type 0
 SendsColumns was batch is left status =
     (left ≡ batch) × s.ReportsStatus (s.SendsColumns batch) was is status
+
+-- the room that a batch takes, or the number of an error
+abbrev pub IsRoomAnswer : Result CanonicalSize ℕ → Canonical → Canonical → ℕ → Type 0
+IsRoomAnswer (Ok room) old new status = (status ≡ 0) × ShowsRoom room old.size new
+IsRoomAnswer (Err number) old new status = (status ≡ number) × (new ≡ old)
+
+-- the session copies the batch, and status and room are those of its answer
+abbrev pub CopiesBatch : WriteSession → ReadBatch → WriteSession → List ℕ → List ℕ → List ℤ
+    → List ℤ → Canonical → Canonical → ℕ → Type 0
+CopiesBatch was batch is bytes_old bytes_new numbers_old numbers_new old new status =
+    (answer : Result CanonicalSize ℕ)
+    × s.ReportsCopy batch bytes_old bytes_new numbers_old numbers_new was is answer
+    × IsRoomAnswer answer old new status
+
+-- the batch is copied if the struct has room for the answer; the batch stays
+abbrev pub CopiesCanonical : WriteSession → ReadBatch → WriteSession → ReadBatch → List ℕ → List ℕ
+    → List ℤ → List ℤ → Canonical → Canonical → ℕ → Type 0
+CopiesCanonical was batch is left bytes_old bytes_new numbers_old numbers_new old new status =
+    (left ≡ batch) × BySize old.size canonical_size
+    (CopiesBatch was batch is bytes_old bytes_new numbers_old numbers_new old new status)
+    ((is ≡ was) × CopiesNothing bytes_old bytes_new numbers_old numbers_new old new status)
 
 -- the stream is ended
 abbrev pub Finishes : WriteSession → WriteSession → ℕ → Type 0

@@ -2,15 +2,15 @@
 ghost use Rattle.std.specs.Prelude.{◌≡◌};
 ghost use Rattle.ipc_model.specs.Numbering.{fault_number};
 ghost use Rattle.arrowstream_c.specs.Numbers.{AreCapped, AreStandard, Caps, IsLayout, SetsStandard};
-ghost use Rattle.arrowstream_c.specs.Numbers.{Shows, ShowsDictionary, ShowsField, arrival_number};
-ghost use Rattle.arrowstream_c.specs.Numbers.{end_number};
+ghost use Rattle.arrowstream_c.specs.Numbers.{Shows, ShowsDictionary, ShowsField, ShowsRoom};
+ghost use Rattle.arrowstream_c.specs.Numbers.{arrival_number, end_number};
 
 use ipc_model::{
     Dictionary, Fault, Layout, Limits, MAX_BODY, MAX_DEPTH, MAX_FIELDS, MAX_METADATA, MAX_PAIRS,
     MAX_SLOTS, MAX_TEXT,
 };
 use ipc_stream_read::End;
-use ipc_stream_session::{Arrival, ColumnFacts, FieldFacts};
+use ipc_stream_session::{Arrival, CanonicalSize, ColumnFacts, FieldFacts};
 
 /// The status of a call that finds nothing: no refusal of the reader has this number.
 pub(crate) const ABSENT: u32 = 64;
@@ -26,6 +26,8 @@ pub(crate) const PROGRESS_SIZE: usize = size_of::<Progress>();
 pub(crate) const COLUMN_SIZE: usize = size_of::<Column>();
 
 pub(crate) const FIELD_SIZE: usize = size_of::<FieldNumbers>();
+
+pub(crate) const CANONICAL_SIZE: usize = size_of::<Canonical>();
 
 /// Limits on what a reader accepts, in the units of `ipc_model::Limits`.
 #[repr(C)]
@@ -125,6 +127,20 @@ pub struct FieldNumbers {
     pub children: usize,
     /// The number of pairs of key and value.
     pub pairs: usize,
+}
+
+/// The room that a batch takes as it is sent.
+#[repr(C)]
+#[derive(Drop)]
+pub struct Canonical {
+    /// The number of bytes of the struct, which the caller sets.
+    pub size: usize,
+    /// The number of bytes of the body.
+    pub bytes: usize,
+    /// The number of nodes.
+    pub nodes: usize,
+    /// The number of buffers.
+    pub buffers: usize,
 }
 
 // The value, or `most` if it is above.
@@ -258,6 +274,20 @@ impl Column {
             validity: facts.validity,
             offsets: facts.offsets,
             values: facts.values,
+        }
+    }
+}
+
+impl Canonical {
+    // The room that a batch takes, in a struct of this number of bytes.
+    pub(crate) fn of(size: usize, room: CanonicalSize) -> Canonical
+        ensures { ShowsRoom room size result }
+    {
+        Canonical {
+            size,
+            bytes: room.bytes,
+            nodes: room.nodes,
+            buffers: room.buffers,
         }
     }
 }

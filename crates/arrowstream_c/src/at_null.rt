@@ -1,8 +1,8 @@
 //! What calls at a null handle write through a pointer, beside the number that they return.
-ghost use Rattle.arrowstream_c.specs.AtNull.{IsNowhere, RefusesText, TakesNothing};
+ghost use Rattle.arrowstream_c.specs.AtNull.{CopiesNothing, IsNowhere, RefusesText, TakesNothing};
 ghost use Rattle.arrowstream_c.specs.Handles.{RefusesMisuse};
 
-use crate::answers::{Column, FieldNumbers, MISUSE, PROGRESS_SIZE, Progress};
+use crate::answers::{Canonical, Column, FieldNumbers, MISUSE, PROGRESS_SIZE, Progress};
 
 // Copies no byte, and wants none.
 pub(crate) fn no_text(text: &mut [u8], wanted: &mut usize) -> u32
@@ -39,6 +39,16 @@ pub(crate) fn no_progress(out: &mut Progress) -> u32
         out.messages = 0;
         out.event = 0;
     }
+    MISUSE
+}
+
+// Copies no batch.
+pub(crate) fn no_copy(bytes: &mut [u8], numbers: &mut [i64], out: &mut Canonical) -> u32
+    ensures { CopiesNothing bytes.old bytes.new numbers.old numbers.new out.old out.new result }
+{
+    let _bytes = bytes;
+    let _numbers = numbers;
+    let _out = out;
     MISUSE
 }
 

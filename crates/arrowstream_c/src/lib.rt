@@ -11,7 +11,7 @@ ghost use Rattle.std.specs.Borrow.{sem};
 ghost use Rattle.ipc_stream_session.specs.declared.batch.ReadBatch.{ReadBatch};
 ghost use Rattle.ipc_stream_session.specs.declared.session.ReadSession.{ReadSession};
 ghost use Rattle.ipc_stream_session.specs.declared.write_session.WriteSession.{WriteSession};
-ghost use Rattle.arrowstream_c.specs.AtNull.{IsNowhere, RefusesText, TakesNothing};
+ghost use Rattle.arrowstream_c.specs.AtNull.{CopiesNothing, IsNowhere, RefusesText, TakesNothing};
 ghost use Rattle.arrowstream_c.specs.Calls.{AreRows, AreColumns, ClonesBatch, Closes, CopiesBuffer};
 ghost use Rattle.arrowstream_c.specs.Calls.{CopiesFieldText, CopiesLine, CopiesPairs, CopiesSchema};
 ghost use Rattle.arrowstream_c.specs.Calls.{DescribesColumn, DescribesField, Feeds, OpensReader};
@@ -31,7 +31,7 @@ mod reader_calls;
 mod writer;
 mod writer_calls;
 
-use answers::{Column, FieldNumbers, MISUSE, Progress, ReadLimits};
+use answers::{Canonical, Column, FieldNumbers, MISUSE, Progress, ReadLimits};
 use batch::BatchHandle;
 use block::Block;
 use ipc_stream_session::{ReadBatch, ReadSession, WriteSession};
@@ -650,6 +650,40 @@ pub unsafe extern "C" fn arrowstream_writer_columns(writer: *mut u8, batch: *mut
     writer_calls::send_columns(
         &mut *(writer as *mut WriteSession),
         &mut *(batch as *mut ReadBatch),
+    )
+}
+
+/// Copies the body of the message that `arrowstream_writer_columns` would send for a batch that was
+/// read, and its nodes and the ranges of its buffers. Returns 0, or the number of the error.
+#[unsafe(no_mangle)]
+pub unsafe extern "C" fn arrowstream_writer_canonical(
+    writer: *mut u8,
+    batch: *mut u8,
+    bytes: &mut [u8],
+    numbers: &mut [i64],
+    out: &mut Canonical,
+) -> u32
+    ghost was: { Option WriteSession × Option ReadBatch }
+    requires* { sem 𝓛 (writer_or_null writer was.0) ∗ sem 𝓛 (batch_or_null batch was.1) }
+    ensures* { ∃ₛ (λ (is : Option WriteSession). ∃ₛ (λ (left : Option ReadBatch).
+        sem 𝓛 (writer_or_null writer is) ∗ (sem 𝓛 (batch_or_null batch left)
+        ∗ ⌜ OfHandles (λ was batch is left. w.CopiesCanonical was batch is left bytes.old bytes.new
+        numbers.old numbers.new out.old out.new result)
+        (CopiesNothing bytes.old bytes.new numbers.old numbers.new out.old out.new result)
+        was.0 was.1 is left ⌝))) }
+{
+    if writer.is_null() {
+        return at_null::no_copy(bytes, numbers, out);
+    }
+    if batch.is_null() {
+        return at_null::no_copy(bytes, numbers, out);
+    }
+    writer_calls::copy_canonical(
+        &mut *(writer as *mut WriteSession),
+        &mut *(batch as *mut ReadBatch),
+        bytes,
+        numbers,
+        out,
     )
 }
 

@@ -1,6 +1,7 @@
 //! What each export of a writer does with it.
 ghost use Rattle.arrowstream_c.specs.WriterCalls as w;
 
+use crate::answers::{CANONICAL_SIZE, Canonical, MISUSE};
 use crate::block::Block;
 use crate::reader_calls::give;
 use ipc_stream_session::{Nesting, ReadBatch, WriteSession};
@@ -104,6 +105,28 @@ pub(crate) fn send_columns(writer: &mut WriteSession, batch: &mut ReadBatch) -> 
     ensures { w.SendsColumns writer.old batch.old writer.new batch.new result }
 {
     writer.send_columns(batch)
+}
+
+pub(crate) fn copy_canonical(
+    writer: &mut WriteSession,
+    batch: &mut ReadBatch,
+    bytes: &mut [u8],
+    numbers: &mut [i64],
+    out: &mut Canonical,
+) -> u32
+    ensures { w.CopiesCanonical writer.old batch.old writer.new batch.new bytes.old bytes.new
+        numbers.old numbers.new out.old out.new result }
+{
+    if out.size < CANONICAL_SIZE {
+        return MISUSE;
+    }
+    match writer.copy_canonical(batch, bytes, numbers) {
+        Ok(room) => {
+            *out = Canonical::of(out.size, room);
+            0
+        }
+        Err(status) => status,
+    }
 }
 
 pub(crate) fn finish(writer: &mut WriteSession) -> u32

@@ -1,5 +1,5 @@
 -- Why a batch whose columns are written is refused.
-use Rattle.std.proofs.Common.{◌≡◌, ◌∙◌, sym, subst, ℕ, List, inl, inr, Result, Ok, Err, IfOk, IfErr}
+use Rattle.std.proofs.Common.{◌≡◌, ◌∙◌, refl, sym, subst, ℕ, List, [], inl, inr, Result, Ok, Err, IfOk, IfErr}
 use Rattle.std.specs.Prelude.{◌⊎◌}
 use Rattle.std.specs.List.{AllByRecursion}
 use Rattle.ipc_model.specs.Fits.{RowFits}
@@ -13,6 +13,7 @@ use Rattle.ipc_encode.specs.Limits.{AreRowsRefused, IsWithin}
 use Rattle.ipc_dict.specs.Noting.{IsIndexOverflow}
 use Rattle.ipc_dict.specs.Sending.{tally_of_rows}
 use Rattle.ipc_dict.specs.Within.{IsOfLimits, IsOverLimit}
+use Rattle.ipc_stream.specs.Canonical.{RefusesRows}
 use Rattle.ipc_stream.specs.Dictionaries.{AreDictionariesWithin}
 use Rattle.ipc_stream.specs.Parts.{AcceptsPairs, RefusesPairs}
 use Rattle.ipc_stream.specs.PendingBatches.{with_rows}
@@ -76,6 +77,26 @@ module _ (limits : Limits) (s : Schema) (b : BatchRows) where
   values_unsent fault (inl (inr (inl e))) is = absurd (let both = sym e ∙ is in cc)
   values_unsent fault (inl (inr (inr e))) is = absurd (let both = sym e ∙ is in cc)
   values_unsent fault (inr e) is = absurd (let both = sym e ∙ is in cc)
+
+-- ---- whatever the pairs
+
+module _ (limits : Limits) (s : Schema) (rows : List (List Value)) where
+  -- each batch with these rows is refused, and the sink did not fail
+  pub all_refused : (fault : WriteFault) → (fault ≡ w.Write → ⊥)
+      → ((pairs : List (List ℕ × List ℕ)) → RefusesBatch limits s (with_rows pairs rows) fault) → RefusesRows limits s rows fault
+  all_refused w.TooLong unsent h = h
+  all_refused w.TooManyRows unsent h = h
+  all_refused w.OutOfMemory unsent h = h
+  all_refused w.BadSchema unsent h = h
+  all_refused (w.Row number cause) unsent h = h
+  all_refused w.DictionaryFull unsent h = h
+  all_refused w.Write unsent h = absurd (unsent refl)
+  all_refused w.Failed unsent h = absurd (let is = (h []).report in cc)
+
+  -- their columns are too long
+  pub lengths_all_refused : (fault : WriteFault) → AreRowsRefused limits s.fields rows fault → RefusesRows limits s rows fault
+  lengths_all_refused fault h = all_refused fault (λ e. subst (λ (f : WriteFault). AreRowsRefused limits s.fields rows f) e h)
+      (λ pairs. lengths_refused limits s (with_rows pairs rows) fault h)
 
 -- ---- what three clauses say of one result
 

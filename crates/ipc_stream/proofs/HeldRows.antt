@@ -17,7 +17,7 @@ use Rattle.ipc_model.specs.declared.table.BatchRows.{BatchRows}
 use Rattle.ipc_model.specs.declared.value.Value.{Value}
 use Rattle.ipc_encode.specs.Limits.{AreRowsRefused, IsWithin}
 use Rattle.ipc_encode.specs.Built.{StoresRows}
-use Rattle.ipc_encode.specs.Numbers.{index_or_zero}
+use Rattle.ipc_encode.specs.Numbers.{known_indices}
 use Rattle.ipc_dict.specs.Noting.{AllFit, place_of_value}
 use Rattle.ipc_dict.specs.declared.entry.TallyEntry.{TallyEntry}
 use Rattle.ipc_dict.specs.Sending.{tally_of_rows}
@@ -33,10 +33,10 @@ use Rattle.ipc_stream.proofs.MessagesWritten.{all_last, misfit}
 pub misfit_last : (fields : List Field) (rows : List (List Value)) (row : List Value) (cause : RowFault) (r : Result Unit RowFault)
     (fault : WriteFault) → AllByRecursion (RowFits fields) rows → (RowFits fields row → IsOk r) → r ≡ verdict (row_faults fields row)
     → r ≡ Err cause → fault ≡ refusal_of cause (length rows) → AreMismatches fields (rows ++ row ∷ []) fault
-misfit_last fields rows row cause r fault fit fits judged failed index_or_zero =
+misfit_last fields rows row cause r fault fit fits judged failed known_indices =
     let count = length-append rows (row ∷ []) in
     misfit fields (rows ++ row ∷ []) (length rows) row cause r fault (omega (arith, count)) (sym (get_or-append_seam rows row [] row))
-    (subst (AllByRecursion (RowFits fields)) (sym (take-append_seam rows (row ∷ []))) fit) fits judged failed index_or_zero
+    (subst (AllByRecursion (RowFits fields)) (sym (take-append_seam rows (row ∷ []))) fit) fits judged failed known_indices
 
 -- a row that is too long or one too many is refused with the batch that it would be in
 pub refused_row : (limits : Limits) (s : Schema) (b : BatchRows) (row : List Value) (fault : WriteFault)
@@ -55,11 +55,11 @@ pub held_row : (limits : Limits) (s : Schema) (b : BatchRows) (row : List Value)
     → HoldsBatch limits s b old → RowFits s.fields row → IsWithin limits s.fields (b.rows ++ row ∷ [])
     → HasCounted limits s.fields (b.rows ++ row ∷ []) new.tally
     → AllFit new.tally.entries → AllWithin new.tally.limits new.tally.fields new.tally.entries
-    → StoresRows (index_or_zero (place_of_value new.tally.entries)) limits s.fields (b.rows ++ row ∷ []) new.builder → new.pairs ≡ old.pairs
+    → StoresRows (known_indices (place_of_value new.tally.entries)) limits s.fields (b.rows ++ row ∷ []) new.builder → new.pairs ≡ old.pairs
     → HoldsBatch limits s (with_row b row) new
 held_row limits s b row old new held fits within tally fit short rows same = record {
   tally = tally;
-  rows = subst (λ (es : List TallyEntry). StoresRows (index_or_zero (place_of_value es)) limits s.fields (b.rows ++ row ∷ []) new.builder)
+  rows = subst (λ (es : List TallyEntry). StoresRows (known_indices (place_of_value es)) limits s.fields (b.rows ++ row ∷ []) new.builder)
       tally.counted rows;
   pairs = same ∙ held.pairs;
   accepted = record {

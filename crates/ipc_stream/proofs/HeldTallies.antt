@@ -20,7 +20,7 @@ use Rattle.ipc_encode.specs.Faults.{write_fault}
 use Rattle.ipc_encode.specs.declared.fault.PushFault.{PushFault}
 use Rattle.ipc_encode.specs.declared.fault.PushFault.TheVariants as push
 use Rattle.ipc_encode.specs.Indices.{AgreeOn}
-use Rattle.ipc_encode.specs.Numbers.{number_or, index_or_zero}
+use Rattle.ipc_encode.specs.Numbers.{number_or, known_indices}
 use Rattle.ipc_encode.proofs.Agreeing.{holds_agreeing}
 use Rattle.ipc_dict.specs.declared.entry.TallyEntry.{TallyEntry}
 use Rattle.ipc_dict.specs.Noting.{IsIndexOverflow, note_all, place_of_value}
@@ -55,7 +55,7 @@ tallied_next fields rows row =
 same_place : (fields : List Field) (rows all : List (List Value)) (ps : Pairs)
     → tally_of_rows fields all ≡ note_all (tally_of_rows fields rows) ps
     → (id : ℤ) (v : Value) (o : Option ℕ) → place_of_value (tally_of_rows fields rows) id v ≡ o → IsSome o
-    → index_or_zero (place_of_value (tally_of_rows fields rows)) id v ≡ index_or_zero (place_of_value (tally_of_rows fields all)) id v
+    → known_indices (place_of_value (tally_of_rows fields rows)) id v ≡ known_indices (place_of_value (tally_of_rows fields all)) id v
 same_place fields rows all ps next id v None e some = absurd (true≢false (sym some))
 same_place fields rows all ps next id v (Some i) e some =
     let now : place_of_value (tally_of_rows fields all) id v ≡ Some i =
@@ -64,11 +64,11 @@ same_place fields rows all ps next id v (Some i) e some =
 
 places_agree : (limits : Limits) (fields : List Field) (rows all : List (List Value)) (ps : Pairs)
     → tally_of_rows fields all ≡ note_all (tally_of_rows fields rows) ps → AllByRecursion (IsFieldWellFormed limits) (entries fields)
-    → AgreeOn (index_or_zero (place_of_value (tally_of_rows fields rows))) (index_or_zero (place_of_value (tally_of_rows fields all)))
+    → AgreeOn (known_indices (place_of_value (tally_of_rows fields rows))) (known_indices (place_of_value (tally_of_rows fields all)))
     fields rows
 places_agree limits fields rows all ps next fine =
-    covered (λ bits signed id value. index_or_zero (place_of_value (tally_of_rows fields rows)) id value
-    ≡ index_or_zero (place_of_value (tally_of_rows fields all)) id value)
+    covered (λ bits signed id value. known_indices (place_of_value (tally_of_rows fields rows)) id value
+    ≡ known_indices (place_of_value (tally_of_rows fields all)) id value)
     limits fields rows fine
     (λ d v named pair. same_place fields rows all ps next d.id v (place_of_value (tally_of_rows fields rows) d.id v) refl
     (pair_placed fields (rows_pairs fields rows) d v named pair))
@@ -76,11 +76,11 @@ places_agree limits fields rows all ps next fine =
 -- and had it before
 places_agreed : (limits : Limits) (fields : List Field) (rows all : List (List Value)) (ps : Pairs)
     → tally_of_rows fields all ≡ note_all (tally_of_rows fields rows) ps → AllByRecursion (IsFieldWellFormed limits) (entries fields)
-    → AgreeOn (index_or_zero (place_of_value (tally_of_rows fields all))) (index_or_zero (place_of_value (tally_of_rows fields rows)))
+    → AgreeOn (known_indices (place_of_value (tally_of_rows fields all))) (known_indices (place_of_value (tally_of_rows fields rows)))
     fields rows
 places_agreed limits fields rows all ps next fine =
-    covered (λ bits signed id value. index_or_zero (place_of_value (tally_of_rows fields all)) id value
-    ≡ index_or_zero (place_of_value (tally_of_rows fields rows)) id value)
+    covered (λ bits signed id value. known_indices (place_of_value (tally_of_rows fields all)) id value
+    ≡ known_indices (place_of_value (tally_of_rows fields rows)) id value)
     limits fields rows fine
     (λ d v named pair. sym (same_place fields rows all ps next d.id v (place_of_value (tally_of_rows fields rows) d.id v) refl
     (pair_placed fields (rows_pairs fields rows) d v named pair)))
@@ -88,29 +88,29 @@ places_agreed limits fields rows all ps next fine =
 -- so that a builder holds the same rows under the indices with what is noted behind them
 rows_behind : (limits : Limits) (fields : List Field) (rows all : List (List Value)) (ps : Pairs) (builder : Builder)
     → tally_of_rows fields all ≡ note_all (tally_of_rows fields rows) ps → AllByRecursion (IsFieldWellFormed limits) (entries fields)
-    → StoresRows (index_or_zero (place_of_value (tally_of_rows fields rows))) limits fields rows builder
-    → StoresRows (index_or_zero (place_of_value (tally_of_rows fields all))) limits fields rows builder
+    → StoresRows (known_indices (place_of_value (tally_of_rows fields rows))) limits fields rows builder
+    → StoresRows (known_indices (place_of_value (tally_of_rows fields all))) limits fields rows builder
 rows_behind limits fields rows all ps builder next fine =
-    holds_agreeing (index_or_zero (place_of_value (tally_of_rows fields rows))) (index_or_zero (place_of_value (tally_of_rows fields all)))
+    holds_agreeing (known_indices (place_of_value (tally_of_rows fields rows))) (known_indices (place_of_value (tally_of_rows fields all)))
     limits fields rows builder
     (places_agree limits fields rows all ps next fine)
 
 -- with one row more
 pub rows_kept : (limits : Limits) (fields : List Field) (rows : List (List Value)) (row : List Value) (builder : Builder)
     → AllByRecursion (IsFieldWellFormed limits) (entries fields)
-    → StoresRows (index_or_zero (place_of_value (tally_of_rows fields rows))) limits fields rows builder
-    → StoresRows (index_or_zero (place_of_value (tally_of_rows fields (rows ++ row ∷ [])))) limits fields rows builder
+    → StoresRows (known_indices (place_of_value (tally_of_rows fields rows))) limits fields rows builder
+    → StoresRows (known_indices (place_of_value (tally_of_rows fields (rows ++ row ∷ [])))) limits fields rows builder
 rows_kept limits fields rows row builder =
     rows_behind limits fields rows (rows ++ row ∷ []) (row_pairs fields row) builder (tallied_next fields rows row)
 
 -- and without it
 pub rows_cut : (limits : Limits) (fields : List Field) (rows : List (List Value)) (row : List Value) (builder : Builder)
     → AllByRecursion (IsFieldWellFormed limits) (entries fields)
-    → StoresRows (index_or_zero (place_of_value (tally_of_rows fields (rows ++ row ∷ [])))) limits fields rows builder
-    → StoresRows (index_or_zero (place_of_value (tally_of_rows fields rows))) limits fields rows builder
+    → StoresRows (known_indices (place_of_value (tally_of_rows fields (rows ++ row ∷ [])))) limits fields rows builder
+    → StoresRows (known_indices (place_of_value (tally_of_rows fields rows))) limits fields rows builder
 rows_cut limits fields rows row builder fine =
-    holds_agreeing (index_or_zero (place_of_value (tally_of_rows fields (rows ++ row ∷ []))))
-    (index_or_zero (place_of_value (tally_of_rows fields rows))) limits fields rows builder
+    holds_agreeing (known_indices (place_of_value (tally_of_rows fields (rows ++ row ∷ []))))
+    (known_indices (place_of_value (tally_of_rows fields rows))) limits fields rows builder
     (places_agreed limits fields rows (rows ++ row ∷ []) (row_pairs fields row) (tallied_next fields rows row) fine)
 
 -- a tally that noted a row has counted one row more

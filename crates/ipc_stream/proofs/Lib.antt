@@ -1,9 +1,11 @@
+pub mod CanonicalCopies
 pub mod MessagesWritten
 pub mod SentBytes
 pub mod GatheredBytes
 pub mod HeldRows
 pub mod FirstRows
 pub mod TablesWritten
+pub mod Replaced
 pub mod RoundTrips
 pub mod InForce
 pub mod PlanFinds

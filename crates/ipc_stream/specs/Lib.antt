@@ -4,6 +4,7 @@ pub mod Writing
 pub mod Texts
 pub mod Writer
 pub mod Parts
+pub mod Canonical
 pub mod Messages
 pub mod PendingBatches
 pub mod RoundTrip

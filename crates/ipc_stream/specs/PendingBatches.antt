@@ -11,7 +11,7 @@ use Rattle.ipc_model.specs.declared.schema.Schema.{Schema}
 use Rattle.ipc_model.specs.declared.table.BatchRows.{BatchRows}
 use Rattle.ipc_model.specs.declared.value.Value.{Value}
 use Rattle.ipc_encode.specs.Built.{StoresRows}
-use Rattle.ipc_encode.specs.Numbers.{index_or_zero}
+use Rattle.ipc_encode.specs.Numbers.{known_indices}
 use Rattle.ipc_dict.specs.Noting.{place_of_value}
 use Rattle.ipc_dict.specs.Sending.{tally_of_rows}
 use Rattle.ipc_dict.specs.TallyState.{TallyState}
@@ -45,7 +45,7 @@ pub record HasCounted (limits : Limits) (fields : List Field) (rows : List (List
 pub record HoldsBatch (limits : Limits) (s : Schema) (b : BatchRows)
     (held : PendingBatch) : Type 0 where
   pub tally : HasCounted limits s.fields b.rows held.tally
-  pub rows : StoresRows (index_or_zero (place_of_value (tally_of_rows s.fields b.rows))) limits
+  pub rows : StoresRows (known_indices (place_of_value (tally_of_rows s.fields b.rows))) limits
       s.fields b.rows
       held.builder
   pub pairs : held.pairs ≡ b.pairs
@@ -59,7 +59,7 @@ pub record HasTaken (limits : Limits) (s : Schema) (b : BatchRows) (row : List V
   pub before : HasCounted limits s.fields b.rows
       (record held.tally { entries = held.tally.before })
   pub rows : StoresRows
-      (index_or_zero (place_of_value (tally_of_rows s.fields (b.rows ++ row ∷ [])))) limits s.fields
+      (known_indices (place_of_value (tally_of_rows s.fields (b.rows ++ row ∷ [])))) limits s.fields
       (b.rows ++ row ∷ [])
       held.builder
   pub pairs : held.pairs ≡ b.pairs

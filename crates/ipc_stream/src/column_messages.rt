@@ -21,7 +21,7 @@ use ipc_model::{Items, Limits, Schema, Text, WriteFault};
 use std::alloc::Global;
 
 // Checks that the rows of a batch fit the schema, and plans what it does with each dictionary.
-fn plan_columns(
+pub(crate) fn plan_columns(
     alloc: Global,
     limits: &Limits,
     schema: &Schema,

@@ -3,6 +3,7 @@ ghost use Rattle.ipc_model.specs.declared.table.BatchRows.{BatchRows};
 ghost use Rattle.ipc_dict_read.specs.ValuesColumns.{dictionary_columns};
 ghost use Rattle.ipc_dict.specs.Sending.{AreCounted, sent_after};
 ghost use Rattle.ipc_stream_read.specs.Stream.{OpensStream};
+ghost use Rattle.ipc_stream.specs.Canonical.{CopiesCanonical, RefusesRows};
 ghost use Rattle.ipc_stream.specs.Dictionaries.{SendsBatch, kept_at_start};
 ghost use Rattle.ipc_stream.specs.PendingBatches.{BelongsTo, HoldsBatch, RefusesPending};
 ghost use Rattle.ipc_stream.specs.PendingBatches.{StaysInStream, no_rows, with_row, with_rows};
@@ -10,14 +11,15 @@ ghost use Rattle.ipc_stream.specs.Writing.{AcceptsBatch, AcceptsSchema, RefusesB
 ghost use Rattle.ipc_stream.specs.Writing.{RefusesSchema, Sends};
 
 use crate::batch_messages::pending_messages;
-use crate::column_messages::column_messages;
+use crate::canonical::{CanonicalSize, copy_parts};
+use crate::column_messages::{column_messages, plan_columns};
 use crate::messages::schema_message;
 use crate::pending_batch::PendingBatch;
 use crate::sending::{send, send_messages};
 use ipc_column::Batch;
 use ipc_device::Sink;
 use ipc_dict::{Dictionaries, Kept, Seed, has_short_messages};
-use ipc_encode::BufferPool;
+use ipc_encode::{BufferPool, SameNumbers, encode_columns};
 use ipc_model::{BatchRows, Items, Limits, Schema, Text, Value, WriteFault};
 use std::alloc::Global;
 use std::marker::Model;
@@ -255,5 +257,42 @@ impl OpenStream {
         plan.commit(&mut self.kept);
         self.pool.keep(messages.into_segments());
         Ok(())
+    }
+
+    // Copies the body of the message that `send_columns` would send for a batch. Nothing is sent.
+    pub(crate) fn copy_canonical(
+        &self,
+        batch: &Batch,
+        bytes: &mut [u8],
+        numbers: &mut [i64],
+    ) -> Result<CanonicalSize, WriteFault>
+        ensures copied { IfOk result (CopiesCanonical self.now.limits self.now.schema self.now.kept
+            batch.now.rows bytes.old bytes.new numbers.old numbers.new) }
+        ensures kept { IfErr result
+            (λ fault. (bytes.new ≡ bytes.old) × (numbers.new ≡ numbers.old)) }
+        ensures refused { IfErr result
+            (RefusesRows self.now.limits self.now.schema batch.now.rows) }
+    {
+        let plan = plan_columns(
+            self.alloc,
+            &self.limits,
+            &self.schema,
+            &self.columns,
+            &self.kept,
+            self.seed,
+            batch,
+        )?;
+        let fields = self.schema.fields.as_slice();
+        let mut pool = BufferPool::new(self.alloc);
+        let parts = encode_columns(
+            self.alloc,
+            &mut pool,
+            &self.limits,
+            fields,
+            batch,
+            &plan,
+            &SameNumbers,
+        )?;
+        Ok(copy_parts(&parts, bytes, numbers))
     }
 }

@@ -1,5 +1,5 @@
 -- What the calls of a writer's session do to its stream, its row and its pending rows.
-use Rattle.std.specs.Prelude.{◌≡◌, ◌≢◌, ◌⊎◌, ◌++◌, ◌≤◌, ◌<◌, ⊤, ℕ, List, [], ◌∷◌, length}
+use Rattle.std.specs.Prelude.{◌≡◌, ◌≢◌, ◌⊎◌, ◌++◌, ◌≤◌, ◌<◌, ⊤, ℕ, ℤ, List, [], ◌∷◌, length}
 use Rattle.std.specs.Prelude.{Option, Some, None, Result, Ok, Err, IsUtf8, string_bytes}
 use Rattle.std.specs.declared.alloc.AllocError.{AllocError}
 use Rattle.std.specs.declared.alloc.Global.{Global}
@@ -16,8 +16,10 @@ use Rattle.ipc_model.specs.declared.table.BatchRows.{BatchRows}
 use Rattle.ipc_model.specs.declared.value.Value.{Value}
 use Rattle.ipc_model.specs.declared.value.Value.TheVariants as value
 use Rattle.ipc_text_json.specs.SchemaTexts.{StatesSchema, StatesNoSchema}
+use Rattle.ipc_stream.specs.Canonical.{CopiesBatch}
 use Rattle.ipc_stream.specs.PendingBatches.{with_rows}
 use Rattle.ipc_stream.specs.Writer.{StartsWriter}
+use Rattle.ipc_stream.specs.declared.canonical.CanonicalSize.{CanonicalSize}
 use Rattle.ipc_stream_session.specs.Cells.{nested_cell}
 use Rattle.ipc_stream_session.specs.Stages.{HasWritten, IsNotOpen, SendsBatch, emptied_stage}
 use Rattle.ipc_stream_session.specs.Tables.{FinishesTable, MovesBytes, StopsAtStart, TableState}
@@ -221,7 +223,7 @@ abbrev pub DropsBatch : WriteSession → WriteSession → Result ⊤ WriteError 
 DropsBatch old new r = OnStage old.stage (λ _. DropsPending old new r) old new r
 
 -- the error of a call whose writer refuses it
-abbrev pub refused_as : Result ⊤ WriteFault → Result ⊤ WriteError
+abbrev pub refused_as : {T : Type 0} → Result T WriteFault → Result T WriteError
 refused_as (Ok x) = Ok x
 refused_as (Err fault) = Err (error.Refused fault)
 
@@ -252,6 +254,19 @@ SendsRead b t old new r = Sends (with_rows b.pairs b.batch.rows) (pending old) t
 -- the call that sends a batch that was read
 abbrev pub SendsColumns : ReadBatch → WriteSession → WriteSession → Result ⊤ WriteError → Type 0
 SendsColumns b old new r = OnStage old.stage (λ t. SendsRead b t old new r) old new r
+
+-- the body of a batch that was read is copied by the writer of an open table, or refused for its
+-- cause; in another state nothing is copied
+abbrev pub CopiesRead : Stage → ReadBatch → List ℕ → List ℕ → List ℤ → List ℤ
+    → Result CanonicalSize WriteError → Type 0
+CopiesRead stage.New b bytes_old bytes_new numbers_old numbers_new r =
+    (r ≡ Err error.Misuse) × (bytes_new ≡ bytes_old) × (numbers_new ≡ numbers_old)
+CopiesRead (stage.Open t) b bytes_old bytes_new numbers_old numbers_new r =
+    (copied : Result CanonicalSize WriteFault)
+    × CopiesBatch t.stream b.batch.rows bytes_old bytes_new numbers_old numbers_new copied
+    × (r ≡ refused_as copied)
+CopiesRead (stage.Ended ready) b bytes_old bytes_new numbers_old numbers_new r =
+    (r ≡ Err (error.Refused w.Failed)) × (bytes_new ≡ bytes_old) × (numbers_new ≡ numbers_old)
 
 -- ---- the end
 
@@ -298,6 +313,21 @@ pub record ReportsStatus (Call : WriteSession → WriteSession → Result ⊤ Wr
   pub answer : Result ⊤ WriteError
   pub called : Call old after answer
   pub report : IsStatusOf after answer new status
+
+-- the result is the room that was taken, or the number of the error, which is kept
+abbrev pub IsRoomOf : WriteSession → Result CanonicalSize WriteError → WriteSession
+    → Result CanonicalSize ℕ → Type 0
+IsRoomOf s (Ok size) new r = (r ≡ Ok size) × (new ≡ s)
+IsRoomOf s (Err e) new r = (r ≡ Err (error_number e))
+    × (new ≡ record s { error = error_after s.error e })
+
+-- a batch that was read is copied (`CopiesRead`), and the result is that of the answer
+pub record ReportsCopy (b : ReadBatch) (bytes_old bytes_new : List ℕ)
+    (numbers_old numbers_new : List ℤ) (old new : WriteSession) (r : Result CanonicalSize ℕ) :
+    Type 0 where
+  pub answer : Result CanonicalSize WriteError
+  pub copied : CopiesRead old.stage b bytes_old bytes_new numbers_old numbers_new answer
+  pub report : IsRoomOf old answer new r
 
 -- the bytes that were written and not taken are `front`, and then those of `stage`: if `front` is
 -- empty, those of `stage` become `front`

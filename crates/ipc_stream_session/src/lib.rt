@@ -24,6 +24,7 @@ pub use cells::Nesting;
 pub use column::{ColumnFacts, DICTIONARY_STEP};
 pub use copy::copy_into;
 pub use field::{FieldFacts, FieldText};
+pub use ipc_stream::CanonicalSize;
 pub use session::ReadSession;
 pub use threads::may_change_threads;
 pub use write_error::WriteError;

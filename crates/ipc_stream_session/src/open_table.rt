@@ -1,6 +1,7 @@
 //! A table whose stream is being written.
 ghost use Rattle.std.specs.Prelude.{◌≡◌, IfErr, IfOk, Some, []};
 ghost use Rattle.ipc_model.specs.RowFaults.{HasShortPaths};
+ghost use Rattle.ipc_stream.specs.Canonical.{CopiesBatch};
 ghost use Rattle.ipc_stream.specs.PendingBatches.{with_rows};
 ghost use Rattle.ipc_stream.specs.Writer.{StartsWriter};
 ghost use Rattle.ipc_stream_session.specs.Tables.{FinishesTable, StopsAtStart, emptied};
@@ -11,7 +12,7 @@ use crate::stage::Stage;
 use ipc_column::Batch;
 use ipc_dict::Seed;
 use ipc_model::{BatchRows, Items, Limits, Schema, Text, WriteFault};
-use ipc_stream::{Memory, Sink, StreamWriter};
+use ipc_stream::{CanonicalSize, Memory, Sink, StreamWriter};
 use std::alloc::Global;
 use std::marker::Model;
 
@@ -110,6 +111,19 @@ impl OpenTable {
         let mut stream = stream;
         let sent = stream.write_columns(batch, pairs);
         (stage_after(stream, schema, &sent), sent)
+    }
+
+    // Copies the body of a batch that was read, as `StreamWriter::copy_canonical`.
+    pub(crate) fn copy_canonical(
+        &self,
+        batch: &Batch,
+        bytes: &mut [u8],
+        numbers: &mut [i64],
+    ) -> Result<CanonicalSize, WriteFault>
+        ensures { CopiesBatch self.now.stream batch.now.rows bytes.old bytes.new numbers.old
+            numbers.new result }
+    {
+        self.stream.copy_canonical(batch, bytes, numbers)
     }
 
     // Returns the bytes that were sent and not taken, and goes on without them.

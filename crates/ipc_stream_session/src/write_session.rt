@@ -9,6 +9,7 @@ use crate::ready::Ready;
 use crate::stage::Stage;
 use crate::write_error::WriteError;
 use ipc_model::{BatchRows, Fault, Items, Limits, Row, Schema, Text, Value, WriteFault, conforms};
+use ipc_stream::CanonicalSize;
 use ipc_text_json::schema_from_json_bytes;
 use ipc_text_temporal::TextFault;
 use std::alloc::{AllocError, Global};
@@ -242,6 +243,20 @@ impl WriteSession {
         Ok(sent?)
     }
 
+    fn try_copy_canonical(
+        &self,
+        batch: &ReadBatch,
+        bytes: &mut [u8],
+        numbers: &mut [i64],
+    ) -> Result<CanonicalSize, WriteError>
+        ensures { w.CopiesRead self.now.stage batch.now bytes.old bytes.new numbers.old numbers.new
+            result }
+    {
+        let table = self.stage.open()?;
+        let (columns, _) = batch.parts();
+        Ok(table.copy_canonical(columns, bytes, numbers)?)
+    }
+
     fn try_finish(&mut self) -> Result<(), WriteError>
         ensures { w.Finishes self.old self.new result }
     {
@@ -423,6 +438,25 @@ impl WriteSession {
     {
         let answer = self.try_send_columns(batch);
         self.report(answer)
+    }
+
+    /// Copies the body of the message that `send_columns` would send for a batch that was read, and
+    /// its nodes and the ranges of its buffers, as `StreamWriter::copy_canonical`. Returns the room
+    /// that they take, or the number of the error: W2 to W8 and W11. Nothing is sent, and the
+    /// writer goes on after each error.
+    pub fn copy_canonical(
+        &mut self,
+        batch: &ReadBatch,
+        bytes: &mut [u8],
+        numbers: &mut [i64],
+    ) -> Result<CanonicalSize, u32>
+        ensures { w.ReportsCopy batch.now bytes.old bytes.new numbers.old numbers.new self.old
+            self.new result }
+    {
+        match self.try_copy_canonical(batch, bytes, numbers) {
+            Ok(size) => Ok(size),
+            Err(error) => Err(self.report(Err(error))),
+        }
     }
 
     /// Sends the end-of-stream mark, and ends the writer. It is a misuse if rows, pairs or cells

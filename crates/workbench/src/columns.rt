@@ -21,6 +21,31 @@ fn ended(writer: StreamWriter<Memory>) -> Result<Vec<u8>, WriteFault> {
     Ok(writer.finish()?.into_bytes())
 }
 
+// Takes the bytes that were written out of the sink.
+fn taken(alloc: Global, writer: &mut StreamWriter<Memory>) -> Vec<u8> {
+    let sink = writer.replace_sink(Memory::new(Vec::new(alloc)));
+    sink.into_bytes()
+}
+
+// The body that a batch has when its columns are written, or why they are not.
+fn copied(
+    alloc: Global,
+    writer: &StreamWriter<Memory>,
+    batch: &Batch,
+) -> Result<Result<Vec<u8>, WriteFault>, AllocError> {
+    let size = match writer.copy_canonical(batch, &mut [], &mut []) {
+        Ok(size) => size,
+        Err(fault) => return Ok(Err(fault)),
+    };
+    let mut body = vec![in alloc; 0xff; size.bytes]?;
+    let count = size.nodes.saturating_add(size.buffers).saturating_mul(2);
+    let mut numbers = vec![in alloc; 0; count]?;
+    match writer.copy_canonical(batch, &mut body, &mut numbers) {
+        Ok(_) => Ok(Ok(body)),
+        Err(fault) => Ok(Err(fault)),
+    }
+}
+
 impl Writers {
     fn start(alloc: Global, schema: &Schema) -> Result<Writers, WriteFault> {
         Ok(Writers {
@@ -30,7 +55,7 @@ impl Writers {
         })
     }
 
-    // Writes a batch in both ways.
+    // Copies the body of a batch, and writes it in both ways.
     fn write(
         &mut self,
         alloc: Global,
@@ -38,9 +63,17 @@ impl Writers {
         pairs: Items<(Text, Text)>,
     ) -> Result<(), Fault> {
         let rows = batch.to_rows(alloc)?;
+        let copied = copied(alloc, &self.by_columns, batch)?;
         let by_columns = self.by_columns.write_columns(batch, pairs.clone()?);
         let by_rows = self.by_rows.write_batch(&BatchRows { pairs, rows });
-        self.same = self.same && by_columns == by_rows;
+        let bytes = taken(alloc, &mut self.by_columns);
+        let same_bytes = bytes.as_slice() == taken(alloc, &mut self.by_rows).as_slice();
+        let ends_so = match (&copied, &by_columns) {
+            (Ok(body), Ok(())) => bytes.as_slice().ends_with(body.as_slice()),
+            (Err(fault), Err(wanted)) => fault == wanted,
+            _ => false,
+        };
+        self.same = self.same && by_columns == by_rows && same_bytes && ends_so;
         Ok(())
     }
 

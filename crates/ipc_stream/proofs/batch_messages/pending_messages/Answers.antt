@@ -11,7 +11,7 @@ use Rattle.ipc_model.specs.declared.value.Value.{Value}
 use Rattle.ipc_column.specs.Dictionaries.{Dictionaries}
 use Rattle.ipc_column.specs.Rows.{Rows}
 use Rattle.ipc_encode.specs.Indices.{FindsRows}
-use Rattle.ipc_encode.specs.Numbers.{new_indices, index_or_zero}
+use Rattle.ipc_encode.specs.Numbers.{new_indices, known_indices}
 use Rattle.ipc_dict_read.specs.DictionariesState.{DictionariesState}
 use Rattle.ipc_dict.specs.declared.entry.TallyEntry.{TallyEntry}
 use Rattle.ipc_dict.specs.declared.kept.KeptEntry.{KeptEntry}
@@ -69,7 +69,7 @@ returns-in_err-dictionaries-clause-only c = λ s b going h.
 pub returns-in_err-front-clause-only : goal.returns-in_err-front-clause-only
 returns-in_err-front-clause-only c = λ s b going h.
     let limits = c.args.limits.now in
-    let known = index_or_zero (place_of_value (tally_of_rows s.fields b.rows)) in
+    let known = known_indices (place_of_value (tally_of_rows s.fields b.rows)) in
     let counts = segmented_counts _ s.fields b.rows (pos c.row_count-count.result) c.in_ok-parts.parts
     (c.in_ok-parts.ensures.segmented known limits s.fields b.rows h.rows) in
     let fault = c.in_err-front.field-0.0 in
@@ -84,7 +84,7 @@ returns-clause-messages c = λ s b going h.
     let limits = c.args.limits.now in
     let es = c.in_ok-plan.plan.entries in
     let os = c.in_ok-plan.plan.numbers in
-    let known = index_or_zero (place_of_value (tally_of_rows s.fields b.rows)) in
+    let known = known_indices (place_of_value (tally_of_rows s.fields b.rows)) in
     let pending = h.tally.counted in
     let same : es ≡ tally_of_rows s.fields b.rows = c.in_ok-plan.ensures.entries ∙ pending in
     let ids = ids_are limits s b c.args.columns.now c.args.kept.now c.args.pending.tally.entries going pending in

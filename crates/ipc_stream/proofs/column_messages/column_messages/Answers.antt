@@ -13,7 +13,7 @@ use Rattle.ipc_column.specs.Dictionaries.{Dictionaries}
 use Rattle.ipc_column.specs.Rows.{HasCounts, Rows}
 use Rattle.ipc_encode.specs.Indices.{FindsRows}
 use Rattle.ipc_encode.specs.Limits.{AreRowsRefused, IsWithin}
-use Rattle.ipc_encode.specs.Numbers.{index_or_zero}
+use Rattle.ipc_encode.specs.Numbers.{known_indices}
 use Rattle.ipc_encode.specs.Segments.{bytes_of_segments}
 use Rattle.ipc_dict.specs.declared.entry.TallyEntry.{TallyEntry}
 use Rattle.ipc_dict.specs.declared.kept.KeptEntry.{KeptEntry}
@@ -141,7 +141,7 @@ returns-clause-messages c =
     let body = bytes_of_segments parts.segments.items in
     let own = c.in_ok-front.front.items ++ body in
     let same : es ≡ tally_of_rows s.fields rows = c.in_ok-plan.ensures.tallied in
-    let known = index_or_zero (index (tally_of_rows s.fields rows) os) in
+    let known = known_indices (index (tally_of_rows s.fields rows) os) in
     let settled = subst (λ (xs : List TallyEntry). AllSettled kept xs os) same c.in_ok-plan.ensures.settled in
     let finds = subst (λ (xs : List TallyEntry). FindsAll kept xs os) same c.in_ok-plan.ensures.finds in
     let can = cans limits s rows c.sends.result.now es os c.requires.well_formed c.in_ok-plan.ensures.fit c.in_ok-plan.ensures.within
@@ -152,7 +152,7 @@ returns-clause-messages c =
     let size : length body ≡ parts.len = ap length laid.body ∙ sym laid.len in
     let read = rw c.as_slice-fields.ensures at c.in_ok-parts.ensures.rows in
     let tells : (ds : Dictionaries) → FindsRows ds known s.fields rows → DenotesRows limits ds s (with_rows pairs rows) own = λ ds found.
-    let here = subst (λ (xs : List TallyEntry). FindsRows ds (index_or_zero (index xs os)) s.fields rows) (sym same) found in
+    let here = subst (λ (xs : List TallyEntry). FindsRows ds (known_indices (index xs os)) s.fields rows) (sym same) found in
     let given = read ds c.requires.well_formed.each c.in_ok-plan.ensures.fit here in
     let numbered = subst (λ (n : ℕ). Rows limits ds s.fields
     (record { length = pos n; nodes = parts.nodes; buffers = parts.buffers }) body rows) (sym c.rows.ensures) given in

@@ -1,5 +1,5 @@
 use Rattle.std.proofs.Common.{sym, subst}
-use Rattle.ipc_encode.specs.Numbers.{index_or_zero}
+use Rattle.ipc_encode.specs.Numbers.{known_indices}
 use Rattle.ipc_dict.specs.Noting.{place_of_value}
 use Rattle.ipc_dict.specs.Sending.{tally_of_rows}
 use Rattle.ipc_dict.specs.TallyState.{TallyState}
@@ -10,7 +10,7 @@ use Rattle.ipc_stream.proofs.pending_batch.PendingBatch.drop_last.Goals as goal
 
 pub returns-clause-holds : goal.returns-clause-holds
 returns-clause-holds c = λ limits s b row well h.
-    let popped = c.pop.ensures.rows (index_or_zero (place_of_value (tally_of_rows s.fields (b.rows ++ row ∷ [])))) limits s.fields b.rows
+    let popped = c.pop.ensures.rows (known_indices (place_of_value (tally_of_rows s.fields (b.rows ++ row ∷ [])))) limits s.fields b.rows
     row h.rows in
     record {
       tally = subst (λ (t : TallyState). HasCounted limits s.fields b.rows t) (sym c.cut.ensures) h.before;

@@ -1,7 +1,7 @@
 use Rattle.std.proofs.Common.{ap, refl, subst, [], List}
 use Rattle.ipc_model.specs.declared.schema.Field.{Field}
 use Rattle.ipc_encode.specs.Built.{StoresRows}
-use Rattle.ipc_encode.specs.Numbers.{index_or_zero}
+use Rattle.ipc_encode.specs.Numbers.{known_indices}
 use Rattle.ipc_dict.specs.Noting.{place_of_value}
 use Rattle.ipc_dict.specs.Sending.{tally_of_rows}
 use Rattle.ipc_dict.specs.TallyState.{TallyState}
@@ -21,9 +21,9 @@ returns-clause-holds c =
         same_fields = ap (λ (t : TallyState). t.fields) fresh;
         counted = ap (λ (t : TallyState). t.entries) fresh;
       };
-      rows = subst (λ (fs : List Field). StoresRows (index_or_zero (place_of_value (tally_of_rows fields []))) limits fs []
+      rows = subst (λ (fs : List Field). StoresRows (known_indices (place_of_value (tally_of_rows fields []))) limits fs []
           c.in_ok-with_pool.field-0)
-          c.as_slice.ensures (c.in_ok-with_pool.ensures.rows (index_or_zero (place_of_value (tally_of_rows fields []))));
+          c.as_slice.ensures (c.in_ok-with_pool.ensures.rows (known_indices (place_of_value (tally_of_rows fields []))));
       pairs = refl;
       accepted = record {
         fit = tt;

@@ -1,7 +1,7 @@
 use Rattle.std.proofs.Common.{refl, sym, subst, List, [], ◌∷◌, ◌++◌}
 use Rattle.std.proofs.lemmas.Result.{err_from_is_err_and}
 use Rattle.ipc_encode.specs.Built.{StoresRows}
-use Rattle.ipc_encode.specs.Numbers.{index_or_zero}
+use Rattle.ipc_encode.specs.Numbers.{known_indices}
 use Rattle.ipc_dict.specs.Noting.{place_of_value}
 use Rattle.ipc_dict.specs.declared.entry.TallyEntry.{TallyEntry}
 use Rattle.ipc_stream.proofs.HeldRows.{held_row, refused_row}
@@ -33,7 +33,7 @@ returns-in-Err-clause-refused c = λ limits s b well h.
     let row = c.args.row.now in
     let next = tally_next limits s.fields b.rows row c.args.self.now.tally c.note.new.self h.tally c.in_ok-note.ensures.noted in
     let rows =
-    subst (λ (es : List TallyEntry). StoresRows (index_or_zero (place_of_value es)) limits s.fields b.rows builder) (sym next.counted)
+    subst (λ (es : List TallyEntry). StoresRows (known_indices (place_of_value es)) limits s.fields b.rows builder) (sym next.counted)
     (rows_kept limits s.fields b.rows row builder well.each h.rows) in
     refused_row limits s b row _ (c.in-Err.ensures.refused limits s.fields b.rows rows)
 
@@ -44,14 +44,14 @@ returns-in-Err-clause-kept c = λ limits s b well h other.
     let row = c.args.row.now in
     let next = tally_next limits fields b.rows row c.args.self.now.tally c.note.new.self h.tally c.in_ok-note.ensures.noted in
     let rows =
-    subst (λ (es : List TallyEntry). StoresRows (index_or_zero (place_of_value es)) limits fields b.rows builder) (sym next.counted)
+    subst (λ (es : List TallyEntry). StoresRows (known_indices (place_of_value es)) limits fields b.rows builder) (sym next.counted)
     (rows_kept limits fields b.rows row builder well.each h.rows) in
     let stays = c.in-Err.ensures.kept limits fields b.rows rows other in
     record {
       tally = tally_cut limits fields b.rows row c.args.self.now.tally c.note.new.self c.cut.new.self h.tally
           c.in_ok-note.ensures.noted c.cut.ensures;
       rows = rows_cut limits fields b.rows row c.push.new.self well.each
-          (subst (λ (es : List TallyEntry). StoresRows (index_or_zero (place_of_value es)) limits fields b.rows c.push.new.self)
+          (subst (λ (es : List TallyEntry). StoresRows (known_indices (place_of_value es)) limits fields b.rows c.push.new.self)
           next.counted stays);
       pairs = h.pairs;
       accepted = h.accepted;
@@ -65,14 +65,14 @@ returns-in-Ok-clause-taken c = λ limits s b well h.
     let noted = c.note.new.self in
     let next = tally_next limits fields b.rows row old.tally noted h.tally c.in_ok-note.ensures.noted in
     let rows =
-    subst (λ (es : List TallyEntry). StoresRows (index_or_zero (place_of_value es)) limits fields b.rows old.builder) (sym next.counted)
+    subst (λ (es : List TallyEntry). StoresRows (known_indices (place_of_value es)) limits fields b.rows old.builder) (sym next.counted)
     (rows_kept limits fields b.rows row old.builder well.each h.rows) in
     let stored = c.in-Ok.ensures.pushed limits fields b.rows rows in
     record {
       fits = λ fit. held_row limits s b row old _ h fit stored.within next c.note.ensures.fits c.note.ensures.within stored refl;
       before = tally_cut limits fields b.rows row old.tally noted (record noted { entries = noted.before }) h.tally
           c.in_ok-note.ensures.noted refl;
-      rows = subst (λ (es : List TallyEntry). StoresRows (index_or_zero (place_of_value es)) limits fields (b.rows ++ row ∷ [])
+      rows = subst (λ (es : List TallyEntry). StoresRows (known_indices (place_of_value es)) limits fields (b.rows ++ row ∷ [])
           c.push.new.self) next.counted stored;
       pairs = h.pairs;
       accepted = h.accepted;
