@@ -1,18 +1,16 @@
 -- How many bytes are written, and how many more may be.
 use Rattle.std.proofs.Common.{◌≡◌, sym, ap, subst, ℕ, ◌+◌, ◌≤◌, List, [], ◌++◌, length, take, arith}
-use Rattle.std.proofs.Common.{Option, Some, None, Ok}
+use Rattle.std.proofs.Common.{Option, Some, None}
 use Rattle.std.proofs.KnownBytes.{Appends-nil, Appends-trans}
 use Rattle.std.proofs.Math.Nat.{min-le_right}
 use Rattle.std.proofs.lemmas.List.{length-append, length-take}
 use Rattle.std.specs.Io.KnownBytes.{Appends}
-use Rattle.std.specs.Prelude.{Bool, true, false}
-use Rattle.ipc_model.specs.declared.table.BatchRows.{BatchRows}
 use Rattle.ipc_model.specs.declared.fault.WriteFault.{WriteFault}
 use Rattle.ipc_model.specs.declared.fault.WriteFault.TheVariants as w
 use Rattle.ipc_model.specs.declared.limits.Limits.{Limits}
 use Rattle.ipc_model.specs.declared.schema.Schema.{Schema}
 use Rattle.ipc_stream.specs.Writer.{Finishes, FinishFails, Writer}
-use Rattle.job_rewrite.specs.Outputs.{AppendsWithin, HasNoRoom, SendsWhole, StartsOutput, Takes, WritesBatch}
+use Rattle.job_rewrite.specs.Outputs.{AppendsWithin, StartsOutput, Takes}
 use Rattle.job_rewrite.specs.Totals.{IsWithin}
 
 pub takes_none : (room : Option ℕ) → Takes room room 0
@@ -107,14 +105,3 @@ module _ (most room : Option ℕ) (limits : Limits) (s : Schema) (old : Option (
       mark_within new (take cut.count cut.x) cut.bytes (omega (arith, long, short))
   within_unfinished new f1 w.Failed h = within_left new h.1
   within_unfinished new f1 fault h = absurd h
-
--- a batch that was written, or for which there was no room
-pub sent_whole : (old : Writer) (room : Option ℕ) (b : BatchRows) (new : Writer) (left : Option ℕ) (whole : Bool) → whole ≡ true
-    → WritesBatch old room b new left (Ok whole) → SendsWhole old room b new left
-sent_whole old room b new left true is h = h
-sent_whole old room b new left false is h = absurd (cc)
-
-pub unsent_whole : (old : Writer) (room : Option ℕ) (b : BatchRows) (new : Writer) (left : Option ℕ) (whole : Bool) → whole ≡ false
-    → WritesBatch old room b new left (Ok whole) → HasNoRoom old room b new
-unsent_whole old room b new left true is h = absurd (cc)
-unsent_whole old room b new left false is h = h

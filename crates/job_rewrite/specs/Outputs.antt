@@ -1,6 +1,6 @@
 -- What the batches of a rewritten stream are written to, and how many bytes of them.
 use Rattle.std.specs.Prelude.{◌≡◌, ◌+◌, ◌≤◌, ℕ, List, [], ◌∷◌, length, Option, Some, None, ⊤}
-use Rattle.std.specs.Prelude.{Bool, true, false, Result, Ok, Err}
+use Rattle.std.specs.Prelude.{false, Result, Ok, Err}
 use Rattle.std.specs.Io.KnownBytes.{Appends}
 use Rattle.ipc_model.specs.declared.fault.WriteFault.{WriteFault}
 use Rattle.ipc_model.specs.declared.fault.WriteFault.TheVariants as w
@@ -12,6 +12,8 @@ use Rattle.ipc_stream.specs.Writer.{StartFails, StartsWriter, Writer}
 use Rattle.ipc_stream.specs.Writing.{AcceptsBatch, NotSentWhole, RefusesBatch, Sent}
 use Rattle.job_rewrite.specs.Rewriting.{StopsAtSchema}
 use Rattle.job_rewrite.specs.Totals.{IsWithin}
+use Rattle.job_rewrite.specs.declared.output.Written.{Written}
+use Rattle.job_rewrite.specs.declared.output.Written.TheVariants as written
 use Rattle.job_rewrite.specs.declared.stop.RewriteStop.{RewriteStop}
 use Rattle.job_rewrite.specs.declared.stop.RewriteStop.TheVariants as stop
 
@@ -73,10 +75,10 @@ pub record RefusesWrite (old : Writer) (room : Option ℕ) (b : BatchRows) (new 
   pub within : AppendsWithin room old.written new.written
 
 -- what a result states about a batch that is written
-abbrev pub WritesBatch : Writer → Option ℕ → BatchRows → Writer → Option ℕ → Result Bool WriteFault
-    → Type 0
-WritesBatch old room b new left (Ok true) = SendsWhole old room b new left
-WritesBatch old room b new left (Ok false) = HasNoRoom old room b new
+abbrev pub WritesBatch : Writer → Option ℕ → BatchRows → Writer → Option ℕ
+    → Result Written WriteFault → Type 0
+WritesBatch old room b new left (Ok written.Whole) = SendsWhole old room b new left
+WritesBatch old room b new left (Ok written.NoRoom) = HasNoRoom old room b new
 WritesBatch old room b new left (Err fault) = RefusesWrite old room b new fault
 
 -- the fault of a writer whose sink is in memory: if that failed, memory ran out

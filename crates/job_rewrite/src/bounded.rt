@@ -1,18 +1,13 @@
 //! A writer whose stream has at most a number of bytes.
-ghost use Rattle.std.specs.Prelude.{◌≡◌, ◌<◌, ◌+◌, ℕ, [], length, take, IfErr, IfOk, IfSome};
-ghost use Rattle.std.specs.Prelude.{MatchResult, None, OnErr, OnOk, Some, false};
-ghost use Rattle.std.specs.Io.KnownBytes.{Appends};
-ghost use Rattle.ipc_device.specs.Failures.{CountsAny, CountsFailures};
-ghost use Rattle.ipc_stream.specs.Writing.{Sends};
-ghost use Rattle.ipc_stream_read.specs.Stream.{EndsStream};
+ghost use Rattle.std.specs.Prelude.{◌≡◌, ◌<◌, ◌+◌, [], IfErr, IfOk, IfSome, None, Some};
 ghost use Rattle.job_rewrite.specs.Outputs.{AppendsWithin, StartsNot, StartsOutput, memory_fault};
 
-use crate::output::Output;
+use crate::output::{Output, Written};
 use crate::stop::RewriteStop;
-use ipc_device::{Failed, Memory, Sink, send_all};
+use ipc_device::{Memory, Sink};
 use ipc_frame::END_OF_STREAM;
 use ipc_model::{Items, Limits, Schema, Text, WriteFault};
-use ipc_stream::{Batch, Seed, StreamWriter};
+use ipc_stream::{Batch, Seed, StreamWriter, send, send_end};
 use std::alloc::Global;
 
 /// A writer whose messages are in memory until it is known that they fit. Then they go to the sink.
@@ -63,36 +58,6 @@ fn room_after(most: u64, count: usize) -> Option<u64>
     ensures none { result ≡ None → most < count + 8 }
 {
     remaining(remaining(most, END_OF_STREAM.len())?, count)
-}
-
-// Sends all of the bytes. If the sink fails, it has taken a beginning of them.
-fn send<W: Sink>(sink: &mut W, bytes: &[u8]) -> Result<(), WriteFault>
-    ensures ok { OnOk result (Appends (W.written sink.old) (W.written sink.new) bytes.now) }
-    ensures err { OnErr result ((n : ℕ)
-        × Appends (W.written sink.old) (W.written sink.new) (take n bytes.now)) }
-    ensures only { IfErr result (λ fault. fault ≡ WriteFault.Write) }
-    ensures failures { CountsAny (W.failures sink.old) (W.failures sink.new) result }
-    ensures called { 0 < length bytes.now
-        → CountsFailures (W.failures sink.old) (W.failures sink.new) result }
-{
-    match send_all(sink, bytes) {
-        Ok(()) => Ok(()),
-        Err(Failed) => Err(WriteFault::Write),
-    }
-}
-
-// Sends the end-of-stream mark, and flushes the sink.
-fn send_end<W: Sink>(sink: &mut W) -> Result<(), WriteFault>
-    ensures sends { Sends EndsStream (W.written sink.old) (W.written sink.new) (W.failures sink.old)
-        (W.failures sink.new) result }
-    ensures handed_on { OnOk result (W.held_back sink.new ≡ Some []) }
-    ensures only { IfErr result (λ fault. fault ≡ WriteFault.Write) }
-{
-    send(sink, &END_OF_STREAM)?;
-    match sink.flush() {
-        Ok(()) => Ok(()),
-        Err(Failed) => Err(WriteFault::Write),
-    }
 }
 
 impl<W: Sink> Bounded<W> {
@@ -147,18 +112,18 @@ impl<W: Sink> Output<W> for Bounded<W> {
 
     ghost room = { λ b. Some b.room };
 
-    fn write(&mut self, batch: &Batch, pairs: Items<(Text, Text)>) -> Result<bool, WriteFault> {
+    fn write(&mut self, batch: &Batch, pairs: Items<(Text, Text)>) -> Result<Written, WriteFault> {
         let result = self.writer.write_columns(batch, pairs);
         let messages = take_messages(self.alloc, &mut self.writer);
         if let Err(fault) = result {
             return Err(memory_fault(fault));
         }
         let Some(room) = remaining(self.room, messages.len()) else {
-            return Ok(false);
+            return Ok(Written::NoRoom);
         };
         send(&mut self.sink, &messages)?;
         self.room = room;
-        Ok(true)
+        Ok(Written::Whole)
     }
 
     fn finish(self) -> Result<W, (WriteFault, W)> {

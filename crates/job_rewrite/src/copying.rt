@@ -15,7 +15,7 @@ ghost use Rattle.job_rewrite.specs.Rewriting.{CountsRewriteFailures};
 use crate::bounded::Bounded;
 use crate::limits::sent_limits;
 use crate::options::{RewriteOptions, Total};
-use crate::output::Output;
+use crate::output::{Output, Written};
 use crate::stop::RewriteStop;
 use ipc_device::{Progress, Sink, Source};
 use ipc_model::{Limits, Schema};
@@ -57,8 +57,9 @@ fn copy_batches<R: Source, W: Sink, O: Output<W>, P: Progress>(
                 if let Some(total) = options.total_above(batches, rows, more) {
                     return Err(RewriteStop::Above(total, batches));
                 }
-                if !output.write(&batch, pairs)? {
-                    return Err(RewriteStop::Above(Total::Bytes, batches));
+                match output.write(&batch, pairs)? {
+                    Written::Whole => {}
+                    Written::NoRoom => return Err(RewriteStop::Above(Total::Bytes, batches)),
                 }
                 batches = batches.saturating_add(1);
                 rows = rows.saturating_add(more);

@@ -8,7 +8,16 @@ use ipc_device::Sink;
 use ipc_model::{Items, Text, WriteFault};
 use ipc_stream::{Batch, StreamWriter};
 
-/// What the messages after that of the schema are written to, and in the end go to a sink.
+/// What became of a batch that was to be written.
+#[derive(Debug, Drop)]
+pub(crate) enum Written {
+    /// All of its messages were sent.
+    Whole,
+    /// Its messages have more bytes than may be written. None of them was sent.
+    NoRoom,
+}
+
+/// Takes the batches and the end of a rewritten stream, whose messages go to a sink.
 pub(crate) trait Output<W: Sink> {
     /// The state of a writer over that sink.
     ghost writer: { Self → Writer };
@@ -16,9 +25,8 @@ pub(crate) trait Output<W: Sink> {
     /// The number of bytes that may be written before the end-of-stream mark, if it is limited.
     ghost room: { Self → Option ℕ };
 
-    /// Writes the messages of a batch with these pairs. Returns `false`, and writes nothing, if
-    /// they have more bytes than may be written.
-    fn write(&mut self, batch: &Batch, pairs: Items<(Text, Text)>) -> Result<bool, WriteFault>
+    /// Writes the messages of a batch with these pairs, if they have room.
+    fn write(&mut self, batch: &Batch, pairs: Items<(Text, Text)>) -> Result<Written, WriteFault>
         requires works { (writer self.old).failed ≡ false }
         requires sink { (writer self.old).failures ≡ 0 }
         ensures writes { WritesBatch (writer self.old) (room self.old)
@@ -44,9 +52,9 @@ impl<W: Sink> Output<W> for StreamWriter<W> {
 
     ghost room = { λ w. None };
 
-    fn write(&mut self, batch: &Batch, pairs: Items<(Text, Text)>) -> Result<bool, WriteFault> {
+    fn write(&mut self, batch: &Batch, pairs: Items<(Text, Text)>) -> Result<Written, WriteFault> {
         self.write_columns(batch, pairs)?;
-        Ok(true)
+        Ok(Written::Whole)
     }
 
     fn finish(self) -> Result<W, (WriteFault, W)> {

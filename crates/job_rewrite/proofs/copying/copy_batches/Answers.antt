@@ -5,7 +5,7 @@ use Rattle.ipc_stream_read.proofs.Reporting.{progressed_none}
 use Rattle.ipc_stream_read.specs.Found.{ReadRows, batch_rows}
 use Rattle.job_rewrite.proofs.Batches.{copied_above, copied_break, copied_end, copied_full, copied_more, copied_none, copied_refused}
 use Rattle.job_rewrite.proofs.Batches.{copied_unmarked}
-use Rattle.job_rewrite.proofs.Bytes.{sent_whole, unsent_whole, within_then}
+use Rattle.job_rewrite.proofs.Bytes.{within_then}
 use Rattle.job_rewrite.proofs.copying.copy_batches.Goals as goal
 
 pub returns-in_err-write-in-Ok-Some-clause-copies : goal.returns-in_err-write-in-Ok-Some-clause-copies
@@ -27,12 +27,12 @@ returns-in-Some-clause-copies g c =
     copied_above _ _ _ _ _ _ _ _ _ _ b found c.in-Some.total c.loop-batch.batches refl
     (c.in-Some.ensures.above b.batches (batch_rows found) b.batches_are b.rows_are (search rules) b.within) next
 
-pub returns-then-not-branch-clause-copies : goal.returns-then-not-branch-clause-copies
-returns-then-not-branch-clause-copies g c =
+pub returns-in-NoRoom-clause-copies : goal.returns-in-NoRoom-clause-copies
+returns-in-NoRoom-clause-copies g c =
     let next = rw c.in-Ok-Some.field-0-is at c.in-Ok-Some.ensures.next in
     let found : ReadRows = (c.in-Ok-Some.batch, c.in-Ok-Some.pairs) in
     copied_full _ _ _ _ _ _ _ _ _ _ c.loop-batch.invariant.copied found _ c.loop-batch.batches refl next
-    (unsent_whole _ _ _ _ _ _ c.if-not-branch.true c.in_ok-write-in-Ok-Some.ensures.writes)
+    (rw c.in-NoRoom.is at c.in_ok-write-in-Ok-Some.ensures.writes)
 
 pub unwrap-requires : goal.unwrap-requires
 unwrap-requires g c = next_ended _ _ _ (rw c.in-Ok-None.field-0-is at c.in-Ok-None.ensures.next) c.end.ensures
@@ -69,7 +69,7 @@ loop-batch-preserved g c = record {
       b.within in
       rw c.reuse.ensures (copied_more _ _ _ _ _ _ _ _ _ _ b found _ _ c.saturating_add-batches.result
       c.saturating_add-rows.result (omega arith) (omega arith) within next (search rules)
-      (sent_whole _ _ _ _ _ _ c.if-not-branch.false c.in_ok-write-in-Ok-Some.ensures.writes));
+      (rw c.in-Whole.is at c.in_ok-write-in-Ok-Some.ensures.writes));
   reported = λ limits start o.
       let next = rw c.in-Ok-Some.field-0-is at c.in-Ok-Some.ensures.next in
       rw c.reuse.ensures (progressed_more start _ _ _ _ _ (c.loop-batch.invariant.reported limits start o) _
@@ -89,8 +89,8 @@ returns-in_err-write-in-Ok-Some-clause-reports g c = λ limits start o.
     rw (p.1, p.2) (progressed_less start _ _ _ _ _ (c.loop-batch.invariant.reported limits start o) _ c.loop-batch.invariant.copied.reading
     (c.in-Ok-Some.batch, c.in-Ok-Some.pairs) next)
 
-pub returns-then-not-branch-clause-reports : goal.returns-then-not-branch-clause-reports
-returns-then-not-branch-clause-reports g c = λ limits start o.
+pub returns-in-NoRoom-clause-reports : goal.returns-in-NoRoom-clause-reports
+returns-in-NoRoom-clause-reports g c = λ limits start o.
     let next = rw c.in-Ok-Some.field-0-is at c.in-Ok-Some.ensures.next in
     progressed_less start _ _ _ _ _ (c.loop-batch.invariant.reported limits start o) _ c.loop-batch.invariant.copied.reading
     (c.in-Ok-Some.batch, c.in-Ok-Some.pairs) next
