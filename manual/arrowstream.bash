@@ -16,7 +16,7 @@ _arrowstream() {
     check) words='--schema --max-metadata --max-body --max-rows --max-fields --max-depth --max-text --max-pairs --require-mark --require-eof --explain --progress --help' ;;
     show) words='--objects --pairs --limit --max-metadata --max-body --max-rows --max-fields --max-depth --max-text --max-pairs --require-mark --require-eof --explain --progress --help' ;;
     to-csv) words='--delimiter --null --limit --max-metadata --max-body --max-rows --max-fields --max-depth --max-text --max-pairs --require-mark --require-eof --explain --progress --help' ;;
-    from-csv) words='--schema --batch --delimiter --null --explain --help' ;;
+    from-csv) words='--schema --batch --delimiter --null --strict --explain --help' ;;
     rewrite) words='--max-output-body --max-batches --max-total-rows --max-total-bytes --max-metadata --max-body --max-rows --max-fields --max-depth --max-text --max-pairs --require-mark --require-eof --explain --progress --help' ;;
     help) words='check show to-csv from-csv rewrite' ;;
   esac

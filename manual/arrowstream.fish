@@ -53,6 +53,7 @@ complete -c arrowstream -n '__fish_seen_subcommand_from from-csv' -l schema -r -
 complete -c arrowstream -n '__fish_seen_subcommand_from from-csv' -l batch -x -d 'Rows of a batch; the last batch may have fewer [default: 65536]'
 complete -c arrowstream -n '__fish_seen_subcommand_from from-csv' -l delimiter -x -d 'Field separator: one ASCII character that occurs in no value; \t is a tab [default: ,]'
 complete -c arrowstream -n '__fish_seen_subcommand_from from-csv' -l null -x -d 'Text that stands for null; to-csv refuses a value equal to it [default: \N]'
+complete -c arrowstream -n '__fish_seen_subcommand_from from-csv' -l strict -d 'Refuse blank lines, quotes inside fields, and a last line without its end'
 complete -c arrowstream -n '__fish_seen_subcommand_from from-csv' -l explain -d 'After the line of a refusal, print what is known about its cause'
 complete -c arrowstream -n '__fish_seen_subcommand_from from-csv' -l help -d 'Print help'
 complete -c arrowstream -n '__fish_seen_subcommand_from rewrite' -l max-output-body -x -d 'Maximum bytes of a message'\''s body in what is written'

@@ -1,6 +1,7 @@
 -- What a text stands for fits a field where it is one of the field's own.
 use Rattle.std.proofs.Common.{◌≡◌, ◌≢◌, ℕ, List, [], ◌∷◌, length, sym, ap, ◌∙◌, subst, Bool, false, Result, Ok, Err}
-use Rattle.std.specs.Prelude.{IfOk, IsTrue}
+use Rattle.std.specs.Prelude.{IfOk, IsTrue, ◌↔◌}
+use Rattle.std.proofs.lemmas.Bool.Decides.{same_from_decides}
 use Rattle.std.proofs.lemmas.Option.{same_Some}
 use Rattle.ipc_model.specs.Fits.{Fits, FitsOwnType, IsOfKind, InnerFit}
 use Rattle.ipc_model.specs.declared.schema.DataType.{DataType}
@@ -8,10 +9,10 @@ use Rattle.ipc_model.specs.declared.schema.DataType.TheVariants as t
 use Rattle.ipc_model.specs.declared.schema.Field.{Field, out-Field}
 use Rattle.ipc_model.specs.declared.value.Value.{Value, out-Value, roll-Value, roll-out-Value}
 use Rattle.ipc_model.specs.declared.value.Value.TheOpen.{Value-F}
-use Rattle.ipc_model.proofs.FitsLemmas.{fits_parts}
+use Rattle.ipc_model.proofs.FitsLemmas.{fits_parts, null_both}
 use Rattle.ipc_text_csv.specs.CsvRows.{StandsFor, ReadsAs}
 use Rattle.ipc_text_csv.specs.declared.dialect.Dialect.{Dialect}
-use Rattle.ipc_text_csv.specs.RowCsv.{null_text, is_nested}
+use Rattle.ipc_text_csv.specs.RowCsv.{allows_null, null_text, is_nested}
 
 -- what a text stands for has no values inside it
 inner_fits : (d : Dialect) (kind : DataType) (fs : List Field) (text : List ℕ) (w : Value-F Value) → StandsFor d kind text w
@@ -67,3 +68,10 @@ read_any d f text new (Ok read) other all = λ flat v h.
     let own = own_of_fits f v h.0 in
     all v (of_kind d (out-Field f).kind (out-Field f).nullable (length (out-Field f).children) text (out-Value v) other own h.1) h.1
 read_any d f text new (Err fault) other all = tt
+
+-- a test of whether null fits a field is that of the field's texts
+pub null_allowed : (f : Field) (r : Bool)
+    → (IsTrue r ↔ FitsOwnType (out-Field f).kind (out-Field f).nullable (length (out-Field f).children) Value-F.Null) → r ≡ allows_null f
+null_allowed f r fits =
+    let both = null_both (out-Field f).nullable (out-Field f).kind in
+    same_from_decides _ (allows_null f) (fits.0, fits.1) (both.0, both.1)

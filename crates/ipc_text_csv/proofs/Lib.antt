@@ -13,3 +13,5 @@ pub mod Reading
 pub mod RoundTrip
 pub mod Records
 pub mod ShortDigits
+pub mod StrictSteps
+pub mod StrictText

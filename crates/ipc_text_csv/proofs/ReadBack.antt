@@ -1,6 +1,6 @@
 -- A header and records read back as what was written.
 use Rattle.std.proofs.Common.{◌≡◌, ◌∙◌, ◌==◌, ℕ, true, false, List, [], ◌∷◌, ◌++◌, length}
-use Rattle.std.proofs.Common.{append-nil, Option, Some, None, Result, Ok, Err, refl, sym, ap, inl, inr, arith, append_assoc}
+use Rattle.std.proofs.Common.{append-nil, Option, Some, None, Result, Ok, Err, refl, sym, ap, subst, inl, inr, arith, append_assoc}
 use Rattle.std.specs.Prelude.{◌⊎◌}
 use Rattle.std.specs.List.{AllByRecursion, list_any}
 use Rattle.std.proofs.lemmas.Bool.{cases_Bool, eqb-true}
@@ -19,7 +19,10 @@ use Rattle.ipc_text_csv.specs.RowCsv.{begins_with_mark, flat_fault, names, names
 use Rattle.ipc_text_csv.specs.RowCsv.{record_of, row_csv, row_texts, unless_fault, with_end}
 use Rattle.ipc_text_csv.specs.declared.dialect.Dialect.{Dialect}
 use Rattle.ipc_text_temporal.specs.declared.fault.TextFault.{TextFault}
+use Rattle.ipc_text_csv.specs.Records.{text_of}
+use Rattle.ipc_text_csv.specs.StrictForm.{IsStrictFrom}
 use Rattle.ipc_text_csv.proofs.CsvBack.{each_back}
+use Rattle.ipc_text_csv.proofs.StrictText.{fields_strict, marked_strict, record_strict}
 use Rattle.ipc_text_csv.proofs.Records.{blank_is, end_of, longer, next_field, no_field, some_byte}
 use Rattle.ipc_text_csv.proofs.RoundTrip.{IsApart, config, field_run, head_of, head_plain}
 use Rattle.ipc_text_csv.proofs.RoundTrip.{quoted_field, rest_run, starts_field, starts_quoted, tail_of, text_head}
@@ -208,6 +211,14 @@ header_back d name more tail = elim (cases_Bool (begins_with_mark name)) [
   | inr plain ↦ rw plain (fields_back d.delimiter name more tail (apart d))
 ]
 
+-- a header is in strict form
+header_strict : (d : Dialect) (name : List ℕ) (more : List (List ℕ)) (tail : List ℕ) → IsStrictFrom (config d.delimiter) st.StartRecord tail
+    → IsStrictFrom (config d.delimiter) st.StartRecord (with_end (names_text d (name ∷ more)) ++ tail)
+header_strict d name more tail h = elim (cases_Bool (begins_with_mark name)) [
+  | inl mark ↦ rw mark (marked_strict d.delimiter name more tail (apart d) h)
+  | inr plain ↦ rw plain (fields_strict d.delimiter name more tail (apart d) h)
+]
+
 -- no byte order mark is dropped of a header
 header_whole : (d : Dialect) (name : List ℕ) (more : List (List ℕ)) (tail : List ℕ)
     → strip_bom (with_end (names_text d (name ∷ more)) ++ tail) ≡ with_end (names_text d (name ∷ more)) ++ tail
@@ -228,23 +239,29 @@ of_texts : (d : Dialect) (r : Result (List (List ℕ)) TextFault) (line : List �
 of_texts d (Ok texts) line e = (texts, refl, right e)
 of_texts d (Err fault) line e = absurd cc
 
+-- a line is in strict form where the text after it is
+abbrev IsStrictAfter : ℕ → List ℕ → List ℕ → Type 0
+IsStrictAfter c line tail = IsStrictFrom (config c) st.StartRecord tail → IsStrictFrom (config c) st.StartRecord (line ++ tail)
+
 some_texts : (d : Dialect) (f : Field) (fs : List Field) (row : List Value) (line tail : List ℕ) (texts : List (List ℕ))
     → flat_fault (f ∷ fs) ≡ None → EachReadsAs d (f ∷ fs) texts row → row_text (writer d.delimiter) texts ≡ line
     → (texts : List (List ℕ)) × (next_record (config d.delimiter) st.StartRecord [] [] (line ++ tail) ≡ Some (texts, st.StartRecord, tail))
-    × RecordReadsAs d (f ∷ fs) texts row
+    × RecordReadsAs d (f ∷ fs) texts row × IsStrictAfter d.delimiter line tail
 some_texts d f fs row line tail [] flat reads e = absurd reads
 some_texts d f fs row line tail (t ∷ ts) flat reads e = (
   t ∷ ts,
   ap (λ (z : List ℕ). next_record (config d.delimiter) st.StartRecord [] [] (z ++ tail)) (sym e)
       ∙ record_back d.delimiter t ts tail (apart d),
   (flat, reads),
+  λ h. subst (λ (z : List ℕ). IsStrictFrom (config d.delimiter) st.StartRecord (z ++ tail)) e
+      (record_strict d.delimiter t ts tail (apart d) h),
 )
 
 -- a row's record reads as the row
 row_back : (d : Dialect) (f : Field) (fs : List Field) (row : List Value) (line tail : List ℕ) → EachTyped (f ∷ fs) row
     → row_csv d (f ∷ fs) row ≡ Ok line
     → (texts : List (List ℕ)) × (next_record (config d.delimiter) st.StartRecord [] [] (line ++ tail) ≡ Some (texts, st.StartRecord, tail))
-    × RecordReadsAs d (f ∷ fs) texts row
+    × RecordReadsAs d (f ∷ fs) texts row × IsStrictAfter d.delimiter line tail
 row_back d f fs row line tail typed e =
     let flat = without_fault (flat_fault (f ∷ fs)) (record_of d (row_texts d (f ∷ fs) row)) line e in
     let has = of_texts d (row_texts d (f ∷ fs) row) line flat.1 in
@@ -254,14 +271,14 @@ rows_back : (d : Dialect) (f : Field) (fs : List Field) (rows : List (List Value
     → AllByRecursion (EachTyped (f ∷ fs)) rows
     → AreWritten d (f ∷ fs) rows text
     → (records : List (List (List ℕ))) × Reached (config d.delimiter) st.StartRecord text records st.StartRecord []
-    × EachRecordReadsAs d (f ∷ fs) records rows
-unfolding Reached
-rows_back d f fs [] text typed none = ([], (refl, none), tt)
+    × EachRecordReadsAs d (f ∷ fs) records rows × IsStrictFrom (config d.delimiter) st.StartRecord text
+unfolding Reached IsStrictFrom
+rows_back d f fs [] text typed none = ([], (refl, none), tt, rw none refl)
 rows_back d f fs (row ∷ rows) text typed (line, more, has, is, written) =
     let one = row_back d f fs row line more typed.0 has in
     let all = rows_back d f fs rows more typed.1 written in
     let first = ap (next_record (config d.delimiter) st.StartRecord [] []) is ∙ one.1 in
-    (one.0 ∷ all.0, ((one.0, st.StartRecord, more), first, refl, all.1), (one.2, all.2))
+    (one.0 ∷ all.0, ((one.0, st.StartRecord, more), first, refl, all.1), (one.2, all.2), rw is (one.3 all.3))
 
 nothing_left : (c : ℕ) → next_record (config c) st.StartRecord [] [] [] ≡ None
 unfolding next_record
@@ -279,15 +296,22 @@ comes_back d (f ∷ fs) rows header text head typed written =
     let e = right (without_fault (flat_fault (f ∷ fs)) _ header head).1 in
     let all = rows_back d f fs rows text typed written in
     let name = (out-Field f).name in
-    let whole : strip_bom (header ++ text) ≡ with_end (names_text d (name ∷ names fs)) ++ text =
-    ap (λ (z : List ℕ). strip_bom (z ++ text)) (sym e) ∙ header_whole d name (names fs) text in (
+    let all_text = with_end (names_text d (name ∷ names fs)) ++ text in
+    let same : header ++ text ≡ all_text = ap (λ (z : List ℕ). z ++ text) (sym e) in
+    let whole : text_of d (header ++ text) ≡ all_text = elim (cases_Bool d.strict) [
+      | inl strict ↦ rw strict same
+      | inr lenient ↦ rw lenient (ap strip_bom same ∙ header_whole d name (names fs) text)
+    ] in (
       all.0,
       (
-        st.StartRecord,
-        [],
-        reached_one d.delimiter _ text (name ∷ names fs) all.0
-            (ap (next_record (config d.delimiter) st.StartRecord [] []) whole ∙ header_back d name (names fs) text) all.1,
-        nothing_left d.delimiter,
+        (
+          st.StartRecord,
+          [],
+          reached_one d.delimiter _ text (name ∷ names fs) all.0
+              (ap (next_record (config d.delimiter) st.StartRecord [] []) whole ∙ header_back d name (names fs) text) all.1,
+          nothing_left d.delimiter,
+        ),
+        λ strict. subst (IsStrictFrom (config d.delimiter) st.StartRecord) (sym same) (header_strict d name (names fs) text all.3),
       ),
       all.2,
     )

@@ -18,11 +18,11 @@ config c = record default_config { delimiter = c }
 abbrev writes : ℕ → WriterBuilder
 writes c = with_delimiter default_writer c
 
-or_left : (a b : Bool) → (a || b) ≡ false → a ≡ false
+pub or_left : (a b : Bool) → (a || b) ≡ false → a ≡ false
 or_left false b e = refl
 or_left true b e = cc e
 
-or_right : (a b : Bool) → (a || b) ≡ false → b ≡ false
+pub or_right : (a b : Bool) → (a || b) ≡ false → b ≡ false
 or_right false b e = e
 or_right true b e = cc e
 
@@ -31,7 +31,7 @@ not_true true n = absurd (n refl)
 not_true false n = refl
 
 -- a byte that calls for no quotes is no mark of the format
-plain_byte : (c b : ℕ) → needs_byte (writes c) b ≡ false
+pub plain_byte : (c b : ℕ) → needs_byte (writes c) b ≡ false
     → ((b == c) ≡ false) × ((b == 34) ≡ false) × ((b == 13) ≡ false) × ((b == 10) ≡ false)
 plain_byte c b e =
     let a = not_true (b == c) (λ t. cc (rw t at e)) in
@@ -56,7 +56,7 @@ quoted_plain : (c : ℕ) (fields : List (List ℕ)) (field : List ℕ) (b : ℕ)
 unfolding next_record
 quoted_plain c fields field b tail n = rw n refl
 
-escaped_plain : (c b : ℕ) (rest : List ℕ) → (b == 34) ≡ false → escaped (writes c) (b ∷ rest) ≡ b ∷ escaped (writes c) rest
+pub escaped_plain : (c b : ℕ) (rest : List ℕ) → (b == 34) ≡ false → escaped (writes c) (b ∷ rest) ≡ b ∷ escaped (writes c) rest
 unfolding escaped
 escaped_plain c b rest n = rw n refl
 

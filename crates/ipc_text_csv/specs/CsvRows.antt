@@ -91,7 +91,8 @@ abbrev pub IsTyped : Field → Value-F Value → Type 0
 IsTyped f Value-F.Null = ⊤
 IsTyped f v = IsOfKind (out-Field f).kind (length (out-Field f).children) v
 
--- a row has one value for each column, which is null or of the column's type
+-- a row has one value for each column, which is null or of the column's type, with what the types
+-- of stored values ensure (`IsStored`)
 abbrev pub EachTyped : List Field → List Value → Type 0
 EachTyped [] [] = ⊤
 EachTyped (f ∷ fs) (v ∷ vs) =

@@ -5,3 +5,5 @@ pub mod CsvRows
 pub mod Records
 pub mod RowReaders
 pub mod ReadBack
+pub mod StrictForm
+pub mod StrictReaders

@@ -1,5 +1,5 @@
-//! The dialects of CSV: the delimiter and the text of null.
-ghost use Rattle.std.specs.Prelude.{◌≡◌, ◌↔◌, IfSome, IsSome};
+//! The dialects of CSV: the delimiter, the text of null, and whether only the strict form is read.
+ghost use Rattle.std.specs.Prelude.{◌≡◌, ◌↔◌, IfSome, IsSome, false};
 ghost use Rattle.std.specs.Char.{is_ascii_hexdigit};
 ghost use Rattle.std.specs.List.{list_all};
 ghost use Rattle.std.specs.Str.{bytes_eq};
@@ -7,8 +7,8 @@ ghost use Rattle.csv.specs.Writing as csv;
 ghost use Rattle.ipc_text_csv.specs.Dialects as spec;
 ghost use Rattle.ipc_text_csv.specs.Dialects.{IsDialect, standard_null, writer};
 
-/// A dialect of CSV: the byte between fields, and the text of null. Each dialect reads back what it
-/// writes.
+/// A dialect of CSV: the byte between fields, the text of null, and whether only the strict form is
+/// read. Each dialect reads back what it writes.
 ///
 /// The delimiter is an ASCII byte. It is none of NUL, line feed, carriage return, the quotation
 /// mark, the digits, the letters, `-`, `.` and `:`.
@@ -20,10 +20,15 @@ ghost use Rattle.ipc_text_csv.specs.Dialects.{IsDialect, standard_null, writer};
 /// - `true` or `false`;
 /// - a text that begins with a digit, or with `-` and a digit;
 /// - one or more pairs of hexadecimal digits, in either case.
+///
+/// The strict form is that of RFC 4180, section 2, where each line has its end, which is CR, LF or
+/// CRLF. No line is blank, no field has a quote in it unless it is in quotes, and nothing follows
+/// the quote that ends a field. A byte order mark belongs to the first field.
 #[derive(Clone, Copy, Debug, PartialEq, Eq)]
 pub struct Dialect<'a> {
     delimiter: u8,
     null: &'a str,
+    strict: bool,
     ghost allowed: { IsDialect delimiter null.now },
 }
 
@@ -80,31 +85,57 @@ fn is_like_value(text: &str) -> bool
 }
 
 impl<'a> Dialect<'a> {
-    /// Returns the dialect of this delimiter and text of null, or `None` if it is not allowed, as
-    /// the type states.
+    /// Returns the dialect of this delimiter and text of null, which is not strict, or `None` if it
+    /// is not allowed, as the type states.
     pub fn new(delimiter: u8, null: &'a str) -> Option<Dialect<'a>>
         ensures allowed { IsSome result ↔ IsDialect delimiter null.now }
         ensures same { IfSome result
-            (λ d. (d.delimiter ≡ delimiter) × (d.null.now ≡ null.now)) }
+            (λ d. (d.delimiter ≡ delimiter) × (d.null.now ≡ null.now) × (d.strict ≡ false)) }
     {
         if is_delimiter(delimiter)
             && !needs_quotes(delimiter, null.as_bytes())
             && !is_like_value(null)
         {
-            return Some(Dialect { delimiter, null });
+            return Some(Dialect {
+                delimiter,
+                null,
+                strict: false,
+            });
         }
         None
     }
 
-    /// Returns the standard dialect: a comma, and `\N` for null.
+    /// Returns the standard dialect: a comma, `\N` for null, and not strict.
     pub fn standard() -> Dialect<'static>
         ensures comma { result.delimiter ≡ 44 }
         ensures null { result.null.now ≡ standard_null }
+        ensures strict { result.strict ≡ false }
     {
         Dialect {
             delimiter: b',',
             null: "\\N",
+            strict: false,
         }
+    }
+
+    /// Returns the dialect, of which only the strict form is read if `strict` is set.
+    pub fn with_strict(self, strict: bool) -> Dialect<'a>
+        ensures delimiter { result.delimiter ≡ self.entry.delimiter }
+        ensures null { result.null.now ≡ self.entry.null.now }
+        ensures strict { result.strict ≡ strict }
+    {
+        Dialect {
+            delimiter: self.delimiter,
+            null: self.null,
+            strict,
+        }
+    }
+
+    /// Returns whether only the strict form is read.
+    pub fn is_strict(&self) -> bool
+        ensures { result ≡ self.now.strict }
+    {
+        self.strict
     }
 
     /// Returns the byte between fields.

@@ -81,16 +81,9 @@ fn push_field(out: &mut Vec<u8>, dialect: Dialect<'_>, field: &[u8]) -> Result<(
     push_joined(out, dialect.delimiter(), b"", field)
 }
 
-/// Returns whether null fits a field: the field is nullable, or its type is Null.
-#[inline(always)]
-pub fn allows_null(field: &Field) -> bool
-    ensures { result ≡ spec.allows_null field.now }
-{
-    field.nullable || matches!(field.kind, DataType::Null)
-}
-
 // Appends null as a field of this column. Errors: X3 with the column's number if null does not fit
 // it; `OutOfMemory`.
+#[tactic(auto, using(crate::proofs::CsvFits::null_allowed))]
 fn push_null(
     out: &mut Vec<u8>,
     dialect: Dialect<'_>,
@@ -102,7 +95,7 @@ fn push_null(
     ensures refused { IfErr result
         (RefusesValue column (own_text dialect.entry field.now Value-F.Null)) }
 {
-    if !allows_null(field) {
+    if !field.fits_own_type(&Value::Null) {
         return Err(TextFault::NoTextForm { column });
     }
     Ok(push_field(out, dialect, dialect.null().as_bytes())?)

@@ -2,10 +2,9 @@
 ghost use Rattle.std.specs.Prelude.{◌≡◌, ◌<◌, ◌+◌, ◌^◌, ℕ, List, [], Option, None, IfErr, IfOk};
 ghost use Rattle.std.specs.Prelude.{OnOk, true, false};
 ghost use Rattle.std.specs.Io.KnownBytes.{Keeps};
-ghost use Rattle.csv.specs.Reading.{reader_source};
 ghost use Rattle.csv.specs.Records.{fields_of};
 ghost use Rattle.ipc_model.specs.declared.value.Value.{Value};
-ghost use Rattle.ipc_text_csv.specs.Records.{IsSetUp, HasReadRecords};
+ghost use Rattle.ipc_text_csv.specs.Records.{IsSetUp, HasReadRecords, input_of};
 ghost use Rattle.ipc_text_csv.specs.RowCsv.{flat_fault};
 ghost use Rattle.ipc_text_csv.specs.RowReaders.{CountsNextFailure, FindsHeader, FindsNoRow};
 ghost use Rattle.ipc_text_csv.specs.RowReaders.{FindsRow, HasRead};
@@ -14,11 +13,10 @@ ghost use Rattle.ipc_text_csv.specs.declared.dialect.Dialect.{Dialect};
 use crate::dialect::Dialect;
 use crate::reader::{check_header, fill_row_from_csv};
 use crate::record_fault::RecordFault;
-use crate::record_reader::{csv_reader, next_record};
-use csv::{ByteRecord, Reader};
+use crate::record_reader::RecordReader;
+use csv::ByteRecord;
 use ipc_device::ReportsFailure;
 use ipc_model::{Items, Row, Schema, Value};
-use ipc_text_temporal::TextFault;
 use std::alloc::Global;
 use std::io::Read;
 use std::mem;
@@ -26,10 +24,10 @@ use std::mem;
 /// Reads the CSV records of an input (RFC 4180): the header, and then the row of each record after
 /// it. It keeps one record and one row, whose memory the next ones use again.
 ///
-/// A byte order mark at the start of the input is dropped, and blank lines are no records. No
-/// clause states what calls after an error read.
+/// A byte order mark at the start of the input is dropped, and blank lines are no records, unless
+/// the dialect is strict. No clause states what calls after an error read.
 pub struct RowReader<R> {
-    reader: Reader<R>,
+    reader: RecordReader<R>,
     fields: ByteRecord,
     row: Row,
     // The number of records after the header that were read.
@@ -45,7 +43,7 @@ impl<R: Read + ReportsFailure> RowReader<R> {
         ensures count { result.count ≡ 0 }
     {
         RowReader {
-            reader: csv_reader(alloc, dialect, input),
+            reader: RecordReader::new(alloc, dialect, input),
             fields: ByteRecord::new(alloc),
             row: Items::new(alloc),
             count: 0,
@@ -56,7 +54,8 @@ impl<R: Read + ReportsFailure> RowReader<R> {
     /// can represent. Returns false if there is no record.
     ///
     /// Errors: `Input` if the device failed; `Text` with X5 or X4 of record 0 if the record, which
-    /// `take_record` returns, is another; `Text` with `OutOfMemory`.
+    /// `take_record` returns, is another, or not in the form of a strict dialect; `Text` with
+    /// `OutOfMemory`.
     pub fn read_header(&mut self, schema: &Schema) -> Result<bool, RecordFault>
         requires flat { flat_fault schema.now.fields ≡ None }
         ensures set_up { (d : Dialect) → IsSetUp d self.old.reader
@@ -64,9 +63,9 @@ impl<R: Read + ReportsFailure> RowReader<R> {
         ensures finds { (d : Dialect) (input : Option (List ℕ)) → IsSetUp d self.old.reader
             → HasReadRecords d R.remaining input [] self.old.reader → self.old.count ≡ 0
             → FindsHeader d R.remaining input schema.now self.new result }
-        ensures device { CountsNextFailure (R.failures (reader_source self.new.reader)) result }
+        ensures device { CountsNextFailure (R.failures (input_of self.new.reader)) result }
     {
-        if !next_record(&mut self.reader, &mut self.fields)? {
+        if !self.reader.next_record(0, &mut self.fields)? {
             return Ok(false);
         }
         check_header(schema, &self.fields)?;
@@ -76,8 +75,9 @@ impl<R: Read + ReportsFailure> RowReader<R> {
     /// Reads the next record after the header into the kept row. Returns false if there is none.
     ///
     /// Errors: `Input` if the device failed; `Text` with the fault of `row_from_csv` if the record,
-    /// which `take_record` returns, reads as no row; the first record after the header has the
-    /// number 1. `Text` with `OutOfMemory`, also for a record above 2^64 - 1, which has no number.
+    /// which `take_record` returns, reads as no row, or with X5 or X4 if it is not in the form of
+    /// a strict dialect; the first record after the header has the number 1. `Text` with
+    /// `OutOfMemory`, also for a record above 2^64 - 1, which has no number.
     pub fn next(
         &mut self,
         alloc: Global,
@@ -99,14 +99,14 @@ impl<R: Read + ReportsFailure> RowReader<R> {
             → (self.new.count ≡ self.old.count + 1) × (self.new.count < 2 ^ 64)) }
         ensures stayed { IfOk result
             (λ has_row. has_row ≡ false → self.new.count ≡ self.old.count) }
-        ensures device { CountsNextFailure (R.failures (reader_source self.new.reader)) result }
+        ensures device { CountsNextFailure (R.failures (input_of self.new.reader)) result }
     {
-        if !next_record(&mut self.reader, &mut self.fields)? {
+        let Some(count) = self.count.checked_add(1) else {
+            return Err(self.reader.stop());
+        };
+        if !self.reader.next_record(count, &mut self.fields)? {
             return Ok(false);
         }
-        let Some(count) = self.count.checked_add(1) else {
-            return Err(RecordFault::Text(TextFault::OutOfMemory));
-        };
         self.count = count;
         fill_row_from_csv(alloc, dialect, schema, count, &self.fields, &mut self.row)?;
         Ok(true)
@@ -129,7 +129,7 @@ impl<R: Read + ReportsFailure> RowReader<R> {
 
     /// Returns the input.
     pub fn into_inner(self) -> R
-        ensures { result ≡ reader_source self.reader }
+        ensures { result ≡ input_of self.reader }
     {
         let RowReader {
             reader,
@@ -137,6 +137,6 @@ impl<R: Read + ReportsFailure> RowReader<R> {
             row: _,
             count: _,
         } = self;
-        reader.into_inner()
+        reader.into_input()
     }
 }

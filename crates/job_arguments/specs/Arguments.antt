@@ -113,7 +113,7 @@ HasGoodSize (job.Check limits mark) = ⊤
 HasGoodSize (job.Show limits objects pairs count mark) = ⊤
 HasGoodSize (job.ToCsv limits dialect count mark) = ⊤
 HasGoodSize (job.Rewrite limits output mark) = ⊤
-HasGoodSize (job.FromCsv path size dialect) = IsBatchSize size
+HasGoodSize (job.FromCsv path size dialect strict) = IsBatchSize size
 
 -- the subcommand of this name, with what was found for its options, asks for this job
 abbrev pub IsJobOf : Text → List Row → Job → Type 0
@@ -132,9 +132,10 @@ IsJobOf name rows (job.ToCsv limits dialect count mark) =
 IsJobOf name rows (job.Rewrite limits output mark) =
     (name ≡ codes "rewrite") × AskForLimits rows limits × AskForOutput rows output
     × HasFlag (codes "require-mark") rows mark
-IsJobOf name rows (job.FromCsv path size dialect) = (name ≡ codes "from-csv")
+IsJobOf name rows (job.FromCsv path size dialect strict) = (name ≡ codes "from-csv")
     × (first_of (codes "schema") rows ≡ Some (string_bytes path))
     × HasNumber (codes "batch") 1 max_slots rows size × AskForDialect rows dialect
+    × HasFlag (codes "strict") rows strict
 
 -- the subcommand of this name has options for limits
 abbrev pub HasLimits : Text → Type 0

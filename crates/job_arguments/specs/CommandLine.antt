@@ -91,8 +91,8 @@ batch = number (codes "batch") 1 max_slots (codes "65536")
 
 -- the subcommand that makes a stream of records of CSV
 abbrev pub from_csv : App
-from_csv = with_rule (with_dialect (with_rule (with_rule (new_app (codes "from-csv"))
-    (needed (codes "schema"))) batch)) explain
+from_csv = with_rule (with_rule (with_dialect (with_rule (with_rule (new_app (codes "from-csv"))
+    (needed (codes "schema"))) batch)) (flag (codes "strict"))) explain
 
 -- a subcommand with the options for the limits of what is written
 abbrev pub with_output_limits : App → App

@@ -88,6 +88,8 @@ pub enum Job {
         batch: u64,
         /// The dialect of CSV.
         dialect: CsvDialect,
+        /// Whether only the strict form of CSV is read.
+        strict: bool,
     },
 }
 
@@ -375,6 +377,7 @@ fn read_from_csv(alloc: Global, options: &ArgMatches<'_>) -> Result<Job, Usage>
         schema: String::from_str(alloc, path)?,
         batch,
         dialect: read_dialect(alloc, options)?,
+        strict: has_flag(options, "strict"),
     })
 }
 

@@ -353,7 +353,10 @@ fn from_csv<'a>(alloc: Global) -> Result<Command<'a>, AllocError>
     let about = "Convert CSV to an Arrow IPC stream";
     let from_csv = command_with_help(alloc, "from-csv", about, FROM_CSV_EXAMPLES);
     let from_csv = from_csv.arg(schema(alloc))?.arg(batch(alloc))?;
-    with_dialect(alloc, from_csv)?.arg(explain(alloc))
+    let help = "Refuse blank lines, quotes inside fields, and a last line without its end";
+    with_dialect(alloc, from_csv)?
+        .arg(flag(alloc, "strict", help))?
+        .arg(explain(alloc))
 }
 
 // The options for the limits of what is written.

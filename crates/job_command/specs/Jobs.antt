@@ -158,7 +158,7 @@ pub record IsSchemaOf (bytes : Option (List ℕ)) (s : Schema) : Type 0 where
 -- the file after a job: only `FromCsv` reads it, and gives it back if it was opened; for any other
 -- job it is as it was
 abbrev pub GivesFileBack : {P : Type 0} → Job → Option P → Option P → Type 0
-GivesFileBack (job.FromCsv path size dialect) old new = is_some new ≡ is_some old
+GivesFileBack (job.FromCsv path size dialect strict) old new = is_some new ≡ is_some old
 GivesFileBack _ old new = new ≡ old
 
 -- how many calls of a file failed; 1 if it was not opened
@@ -220,8 +220,9 @@ Answers (job.ToCsv limits dialect count mark) bytes failures old new written_old
 Answers (job.Rewrite limits output mark) bytes failures old new written_old written_new source_old
     source_new sink_old sink_new r = AnswersRewrite (rewrite_options output mark) limits old new
     written_old written_new source_old source_new sink_old sink_new r
-Answers (job.FromCsv path size dialect) bytes failures old new written_old written_new source_old
-    source_new sink_old sink_new r = (d : Dialect) × IsDialectOf dialect d
+Answers (job.FromCsv path size dialect strict) bytes failures old new written_old written_new
+    source_old source_new sink_old sink_new r = (d : Dialect) × IsDialectOf dialect d
+    × (d.strict ≡ strict)
     × AnswersCsv d bytes failures size old written_old written_new source_old source_new sink_old
     sink_new r
 
@@ -252,7 +253,7 @@ ReportsBatches (job.ToCsv limits dialect count mark) old new reports_old reports
 ReportsBatches (job.Rewrite limits output mark) old new reports_old reports_new r =
     ReportsRewrite limits old new reports_old reports_new r
 ReportsBatches (job.Schema limits) old new reports_old reports_new r = reports_new ≡ reports_old
-ReportsBatches (job.FromCsv path size dialect) old new reports_old reports_new r =
+ReportsBatches (job.FromCsv path size dialect strict) old new reports_old reports_new r =
     reports_new ≡ reports_old
 
 -- what is answered after a stream with this number of messages, if nothing may follow it: one byte

@@ -243,7 +243,11 @@ fn do_job<P: Source, S: Source, W: Sink, N: Progress>(
             schema: _,
             batch,
             dialect,
-        } => return csv_job(alloc, seed, dialect.dialect(), schema, batch, input, sink),
+            strict,
+        } => {
+            let dialect = dialect.dialect().with_strict(strict);
+            return csv_job(alloc, seed, dialect, schema, batch, input, sink);
+        }
     };
     (result, input, sink, schema)
 }
@@ -306,7 +310,7 @@ fn lines_of<S: Source>(alloc: Global, stop: &Stop, input: &Recorder<S>) -> Optio
             fault,
             fields,
             schema,
-        } => explain_record(alloc, fault, schema, fields).ok(),
+        } if fields.position().is_some() => explain_record(alloc, fault, schema, fields).ok(),
         Stop::SchemaText(text) => explain_schema(alloc, text.as_slice()).ok(),
         _ => None,
     }

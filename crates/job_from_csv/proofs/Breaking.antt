@@ -183,12 +183,12 @@ module _ (d : Dialect) {R : Type 0} (remaining : R → Option (List ℕ)) (input
         → StopsFor d input s size old writer.written failures writer.failures (stop_of why refused)
     next_stops none.Input refused refuses = behind stops_here
     next_stops (none.Text x.OutOfMemory) refused refuses = exhausted_behind refl stops_here
-    next_stops (none.Text x.NotFlat) refused refuses = as_row came.records refuses.0 refuses.1 full_sent
-    next_stops (none.Text x.NoColumns) refused refuses = as_row came.records refuses.0 refuses.1 full_sent
-    next_stops (none.Text (x.NoTextForm column)) refused refuses = as_row came.records refuses.0 refuses.1 full_sent
-    next_stops (none.Text (x.BadField number column)) refused refuses = as_row came.records refuses.0 refuses.1 full_sent
-    next_stops (none.Text (x.WrongFieldCount number)) refused refuses = as_row came.records refuses.0 refuses.1 full_sent
-    next_stops (none.Text x.BadSchemaJson) refused refuses = as_row came.records refuses.0 refuses.1 full_sent
+    next_stops (none.Text x.NotFlat) refused refuses = as_row came.records refuses full_sent
+    next_stops (none.Text x.NoColumns) refused refuses = as_row came.records refuses full_sent
+    next_stops (none.Text (x.NoTextForm column)) refused refuses = as_row came.records refuses full_sent
+    next_stops (none.Text (x.BadField number column)) refused refuses = as_row came.records refuses full_sent
+    next_stops (none.Text (x.WrongFieldCount number)) refused refuses = as_row came.records refuses full_sent
+    next_stops (none.Text x.BadSchemaJson) refused refuses = as_row came.records refuses full_sent
 
   -- ---- the batch is refused
 

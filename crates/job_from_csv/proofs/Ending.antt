@@ -5,7 +5,7 @@ use Rattle.std.specs.Prelude.{Bool, IfErr, OnOk, Result}
 use Rattle.std.proofs.KnownBytes.{Appends-trans}
 use Rattle.std.proofs.lemmas.Bool.{false≢true}
 use Rattle.std.proofs.lemmas.List.{append-nil}
-use Rattle.csv.specs.declared.reader.Reader.{Reader}
+use Rattle.ipc_text_csv.specs.declared.record_reader.RecordReader.{RecordReader}
 use Rattle.ipc_model.specs.Limits.{IsStandard}
 use Rattle.ipc_model.specs.declared.fault.WriteFault.{WriteFault}
 use Rattle.ipc_model.specs.declared.fault.WriteFault.TheVariants as w
@@ -33,7 +33,6 @@ use Rattle.ipc_text_csv.specs.Records.{AreRecordsOf, HasReadRecords}
 use Rattle.job_from_csv.specs.Steps.{Came, HoldsLast, IsOut, SendsAll, SendsCsvBatch}
 use Rattle.ipc_text_csv.specs.declared.row_reader.RowReader.{RowReader}
 use Rattle.job_from_csv.specs.declared.stop.FromCsvStop.{FromCsvStop}
-use Rattle.job_from_csv.specs.declared.stop.FromCsvStop.TheVariants as stop
 use Rattle.job_from_csv.proofs.Breaking.{first_out, last_is, send_stops}
 use Rattle.job_from_csv.proofs.Pushing.{holds_accepted}
 use Rattle.ipc_text_csv.proofs.Reading.{are_first}
@@ -106,7 +105,7 @@ none_last (y ∷ front) x is = cc
 
 -- a conversion stops where the schema is refused
 pub start_stops : (d : Dialect) {R : Type 0} (remaining : R → Option (List ℕ)) (input : Option (List ℕ)) (s : Schema) (size : ℕ)
-    (old new : Option (List ℕ)) (f0 f1 : ℕ) (reader : Reader R) (limits : Limits) (fault : WriteFault) → IsStandard limits
+    (old new : Option (List ℕ)) (f0 f1 : ℕ) (reader : RecordReader R) (limits : Limits) (fault : WriteFault) → IsStandard limits
     → 0 < size → flat_fault s.fields ≡ None → HasReadRecords d remaining input (names s.fields ∷ []) reader
     → StartFails limits s old new f0 f1 fault
     → StopsWriting d input s size old new f0 f1 fault
@@ -196,15 +195,15 @@ pub header_stops : (d : Dialect) {R : Type 0} (remaining : R → Option (List �
     → FindsHeader d remaining input s now (Err why) → StopsFor d input s size old old failures failures (stop_of why now.fields)
 header_stops d remaining input s size old failures now none.Input flat finds = before flat (refl, refl)
 header_stops d remaining input s size old failures now (none.Text x.OutOfMemory) flat finds = in_header (exhausted flat refl) (refl, refl)
-header_stops d remaining input s size old failures now (none.Text x.NotFlat) flat finds = as_header finds.0 finds.1 (refl, refl)
-header_stops d remaining input s size old failures now (none.Text x.NoColumns) flat finds = as_header finds.0 finds.1 (refl, refl)
+header_stops d remaining input s size old failures now (none.Text x.NotFlat) flat finds = as_header finds (refl, refl)
+header_stops d remaining input s size old failures now (none.Text x.NoColumns) flat finds = as_header finds (refl, refl)
 header_stops d remaining input s size old failures now (none.Text (x.NoTextForm column)) flat finds =
-    as_header finds.0 finds.1 (refl, refl)
+    as_header finds (refl, refl)
 header_stops d remaining input s size old failures now (none.Text (x.BadField number column)) flat finds =
-    as_header finds.0 finds.1 (refl, refl)
+    as_header finds (refl, refl)
 header_stops d remaining input s size old failures now (none.Text (x.WrongFieldCount number)) flat finds =
-    as_header finds.0 finds.1 (refl, refl)
-header_stops d remaining input s size old failures now (none.Text x.BadSchemaJson) flat finds = as_header finds.0 finds.1 (refl, refl)
+    as_header finds (refl, refl)
+header_stops d remaining input s size old failures now (none.Text x.BadSchemaJson) flat finds = as_header finds (refl, refl)
 
 -- what is answered of the whole conversion, at Ok and at a refusal
 pub answers_ok : (d : Dialect) (input : Option (List ℕ)) (s : Schema) (size : ℕ) (old new : Option (List ℕ)) (f0 f1 : ℕ)

@@ -16,7 +16,8 @@ use Rattle.ipc_model.specs.declared.limits.Limits.{Limits}
 use Rattle.ipc_model.specs.Layouts.{layout}
 use Rattle.ipc_column.specs.Shapes.{Shape, bare, field, field_shape, shape_step, shape_of}
 use Rattle.ipc_encode.specs.Buffers.{child_values, row_columns}
-use Rattle.ipc_encode.specs.Limits.{HasLongItems, HasLongNode, IsTooMany, SomeColumn}
+use Rattle.ipc_encode.specs.Buffers.{SomeColumn}
+use Rattle.ipc_encode.specs.Limits.{HasLongItems, HasLongNode, IsTooMany}
 use Rattle.ipc_encode.proofs.Steps.{below_none, cells_length}
 use Rattle.ipc_text_csv.specs.RowCsv.{flat_fault, is_nested}
 

@@ -1,5 +1,5 @@
 -- What is read from an input of CSV and sent to the sink of its stream.
-use Rattle.std.specs.Prelude.{◌≡◌, ◌≢◌, ℕ, ◌+◌, List, [], ◌∷◌, ◌++◌, length, Option, Some, None}
+use Rattle.std.specs.Prelude.{◌≡◌, ◌≢◌, ℕ, List, [], ◌∷◌, ◌++◌, Option, Some, None}
 use Rattle.std.specs.Prelude.{Result, Ok, Err, ⊤}
 use Rattle.csv.specs.Records.{fields_of}
 use Rattle.ipc_model.specs.Limits.{IsStandard}
@@ -15,8 +15,8 @@ use Rattle.ipc_stream_read.specs.declared.end.End.TheVariants.{Closed, Mark}
 use Rattle.ipc_stream_read.specs.Stream.{Denotes}
 use Rattle.ipc_stream.specs.Dictionaries.{kept_at_start}
 use Rattle.ipc_stream.specs.Writing.{AcceptsTable, BreaksOff, Sent}
-use Rattle.ipc_text_csv.specs.CsvRows.{IsHeaderFault, IsRecordFault}
 use Rattle.ipc_text_csv.specs.RowCsv.{flat_fault, names}
+use Rattle.ipc_text_csv.specs.RowReaders.{RefusesHeaderRecord, RefusesRowRecord}
 use Rattle.ipc_text_temporal.specs.declared.fault.TextFault.{TextFault}
 use Rattle.ipc_text_temporal.specs.declared.fault.TextFault.TheVariants.{OutOfMemory}
 use Rattle.ipc_text_temporal.specs.declared.fault.TextFault.TheVariants.{WrongFieldCount}
@@ -81,18 +81,15 @@ pub data RefusesHeader (d : Dialect) (input : Option (List ℕ)) (fields : List 
       → RefusesHeader d input fields fault
   exhausted : flat_fault fields ≡ None → fault ≡ OutOfMemory → RefusesHeader d input fields fault
 
--- a record of the input has these texts and is refused. It is the header, record 0, with other
--- names, and nothing was sent; or it is the record after these, and does not read as a row, and the
--- batches that these fill were sent
+-- a record of the input has these texts and is refused. It is the header, record 0, and nothing was
+-- sent; or it is the record after these, and the batches that these fill were sent
 pub data RefusesRecord (d : Dialect) (input : Option (List ℕ)) (s : Schema) (size : ℕ)
     (old new : Option (List ℕ)) (failures_old failures_new : ℕ) (texts : List (List ℕ))
     (fault : TextFault) : Type 0 where
-  as_header : AreFirstRecordsOf d input (texts ∷ []) → IsHeaderFault s.fields texts fault
-      → Unsent old new failures_old failures_new
+  as_header : RefusesHeaderRecord d input s texts fault → Unsent old new failures_old failures_new
       → RefusesRecord d input s size old new failures_old failures_new texts fault
   as_row : (before : List (List (List ℕ)))
-      → AreFirstRecordsOf d input (names s.fields ∷ before ++ texts ∷ [])
-      → IsRecordFault d (length before + 1) s.fields texts fault
+      → RefusesRowRecord d input s before texts fault
       → SendsFull d s size before old new failures_old failures_new
       → RefusesRecord d input s size old new failures_old failures_new texts fault
 

@@ -1,6 +1,6 @@
 -- The progress of a conversion.
-use Rattle.std.specs.Prelude.{◌≡◌, ℕ, ◌<◌, ◌+◌, Bool, true, false, List, [], ◌∷◌, ◌++◌, ⊤}
-use Rattle.std.specs.Prelude.{flat_map, length, Option, None, Result, Ok, Err}
+use Rattle.std.specs.Prelude.{◌≡◌, ℕ, ◌<◌, Bool, true, false, List, [], ◌∷◌, ◌++◌}
+use Rattle.std.specs.Prelude.{flat_map, length, Option, Result, Ok, Err}
 use Rattle.std.specs.List.{AllByRecursion}
 use Rattle.ipc_model.specs.Limits.{IsStandard}
 use Rattle.ipc_model.specs.declared.schema.Schema.{Schema}

@@ -4,7 +4,7 @@ ghost use Rattle.std.specs.Prelude.{IfErr, None, OnOk};
 ghost use Rattle.ipc_model.specs.declared.fault.WriteFault.{WriteFault};
 ghost use Rattle.ipc_stream.specs.PendingBatches.{HoldsBatch, no_rows};
 ghost use Rattle.job_from_csv.specs.declared.stop.FromCsvStop.TheVariants as stop;
-ghost use Rattle.ipc_text_csv.specs.Records.{HasReadRecords, IsSetUp};
+ghost use Rattle.ipc_text_csv.specs.Records.{HasReadRecords, IsSetUp, input_of};
 ghost use Rattle.ipc_text_csv.specs.RowCsv.{flat_fault};
 ghost use Rattle.job_from_csv.specs.Conversion.{AnswersConversion, Converts, IsLeftToRefuse};
 ghost use Rattle.job_from_csv.specs.Conversion.{StopsFor};
@@ -12,7 +12,6 @@ ghost use Rattle.job_from_csv.specs.Steps.{BeginsConversion, Came, PushesRows, S
 ghost use Rattle.job_from_csv.specs.Steps.{SendsRecords};
 ghost use Rattle.job_from_csv.specs.Stops.{CountsInputFailure, CountsSinkFailure};
 ghost use Rattle.job_from_csv.specs.Stops.{CountsSourceFailure};
-ghost use Rattle.csv.specs.Reading.{reader_source};
 
 use crate::stop::{FromCsvStop, stop_at};
 use ipc_device::{ReportsFailure, Sink, Source, SourceReader};
@@ -35,8 +34,8 @@ fn push_rows<R: Read + ReportsFailure, W: Sink>(
 ) -> Result<bool, FromCsvStop>
     requires some { 0 < size }
     requires set_up { IsSetUp dialect rows.old.reader }
-    requires works { R.failures (reader_source rows.old.reader) ≡ 0 }
-    ensures device { CountsInputFailure (R.failures (reader_source rows.new.reader)) result }
+    requires works { R.failures (input_of rows.old.reader) ≡ 0 }
+    ensures device { CountsInputFailure (R.failures (input_of rows.new.reader)) result }
     ensures set_up { OnOk result (IsSetUp dialect.entry rows.new.reader) }
     ensures counted { OnOk result (rows.old.count ≤ rows.new.count) }
     ensures same_reference { batch.new.writer.ghost_name ≡ batch.old.writer.ghost_name }
@@ -75,8 +74,8 @@ fn send_batch<R: Read + ReportsFailure, W: Sink>(
 ) -> Result<bool, FromCsvStop>
     requires some { 0 < size }
     requires set_up { IsSetUp dialect rows.old.reader }
-    requires works { R.failures (reader_source rows.old.reader) ≡ 0 }
-    ensures device { CountsInputFailure (R.failures (reader_source rows.new.reader)) result }
+    requires works { R.failures (input_of rows.old.reader) ≡ 0 }
+    ensures device { CountsInputFailure (R.failures (input_of rows.new.reader)) result }
     ensures set_up { OnOk result (IsSetUp dialect.entry rows.new.reader) }
     ensures counted { OnOk result (rows.old.count ≤ rows.new.count) }
     ensures sends { (input old : Option (List ℕ)) (failures : ℕ)
@@ -103,8 +102,8 @@ fn send_records<R: Read + ReportsFailure, W: Sink>(
 ) -> Result<(), FromCsvStop>
     requires some { 0 < size }
     requires set_up { IsSetUp dialect rows.old.reader }
-    requires works { R.failures (reader_source rows.old.reader) ≡ 0 }
-    ensures device { CountsInputFailure (R.failures (reader_source rows.new.reader)) result }
+    requires works { R.failures (input_of rows.old.reader) ≡ 0 }
+    ensures device { CountsInputFailure (R.failures (input_of rows.new.reader)) result }
     ensures sends { (input old : Option (List ℕ)) (failures : ℕ)
         → BeginsConversion dialect.entry R.remaining input schema.now old failures rows.old
         stream.old
@@ -138,7 +137,7 @@ fn send_stream<R: Read + ReportsFailure, W: Sink>(
     requires flat { flat_fault schema.now.fields ≡ None }
     requires set_up { IsSetUp dialect rows.old.reader }
     requires first { rows.old.count ≡ 0 }
-    ensures device { CountsInputFailure (R.failures (reader_source rows.new.reader)) result.0 }
+    ensures device { CountsInputFailure (R.failures (input_of rows.new.reader)) result.0 }
     ensures converts { (input : Option (List ℕ))
         → HasReadRecords dialect.entry R.remaining input [] rows.old.reader
         → AnswersConversion dialect.entry input schema.now batch (W.written sink)
@@ -173,9 +172,10 @@ fn send_stream<R: Read + ReportsFailure, W: Sink>(
 /// `batch` rows. The last batch may have fewer. Returns `input` and `sink` with the result. `batch`
 /// must be from 1 to 2^31 - 1.
 ///
-/// A byte order mark at the start is dropped, and blank lines are no records. The first record is
-/// the header, with the names of the columns in order. Each record after it becomes a row, as
-/// `ipc_text::row_from_csv` reads it. Without records the stream has no batches.
+/// A byte order mark at the start is dropped, and blank lines are no records, unless the dialect is
+/// strict. The first record is the header, with the names of the columns in order. Each record
+/// after it becomes a row, as `ipc_text::row_from_csv` reads it. Without records the stream has no
+/// batches.
 ///
 /// The stream is within `Limits::standard()`. The schema is sent when the header was checked. Each
 /// batch is sent after the dictionaries that it needs; if a later record is refused, all full
@@ -193,6 +193,8 @@ fn send_stream<R: Read + ReportsFailure, W: Sink>(
 /// - `Text` X5 of record 0: there is no record, and nothing was sent.
 /// - `Record` X5 and X4 of record 0, the header: before anything is sent.
 /// - `Record` X5 and X4 of a later record, counted from 1: it is no row of the schema.
+/// - `Record` X5 of a blank line, and X4 of a field that is not in strict form or in which the
+///   input ends, if the dialect is strict: the record then has the fields before it.
 /// - `Text` `OutOfMemory`: memory for a record or its row ran out, or there are more than 2^64 - 1
 ///   records after the header.
 /// - `Write` W1 and W6: the schema is refused, as in `StreamWriter::start`.

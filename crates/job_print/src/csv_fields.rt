@@ -14,8 +14,8 @@ ghost use Rattle.job_print.specs.Fields.{AddsField};
 ghost use Rattle.job_print.specs.NullTexts.{BeginsApart};
 
 use crate::text_buffer::TextBuffer;
-use ipc_model::Field;
-use ipc_text_csv::{Dialect, allows_null};
+use ipc_model::{Field, Value};
+use ipc_text_csv::Dialect;
 use ipc_text_temporal::TextFault;
 use std::alloc::AllocError;
 
@@ -108,6 +108,7 @@ fn put_null_text(out: &mut TextBuffer, dialect: &Dialect<'_>) -> Result<(), Allo
 
 /// Writes null. Returns X3 if the field does not allow it.
 #[inline(always)]
+#[tactic(auto, using(ipc_text_csv::proofs::CsvFits::null_allowed))]
 pub(crate) fn put_null(
     out: &mut TextBuffer,
     dialect: &Dialect<'_>,
@@ -118,7 +119,7 @@ pub(crate) fn put_null(
     ensures { AddsField dialect.now.delimiter column (own_text dialect.now field.now Value-F.Null)
         out.old.text out.new.text result }
 {
-    if !allows_null(field) {
+    if !field.fits_own_type(&Value::Null) {
         return Err(TextFault::NoTextForm { column });
     }
     Ok(put_null_text(out, dialect)?)

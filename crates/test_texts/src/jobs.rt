@@ -127,6 +127,7 @@ fn job_of(alloc: Global, asked: JobKind) -> Result<Job, AllocError>
             schema: String::new(alloc),
             batch: 2,
             dialect: commas(alloc)?,
+            strict: false,
         },
     })
 }

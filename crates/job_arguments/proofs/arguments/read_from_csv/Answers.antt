@@ -17,4 +17,5 @@ returns-clause-asked c = (
   text_found _ _ _ _ c.get_str.ensures (search rules),
   c.in-Some-number_option.ensures.some,
   c.in_ok-read_dialect.ensures.asked,
+  c.has_flag.ensures,
 )

@@ -1,4 +1,4 @@
-use Rattle.std.proofs.Common.{refl}
+use Rattle.std.proofs.Common.{refl, ◌∙◌}
 use Rattle.job_command.proofs.running.do_job.Goals.{in-Schema, in-Check, in-Show, in-ToCsv, in-Rewrite}
 use Rattle.job_command.proofs.running.do_job.Goals as goal
 
@@ -17,11 +17,15 @@ returns-clause-answers g c = elim c.match-job.branch [
 ]
 
 pub returns-in-FromCsv-clause-answers : goal.returns-in-FromCsv-clause-answers
-returns-in-FromCsv-clause-answers g c = rw c.in-FromCsv.is (
-  c.dialect-in-FromCsv.result,
-  (c.dialect-in-FromCsv.ensures.delimiter, c.dialect-in-FromCsv.ensures.null),
-  c.csv_job.ensures.answers,
-)
+returns-in-FromCsv-clause-answers g c =
+    let with = c.with_strict-dialect.ensures in
+    let plain = c.dialect-in-FromCsv.ensures in
+    rw c.in-FromCsv.is (
+      c.with_strict-dialect.result,
+      (with.delimiter ∙ plain.delimiter, with.null ∙ plain.null),
+      with.strict,
+      c.csv_job.ensures.answers,
+    )
 
 pub returns-clause-reports : goal.returns-clause-reports
 returns-clause-reports g c = elim c.match-job.branch [

@@ -1,8 +1,7 @@
 use Rattle.std.proofs.Common.{◌≡◌, ◌<◌, ◌≤◌, ℕ, List, [], ◌∷◌, length, Option}
-use Rattle.csv.specs.Reading.{reader_source}
 use Rattle.ipc_model.specs.declared.value.Value.{Value}
 use Rattle.ipc_stream.specs.PendingBatches.{HoldsBatch, no_rows}
-use Rattle.ipc_text_csv.specs.Records.{IsSetUp}
+use Rattle.ipc_text_csv.specs.Records.{IsSetUp, input_of}
 use Rattle.job_from_csv.specs.Steps.{Came, HoldsLeftover}
 use Rattle.job_from_csv.proofs.convert.push_rows.Given as goal
 
@@ -15,4 +14,4 @@ invariant-loop g l =
     → HoldsBatch l.fn.batch.writer.now.limits l.fn.batch.writer.now.schema (no_rows []) l.fn.batch.batch
     → (left : List (List Value)) × HoldsLeftover l.dialect g.R.Read.remaining input l.schema l.size old failures l.rows l.batch.writer.now
     l.batch.batch left
-    × (length left ≡ l.counter)) × (g.R.ReportsFailure.failures (reader_source l.rows.reader) ≡ 0)
+    × (length left ≡ l.counter)) × (g.R.ReportsFailure.failures (input_of l.rows.reader) ≡ 0)

@@ -1,6 +1,5 @@
 use Rattle.std.proofs.Common.{◌≡◌, ◌-◌, ◌^◌, ℕ, List, [], Option}
-use Rattle.csv.specs.Reading.{reader_source}
-use Rattle.ipc_text_csv.specs.Records.{IsSetUp}
+use Rattle.ipc_text_csv.specs.Records.{IsSetUp, input_of}
 use Rattle.job_from_csv.specs.Steps.{BeginsConversion, Came}
 use Rattle.job_from_csv.proofs.convert.send_records.Given as goal
 
@@ -11,7 +10,7 @@ invariant-loop-has_row g l =
     × ((input old : Option (List ℕ)) (failures : ℕ) → BeginsConversion l.dialect g.R.Read.remaining input l.schema old failures l.fn.rows
     l.fn.stream
     → Came l.dialect g.R.Read.remaining input l.schema l.size old failures l.rows l.stream [])
-    × (g.R.ReportsFailure.failures (reader_source l.rows.reader) ≡ 0)
+    × (g.R.ReportsFailure.failures (input_of l.rows.reader) ≡ 0)
 
 -- each batch takes records, of which no more are counted than an integer of 64 bits holds
 abbrev pub decreases-loop-has_row : goal.decreases-loop-has_row
