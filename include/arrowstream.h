@@ -405,6 +405,23 @@ uint32_t arrowstream_writer_canonical(arrowstream_writer *writer, const arrowstr
                                       uint8_t *bytes, size_t length, int64_t *numbers,
                                       size_t count, arrowstream_canonical *out);
 
+/* Returns how often a dictionary with this id was sent: 0 before the schema, after the end, and at
+ * NULL. While it stays the same, so do the values of the dictionary. */
+uint64_t arrowstream_writer_times_sent(arrowstream_writer *writer, int64_t id);
+
+/* Copies the values of the last dictionary with this id that the writer sent, each as a row of one
+ * column, as arrowstream_writer_canonical copies the columns of a batch. The indices that it copies
+ * for a batch count these values once arrowstream_writer_columns was called with the batch.
+ *
+ * Sets `out` to the room that all of it takes, with one node, or to zeros if none with this id was
+ * sent. If `length` or `count` is less than that takes, nothing is copied.
+ *
+ * Nothing is sent, and the writer goes on after each refusal. Returns ARROWSTREAM_OK, or
+ * ARROWSTREAM_WRITE + 6, 8 or 11; then nothing is copied, and `out` is left as it is. */
+uint32_t arrowstream_writer_canonical_values(arrowstream_writer *writer, int64_t id,
+                                             uint8_t *bytes, size_t length, int64_t *numbers,
+                                             size_t count, arrowstream_canonical *out);
+
 /* Sends the end-of-stream mark, and ends the writer. Returns ARROWSTREAM_MISUSE also if rows or
  * pairs were not sent, or a row or its list or struct has not ended. */
 uint32_t arrowstream_writer_finish(arrowstream_writer *writer);

@@ -241,7 +241,7 @@ static void call_at_null(void) {
     for (size_t at = 0; at < count; at++)
         if (make(NULL, &steps[at]) != ARROWSTREAM_MISUSE) stop("another status at NULL", at);
     if (arrowstream_writer_columns(NULL, NULL) != ARROWSTREAM_MISUSE) stop("columns at NULL", 0);
-    if (arrowstream_writer_ready(NULL) != 0
+    if (arrowstream_writer_ready(NULL) != 0 || arrowstream_writer_times_sent(NULL, 0) != 0
         || arrowstream_writer_take(NULL, bytes, sizeof bytes) != 0)
         stop("bytes of NULL", 0);
     if (arrowstream_writer_line(NULL, bytes, sizeof bytes, &wanted) != ARROWSTREAM_MISUSE
@@ -337,15 +337,79 @@ static canonical canonical_of(arrowstream_writer *writer, const arrowstream_batc
     return copy;
 }
 
-/* Takes all bytes at once, and writes them. They end with the body that was copied. */
-static void take_body(arrowstream_writer *writer, const canonical *copy) {
-    size_t ready = arrowstream_writer_ready(writer), body = copy->room.bytes;
-    uint8_t *bytes = __real_malloc(ready);
-    if (!bytes || arrowstream_writer_take(writer, bytes, ready) != ready) stop("no bytes", ready);
-    if (ready < body || memcmp(bytes + ready - body, copy->bytes, body) != 0)
-        stop("another body", ready);
-    if (fwrite(bytes, 1, ready, stdout) != ready) stop("no output", ready);
-    free(bytes);
+/* Takes all bytes at once, and writes them. They end with the body that was copied. The caller
+ * frees them. */
+static uint8_t *take_body(arrowstream_writer *writer, const canonical *copy, size_t *ready) {
+    size_t count = arrowstream_writer_ready(writer), body = copy->room.bytes;
+    uint8_t *bytes = __real_malloc(count);
+    if (!bytes || arrowstream_writer_take(writer, bytes, count) != count) stop("no bytes", count);
+    if (count < body || memcmp(bytes + count - body, copy->bytes, body) != 0)
+        stop("another body", count);
+    if (fwrite(bytes, 1, count, stdout) != count) stop("no output", count);
+    *ready = count;
+    return bytes;
+}
+
+static int is_among(const uint8_t *body, size_t length, const uint8_t *bytes, size_t ready) {
+    for (size_t at = 0; at + length <= ready; at += 8)
+        if (memcmp(bytes + at, body, length) == 0) return 1;
+    return 0;
+}
+
+/* How often the dictionary with an id was sent when it was looked at last. */
+static uint64_t *times_of(int64_t id) {
+    static struct { int64_t id; uint64_t times; } known[64];
+    static size_t count;
+    for (size_t i = 0; i < count; i++)
+        if (known[i].id == id) return &known[i].times;
+    if (count == sizeof known / sizeof *known) stop("too many dictionaries", count);
+    known[count].id = id;
+    return &known[count++].times;
+}
+
+/* Copies the values of a dictionary, or asks for their room. */
+static uint32_t copy_values(arrowstream_writer *writer, int64_t id, const canonical *copy,
+                            arrowstream_canonical *out) {
+    if (!copy) return arrowstream_writer_canonical_values(writer, id, NULL, 0, NULL, 0, out);
+    return arrowstream_writer_canonical_values(writer, id, copy->bytes, copy->room.bytes,
+                                               copy->numbers, copy->count, out);
+}
+
+/* The values of a dictionary that was sent lie as those of a batch do. Where it was sent again,
+ * they are among the bytes that were sent. */
+static void check_dictionary(arrowstream_writer *writer, int64_t id, const uint8_t *bytes,
+                             size_t ready) {
+    arrowstream_canonical room = {.size = sizeof room}, again = room, small = room;
+    uint64_t times = arrowstream_writer_times_sent(writer, id);
+    small.size--;
+    if (copy_values(writer, id, NULL, &small) != ARROWSTREAM_MISUSE
+        || copy_values(NULL, id, NULL, &again) != ARROWSTREAM_MISUSE)
+        stop("a dictionary at misuse", 0);
+    if (copy_values(writer, id, NULL, &room) != ARROWSTREAM_OK) stop("no dictionary", 0);
+    if (room.nodes != (times > 0)) stop("a dictionary that was not sent", 0);
+    if (times == *times_of(id)) return;
+    *times_of(id) = times;
+    canonical copy = {.room = room, .count = 2 * (room.nodes + room.buffers)};
+    copy.bytes = __real_malloc(room.bytes);
+    copy.numbers = __real_malloc(copy.count * sizeof *copy.numbers);
+    if (!copy.bytes || !copy.numbers) stop("no memory", 0);
+    if (copy_values(writer, id, &copy, &again) != ARROWSTREAM_OK
+        || memcmp(&again, &room, sizeof room) != 0)
+        stop("another dictionary", 0);
+    check_ranges(&copy);
+    if (!is_among(copy.bytes, room.bytes, bytes, ready)) stop("values that were not sent", 0);
+    free(copy.bytes);
+    free(copy.numbers);
+}
+
+static void check_dictionaries(const arrowstream_reader *reader, arrowstream_writer *writer,
+                               uint64_t *path, size_t steps, const uint8_t *bytes, size_t ready) {
+    arrowstream_field field = {.size = sizeof field};
+    if (arrowstream_reader_field(reader, path, steps, &field) != ARROWSTREAM_OK)
+        stop("no field", steps);
+    if (field.index_bits != 0) check_dictionary(writer, field.dictionary, bytes, ready);
+    for (path[steps] = 0; path[steps] < field.children; path[steps]++)
+        check_dictionaries(reader, writer, path, steps + 1, bytes, ready);
 }
 
 static void copy_batch(arrowstream_reader *reader, arrowstream_writer *writer) {
@@ -361,7 +425,13 @@ static void copy_batch(arrowstream_reader *reader, arrowstream_writer *writer) {
     if (arrowstream_writer_ready(writer) != 0) stop("bytes of a copy", rows);
     if (arrowstream_writer_columns(writer, batch) != copy.status) stop("another status", rows);
     if (arrowstream_batch_rows(batch) != rows) stop("another batch", rows);
-    if (copy.status == ARROWSTREAM_OK) take_body(writer, &copy);
+    if (copy.status == ARROWSTREAM_OK) {
+        uint64_t path[65];
+        size_t ready = 0;
+        uint8_t *bytes = take_body(writer, &copy, &ready);
+        check_dictionaries(reader, writer, path, 0, bytes, ready);
+        free(bytes);
+    }
     free(copy.bytes);
     free(copy.numbers);
     arrowstream_batch_free(batch);

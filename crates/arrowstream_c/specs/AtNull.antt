@@ -26,7 +26,7 @@ IsNowhere old new status =
 abbrev pub TakesNothing : List ℕ → List ℕ → ℕ → Type 0
 TakesNothing old new count = (count ≡ 0) × (new ≡ old)
 
--- no batch is copied
+-- nothing is copied
 abbrev pub CopiesNothing : List ℕ → List ℕ → List ℤ → List ℤ → Canonical → Canonical → ℕ → Type 0
 CopiesNothing bytes_old bytes_new numbers_old numbers_new old new status =
     RefusesMisuse bytes_old bytes_new status × (numbers_new ≡ numbers_old) × (new ≡ old)

@@ -46,7 +46,7 @@ column_size = 80
 abbrev pub field_size : ℕ
 field_size = 48
 
--- the number of bytes of a struct of the room that a batch takes
+-- the number of bytes of a struct of the room that is taken
 abbrev pub canonical_size : ℕ
 canonical_size = 32
 
@@ -177,3 +177,8 @@ pub record ShowsRoom (room : CanonicalSize) (size : ℕ) (n : Canonical) : Type 
   pub bytes : n.bytes ≡ room.bytes
   pub nodes : n.nodes ≡ room.nodes
   pub buffers : n.buffers ≡ room.buffers
+
+-- the numbers are the room that a dictionary takes, or zeros if none was sent
+abbrev pub ShowsSent : Option CanonicalSize → ℕ → Canonical → Type 0
+ShowsSent (Some room) size n = ShowsRoom room size n
+ShowsSent None size n = n ≡ record { size = size; bytes = 0; nodes = 0; buffers = 0 }

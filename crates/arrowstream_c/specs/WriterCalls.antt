@@ -12,7 +12,8 @@ use Rattle.ipc_stream_session.specs.declared.write_session.WriteSession.{WriteSe
 use Rattle.ipc_stream_session.specs.Writes as s
 use Rattle.arrowstream_c.specs.Calls.{GivesText}
 use Rattle.arrowstream_c.specs.AtNull.{CopiesNothing}
-use Rattle.arrowstream_c.specs.Numbers.{AreCapped, BySize, ShowsRoom, canonical_size, limits_size}
+use Rattle.arrowstream_c.specs.Numbers.{AreCapped, BySize, ShowsRoom, ShowsSent, canonical_size}
+use Rattle.arrowstream_c.specs.Numbers.{limits_size}
 use Rattle.arrowstream_c.specs.declared.answers.Canonical.{Canonical}
 use Rattle.arrowstream_c.specs.declared.answers.ReadLimits.{ReadLimits}
 
@@ -101,6 +102,31 @@ CopiesBatch was batch is bytes_old bytes_new numbers_old numbers_new old new sta
     (answer : Result CanonicalSize ℕ)
     × s.ReportsCopy batch bytes_old bytes_new numbers_old numbers_new was is answer
     × IsRoomAnswer answer old new status
+
+-- the room that a dictionary takes, or the number of an error
+abbrev pub IsSentAnswer : Result (Option CanonicalSize) ℕ → Canonical → Canonical → ℕ → Type 0
+IsSentAnswer (Ok room) old new status = (status ≡ 0) × ShowsSent room old.size new
+IsSentAnswer (Err number) old new status = (status ≡ number) × (new ≡ old)
+
+-- the session copies the dictionary with the id, and status and numbers are those of its answer
+abbrev pub CopiesLast : WriteSession → ℤ → WriteSession → List ℕ → List ℕ → List ℤ → List ℤ
+    → Canonical → Canonical → ℕ → Type 0
+CopiesLast was id is bytes_old bytes_new numbers_old numbers_new old new status =
+    (answer : Result (Option CanonicalSize) ℕ)
+    × s.ReportsDictionary id bytes_old bytes_new numbers_old numbers_new was is answer
+    × IsSentAnswer answer old new status
+
+-- the dictionary with the id is copied if the struct has room for the answer
+abbrev pub CopiesDictionary : WriteSession → ℤ → WriteSession → List ℕ → List ℕ → List ℤ → List ℤ
+    → Canonical → Canonical → ℕ → Type 0
+CopiesDictionary was id is bytes_old bytes_new numbers_old numbers_new old new status =
+    BySize old.size canonical_size
+    (CopiesLast was id is bytes_old bytes_new numbers_old numbers_new old new status)
+    ((is ≡ was) × CopiesNothing bytes_old bytes_new numbers_old numbers_new old new status)
+
+-- how often a dictionary with the id was sent; the writer stays
+abbrev pub CountsSent : WriteSession → ℤ → WriteSession → ℕ → Type 0
+CountsSent was id is count = (is ≡ was) × (count ≡ s.times_sent_by was.stage id)
 
 -- the batch is copied if the struct has room for the answer; the batch stays
 abbrev pub CopiesCanonical : WriteSession → ReadBatch → WriteSession → ReadBatch → List ℕ → List ℕ

@@ -3,7 +3,7 @@ ghost use Rattle.std.specs.Prelude.{◌≡◌};
 ghost use Rattle.ipc_model.specs.Numbering.{fault_number};
 ghost use Rattle.arrowstream_c.specs.Numbers.{AreCapped, AreStandard, Caps, IsLayout, SetsStandard};
 ghost use Rattle.arrowstream_c.specs.Numbers.{Shows, ShowsDictionary, ShowsField, ShowsRoom};
-ghost use Rattle.arrowstream_c.specs.Numbers.{arrival_number, end_number};
+ghost use Rattle.arrowstream_c.specs.Numbers.{ShowsSent, arrival_number, end_number};
 
 use ipc_model::{
     Dictionary, Fault, Layout, Limits, MAX_BODY, MAX_DEPTH, MAX_FIELDS, MAX_METADATA, MAX_PAIRS,
@@ -288,6 +288,21 @@ impl Canonical {
             bytes: room.bytes,
             nodes: room.nodes,
             buffers: room.buffers,
+        }
+    }
+
+    // The room that a dictionary takes, or zeros, in a struct of this number of bytes.
+    pub(crate) fn of_sent(size: usize, room: Option<CanonicalSize>) -> Canonical
+        ensures { ShowsSent room size result }
+    {
+        match room {
+            Some(room) => Canonical::of(size, room),
+            None => Canonical {
+                size,
+                bytes: 0,
+                nodes: 0,
+                buffers: 0,
+            },
         }
     }
 }

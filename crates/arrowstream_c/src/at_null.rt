@@ -42,7 +42,7 @@ pub(crate) fn no_progress(out: &mut Progress) -> u32
     MISUSE
 }
 
-// Copies no batch.
+// Copies nothing.
 pub(crate) fn no_copy(bytes: &mut [u8], numbers: &mut [i64], out: &mut Canonical) -> u32
     ensures { CopiesNothing bytes.old bytes.new numbers.old numbers.new out.old out.new result }
 {

@@ -653,6 +653,44 @@ pub unsafe extern "C" fn arrowstream_writer_columns(writer: *mut u8, batch: *mut
     )
 }
 
+/// Returns how often a dictionary with this id was sent: 0 before the schema and after the end.
+#[unsafe(no_mangle)]
+pub unsafe extern "C" fn arrowstream_writer_times_sent(writer: *mut u8, id: i64) -> u64
+    ghost was: { Option WriteSession }
+    requires* { sem 𝓛 (writer_or_null writer was) }
+    ensures* { ∃ₛ (λ (is : Option WriteSession). sem 𝓛 (writer_or_null writer is)
+        ∗ ⌜ OfHandle (λ was is. w.CountsSent was id is result) (result ≡ 0) was is ⌝) }
+{
+    if writer.is_null() {
+        return 0;
+    }
+    writer_calls::times_sent(&mut *(writer as *mut WriteSession), id)
+}
+
+/// Copies the values of the last dictionary with this id that was sent, as rows of one column, and
+/// their node and the ranges of their buffers. Returns 0, or the number of the error.
+#[unsafe(no_mangle)]
+pub unsafe extern "C" fn arrowstream_writer_canonical_values(
+    writer: *mut u8,
+    id: i64,
+    bytes: &mut [u8],
+    numbers: &mut [i64],
+    out: &mut Canonical,
+) -> u32
+    ghost was: { Option WriteSession }
+    requires* { sem 𝓛 (writer_or_null writer was) }
+    ensures* { ∃ₛ (λ (is : Option WriteSession). sem 𝓛 (writer_or_null writer is)
+        ∗ ⌜ OfHandle (λ was is. w.CopiesDictionary was id is bytes.old bytes.new numbers.old
+        numbers.new out.old out.new result)
+        (CopiesNothing bytes.old bytes.new numbers.old numbers.new out.old out.new result)
+        was is ⌝) }
+{
+    if writer.is_null() {
+        return at_null::no_copy(bytes, numbers, out);
+    }
+    writer_calls::copy_dictionary(&mut *(writer as *mut WriteSession), id, bytes, numbers, out)
+}
+
 /// Copies the body of the message that `arrowstream_writer_columns` would send for a batch that was
 /// read, and its nodes and the ranges of its buffers. Returns 0, or the number of the error.
 #[unsafe(no_mangle)]

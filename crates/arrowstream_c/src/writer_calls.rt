@@ -107,6 +107,34 @@ pub(crate) fn send_columns(writer: &mut WriteSession, batch: &mut ReadBatch) -> 
     writer.send_columns(batch)
 }
 
+pub(crate) fn times_sent(writer: &mut WriteSession, id: i64) -> u64
+    ensures { w.CountsSent writer.old id writer.new result }
+{
+    writer.times_sent(id)
+}
+
+pub(crate) fn copy_dictionary(
+    writer: &mut WriteSession,
+    id: i64,
+    bytes: &mut [u8],
+    numbers: &mut [i64],
+    out: &mut Canonical,
+) -> u32
+    ensures { w.CopiesDictionary writer.old id writer.new bytes.old bytes.new numbers.old
+        numbers.new out.old out.new result }
+{
+    if out.size < CANONICAL_SIZE {
+        return MISUSE;
+    }
+    match writer.copy_dictionary(id, bytes, numbers) {
+        Ok(room) => {
+            *out = Canonical::of_sent(out.size, room);
+            0
+        }
+        Err(status) => status,
+    }
+}
+
 pub(crate) fn copy_canonical(
     writer: &mut WriteSession,
     batch: &mut ReadBatch,

@@ -18,10 +18,11 @@ use Rattle.ipc_dict.specs.Distinct.{same, is_among, first_index}
 use Rattle.ipc_dict.specs.Counted.{HoldsRows}
 use Rattle.ipc_dict.specs.Noting.{AllFit, values_noted_for}
 use Rattle.ipc_dict.specs.Planning.{AreFirstIndices, IsSettled, AllSettled, values_after, after_all, own_send, sends_of, sent_for}
+use Rattle.ipc_dict.specs.Planning.{times_sent}
 use Rattle.ipc_dict.specs.Pairs.{rows_pairs}
 use Rattle.ipc_dict.specs.SchemaIds.{index_capacity, ids_of, kept_ids, of_fields, tally_ids, nothing_sent, empty_entries}
 use Rattle.ipc_dict.specs.Sending.{AreAddressed, AreCounted, batch_values, dictionaries_to_send, needed_of, tally_of_rows, sent_next}
-use Rattle.ipc_dict.specs.Sending.{sent_after}
+use Rattle.ipc_dict.specs.Sending.{sent_after, sent_entry, times_sent_next}
 use Rattle.ipc_dict.proofs.pairs.CoveredIndices.{has_entry, noted_counts}
 use Rattle.ipc_dict.proofs.ids.Ids.{same_ids, SameIds}
 use Rattle.ipc_dict.proofs.Rows.{holds_rows, ids_note_all}
@@ -59,6 +60,17 @@ settled_next (Some known) values None (v, (there, none)) =
     list_all_at (is_among known) values there.0 v there.1 (ap (is_among known) there.2 ∙ unseen) in
     sym (ap (λ b. cond b (Some known) (Some values)) lacks)
 
+settled_times : (sent : Option (List Value)) (values : List Value) (n : ℕ) (o : Option (List ℕ)) → IsSettled sent values o
+    → times_sent n o ≡ times_sent_next sent values n
+settled_times None values n None h = refl
+settled_times None values n (Some to) h = absurd h
+settled_times (Some known) values n (Some to) h = sym (ap (λ b. cond b n (times_sent n None)) (all_seen known values to h))
+settled_times (Some known) values n None (v, (there, none)) =
+    let unseen : is_among known v ≡ false = sym (placed-seen v known) ∙ ap is_some none in
+    let lacks : list_all (is_among known) values ≡ false =
+    list_all_at (is_among known) values there.0 v there.1 (ap (is_among known) there.2 ∙ unseen) in
+    sym (ap (λ b. cond b n (times_sent n None)) lacks)
+
 settled_needs : (sent : Option (List Value)) (n : TallyEntry) (o : Option (List ℕ)) → IsSettled sent n.values o
     → own_send n o ≡ needed_of sent n.id n.values
 settled_needs None n None h = refl
@@ -85,8 +97,12 @@ module _ (fields : List Field) (rows : List (List Value)) where
   all_next (k ∷ ks) (e ∷ es) [] ids settled each = absurd settled
   all_next (k ∷ ks) (e ∷ es) (o ∷ os) ids settled each =
       let values : e.values ≡ batch_values fields rows k.id = each.0 ∙ ap (batch_values fields rows) (sym ids.0) in
-      ap (λ x. record k { values = x } ∷ after_all ks es os) (settled_next k.values e.values o settled.0 ∙ ap (sent_next k.values) values)
-      ∙ ap (λ l. record k { values = sent_next k.values (batch_values fields rows k.id) } ∷ l) (all_next ks es os ids.1 settled.1 each.1)
+      let noted = batch_values fields rows k.id in
+      let next = settled_next k.values e.values o settled.0 ∙ ap (sent_next k.values) values in
+      let times = settled_times k.values e.values k.sent o settled.0 ∙ ap (λ vs. times_sent_next k.values vs k.sent) values in
+      ap (λ x. (record k { values = x; sent = times_sent k.sent o }) ∷ after_all ks es os) next
+      ∙ ap (λ n. (record k { values = sent_next k.values noted; sent = n }) ∷ after_all ks es os) times
+      ∙ ap (λ l. sent_entry fields rows k ∷ l) (all_next ks es os ids.1 settled.1 each.1)
 
   all_needed : (ks : List KeptEntry) (es : List TallyEntry) (os : List (Option (List ℕ))) → SameIds ks es → AllSettled ks es os
       → HoldEach es → sends_of es os ≡ dictionaries_to_send fields rows ks

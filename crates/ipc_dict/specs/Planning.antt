@@ -1,6 +1,6 @@
 -- What a plan decides for each dictionary (Arrow Columnar Format, "Dictionary Messages").
-use Rattle.std.specs.Prelude.{◌≡◌, ℕ, ℤ, List, [], ◌∷◌, ◌++◌, map, Option, Some, None, slice_get}
-use Rattle.std.specs.Prelude.{Contains, IsSome, if◌then◌else◌}
+use Rattle.std.specs.Prelude.{◌≡◌, ℕ, ℤ, List, [], ◌∷◌, ◌++◌, map, Option, Some, None, option_map}
+use Rattle.std.specs.Prelude.{◌+◌, ◌-◌, ◌^◌, min, slice_get, Contains, IsSome, if◌then◌else◌}
 use Rattle.ipc_dict.specs.Noting.{values_noted_for, place_of_value}
 use Rattle.ipc_encode.specs.Numbers.{number_or}
 use Rattle.std.specs.Ordering.{int_eq}
@@ -36,6 +36,11 @@ number_at (Some i) (Some to) = slice_get to i
 abbrev pub values_after : Option (List Value) → List Value → Option (List ℕ) → Option (List Value)
 values_after sent values (Some to) = sent
 values_after sent values None = Some values
+
+-- how often the dictionary was sent after the batch was sent, at most 2^64 - 1 times
+abbrev pub times_sent : ℕ → Option (List ℕ) → ℕ
+times_sent n (Some to) = n
+times_sent n None = min (n + 1) (2 ^ 64 - 1)
 
 -- the number, among the values sent before, of the value with number i in the batch; none if the
 -- dictionary is sent again
@@ -83,12 +88,27 @@ after_all [] ns os = []
 after_all (s ∷ ss) [] os = s ∷ ss
 after_all (s ∷ ss) (n ∷ ns) [] = s ∷ ss
 after_all (s ∷ ss) (n ∷ ns) (o ∷ os) =
-    record s { values = values_after s.values n.values o } ∷ after_all ss ns os
+    (record s { values = values_after s.values n.values o; sent = times_sent s.sent o })
+    ∷ after_all ss ns os
 
 -- the values sent for the id, if any
 abbrev pub sent_for : List KeptEntry → ℤ → Option (List Value)
 sent_for [] id = None
 sent_for (s ∷ ss) id = if int_eq s.id id then s.values else sent_for ss id
+
+-- the values of a dictionary, each as a row of one column, if it was sent
+abbrev pub own_sent : KeptEntry → Option (List (List Value))
+own_sent s = option_map (λ vs. map (λ v. v ∷ []) vs) s.values
+
+-- how often a dictionary with the id was sent
+abbrev pub times_sent_for : List KeptEntry → ℤ → ℕ
+times_sent_for [] id = 0
+times_sent_for (s ∷ ss) id = if int_eq s.id id then s.sent else times_sent_for ss id
+
+-- the values of the last dictionary with the id that was sent, as rows of one column, if any
+abbrev pub last_sent : List KeptEntry → ℤ → Option (List (List Value))
+last_sent [] id = None
+last_sent (s ∷ ss) id = if int_eq s.id id then own_sent s else last_sent ss id
 
 -- each index that a plan gives refers to its value in what is sent once the batch was
 abbrev pub FindsAll : List KeptEntry → List TallyEntry → List (Option (List ℕ)) → Type 0

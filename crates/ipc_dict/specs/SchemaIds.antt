@@ -86,4 +86,4 @@ kept_ids es = map (λ e. e.id) es
 
 -- the state before anything was sent of these ids
 abbrev pub nothing_sent : List ℤ → List KeptEntry
-nothing_sent ids = map (λ id. record { id = id; values = None }) ids
+nothing_sent ids = map (λ id. record { id = id; values = None; sent = 0 }) ids

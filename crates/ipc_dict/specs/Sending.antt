@@ -1,6 +1,6 @@
 -- The values that a writer has sent of each dictionary after a batch is sent
 -- (Arrow Columnar Format, "Dictionary Messages").
-use Rattle.std.specs.Prelude.{◌≤◌, ℤ, List, [], ◌∷◌, ◌++◌, length, map, Option, Some, None}
+use Rattle.std.specs.Prelude.{◌≤◌, ℕ, ℤ, List, [], ◌∷◌, ◌++◌, length, map, Option, Some, None}
 use Rattle.std.specs.Prelude.{Contains, if◌then◌else◌}
 use Rattle.std.specs.List.{list_all}
 use Rattle.std.specs.Option.{IfSome}
@@ -12,7 +12,7 @@ use Rattle.ipc_dict.specs.declared.kept.KeptEntry.{KeptEntry}
 use Rattle.ipc_dict.specs.Distinct.{is_among, distinct}
 use Rattle.ipc_dict.specs.Noting.{of_id, note_all, values_noted_for}
 use Rattle.ipc_dict.specs.Pairs.{rows_pairs}
-use Rattle.ipc_dict.specs.Planning.{sent_for}
+use Rattle.ipc_dict.specs.Planning.{sent_for, times_sent}
 use Rattle.ipc_dict.specs.SchemaIds.{of_fields, index_capacity, empty_entries}
 
 -- the distinct values other than null that rows have for the dictionary with the id, in order of
@@ -31,10 +31,18 @@ sent_next None values = Some values
 sent_next (Some known) values =
     if list_all (is_among known) values then Some known else Some values
 
+-- how often a dictionary was sent after a batch with these values was sent
+abbrev pub times_sent_next : Option (List Value) → List Value → ℕ → ℕ
+times_sent_next None values n = times_sent n None
+times_sent_next (Some known) values n =
+    if list_all (is_among known) values then n else times_sent n None
+
 -- the values sent of one dictionary after a batch of these rows
 abbrev pub sent_entry : List Field → List (List Value) → KeptEntry → KeptEntry
-sent_entry fields rows e =
-    record e { values = sent_next e.values (batch_values fields rows e.id) }
+sent_entry fields rows e = record e {
+  values = sent_next e.values (batch_values fields rows e.id);
+  sent = times_sent_next e.values (batch_values fields rows e.id) e.sent;
+}
 
 -- the values sent of each dictionary after a batch of these rows
 abbrev pub sent_after : List Field → List (List Value) → List KeptEntry → List KeptEntry

@@ -1,13 +1,15 @@
 //! What a writer has sent of each dictionary.
 ghost use Rattle.std.specs.Prelude.{◌≡◌, IfOk, IfErr};
 ghost use Rattle.ipc_dict.specs.SchemaIds.{ids_of, kept_ids, tally_ids, nothing_sent};
+ghost use Rattle.ipc_dict.specs.Planning.{last_sent, own_sent, times_sent_for};
 ghost use Rattle.ipc_dict.specs.Sending.{AreCounted};
 
 use crate::distinct::DistinctValues;
 use crate::entry::TallyEntry;
 use crate::schema_ids::empty_entries;
 use crate::seed::Seed;
-use ipc_model::{Schema, WriteFault};
+use crate::settle::rows_of;
+use ipc_model::{Items, Row, Schema, WriteFault};
 use std::alloc::{AllocError, Global};
 use std::marker::Model;
 
@@ -18,6 +20,8 @@ pub struct KeptEntry {
     pub id: i64,
     /// The values, if the dictionary was sent.
     pub values: Option<DistinctValues>,
+    /// How often the dictionary was sent, at most 2^64 - 1 times.
+    pub sent: u64,
 }
 
 /// What a writer has sent so far: for each id of its schema the values of the last dictionary with
@@ -59,6 +63,46 @@ impl Kept {
         let entries = nothing_sent(alloc, &entries)?;
         Ok(Kept { entries })
     }
+
+    /// Returns how often a dictionary with this id was sent, at most 2^64 - 1: 0 if none was, or if
+    /// no field names the id.
+    pub fn times_sent(&self, id: i64) -> u64
+        ensures { result ≡ times_sent_for self.now id }
+    {
+        for entry in self.entries.as_slice() {
+            if entry.id == id {
+                return entry.sent;
+            }
+        }
+        0
+    }
+
+    /// Returns a copy of the values of the last dictionary with this id that was sent, each as a
+    /// row of one column, or `None` if none was.
+    ///
+    /// Errors: `OutOfMemory` if memory for the copy ran out.
+    pub fn last_sent(&self, alloc: Global, id: i64) -> Result<Option<Items<Row>>, WriteFault>
+        ensures sent { IfOk result (λ sent. sent ≡ last_sent self.now id) }
+        ensures memory { IfErr result (λ fault. fault ≡ WriteFault.OutOfMemory) }
+    {
+        for entry in self.entries.as_slice() {
+            if entry.id == id {
+                return Ok(own_sent(alloc, entry)?);
+            }
+        }
+        Ok(None)
+    }
+}
+
+// A copy of the values of a dictionary, each as a row of one column, if it was sent.
+fn own_sent(alloc: Global, entry: &KeptEntry) -> Result<Option<Items<Row>>, AllocError>
+    ensures { IfOk result (λ sent. sent ≡ own_sent entry.now) }
+{
+    let Some(values) = &entry.values else {
+        return Ok(None);
+    };
+    let rows = rows_of(alloc, values.as_slice())?;
+    Ok(Some(Items::from_vec(rows)))
 }
 
 // An entry without values for each of these.
@@ -70,6 +114,7 @@ fn nothing_sent(alloc: Global, entries: &[TallyEntry]) -> Result<Vec<KeptEntry>,
         kept.push(KeptEntry {
             id: entry.id,
             values: None,
+            sent: 0,
         })?;
     }
     Ok(kept)

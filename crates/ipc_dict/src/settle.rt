@@ -1,7 +1,8 @@
 //! Plans each dictionary; the lists of dictionaries are all in one order.
 ghost use Rattle.std.specs.Prelude.{◌≡◌, ◌∷◌, ◌++◌, [], map, length, IfOk, OnOk, IfNone, IfSome};
 ghost use Rattle.ipc_dict.specs.Planning.{AreFirstIndices, LacksValue, IsSettled, AllSettled};
-ghost use Rattle.ipc_dict.specs.Planning.{number_at, index, number, kept_number, values_after};
+ghost use Rattle.ipc_dict.specs.Planning.{number_at, index, number, kept_number, times_sent};
+ghost use Rattle.ipc_dict.specs.Planning.{values_after};
 ghost use Rattle.ipc_dict.specs.Planning.{after_all, own_send, sends_of, FindsAll, FindsNoted};
 ghost use Rattle.ipc_dict.specs.Planning.{KnowsAll};
 ghost use Rattle.ipc_dict.specs.SchemaIds.{kept_ids, tally_ids};
@@ -174,7 +175,7 @@ fn add_send(
 }
 
 // Copies of the values, each a row of its own.
-fn rows_of(alloc: Global, values: &[Value]) -> Result<Vec<Row>, AllocError>
+pub(crate) fn rows_of(alloc: Global, values: &[Value]) -> Result<Vec<Row>, AllocError>
     ensures { IfOk result (λ rows. rows.items ≡ map (λ v. v ∷ []) values.now) }
 {
     let mut rows = Vec::with_capacity(alloc, values.len())?;
@@ -211,14 +212,16 @@ pub(crate) fn commit(
     }
 }
 
-// Keeps the values of one dictionary as the last ones sent, if the plan sends it.
+// Keeps the values of one dictionary as the last ones sent, and counts them, if the plan sends it.
 fn keep(alloc: Global, kept: &mut KeptEntry, entry: &mut TallyEntry, numbers: &Option<Items<u64>>)
     ensures { kept.new ≡ record kept.old {
       values = values_after kept.old.values entry.old.values numbers.now;
+      sent = times_sent kept.old.sent numbers.now;
     } }
 {
     if numbers.is_none() {
         let none = DistinctValues::new(alloc, Seed::Fixed);
         kept.values = Some(mem::replace(&mut entry.values, none));
+        kept.sent = kept.sent.saturating_add(1);
     }
 }

@@ -1,7 +1,7 @@
 -- The parts of a batch in memory of the caller.
 use Rattle.std.proofs.Common.{◌≡◌, ◌∙◌, refl, sym, ap, subst, ℕ, ◌+◌, ◌*◌, ◌≤◌, ◌<◌, List, ◌++◌, length, arith, inl, inr, false}
 use Rattle.std.proofs.Common.{Option, Result, Ok, Err, IfOk, IfErr}
-use Rattle.std.specs.Prelude.{ℤ, ◌⊎◌, pos}
+use Rattle.std.specs.Prelude.{ℤ, ◌⊎◌, pos, MatchOption, Some, None}
 use Rattle.ipc_model.specs.WellFormed.{WellFormed}
 use Rattle.ipc_model.specs.declared.fault.WriteFault.{WriteFault}
 use Rattle.ipc_model.specs.declared.limits.Limits.{Limits}
@@ -20,7 +20,8 @@ use Rattle.ipc_dict.specs.Planning.{AllSettled, FindsAll, index, sent_for}
 use Rattle.ipc_dict.specs.SchemaIds.{ids_of, kept_ids}
 use Rattle.ipc_dict.specs.Sending.{AreCounted, tally_of_rows}
 use Rattle.ipc_dict.proofs.Sending.{counted_after, sent_is}
-use Rattle.ipc_stream.specs.Canonical.{CopiesBatch, CopiesCanonical, CopiesParts, GiveRows, RefusesRows, Replaces, flat}
+use Rattle.ipc_stream.specs.Canonical.{CopiesBatch, CopiesCanonical, CopiesDictionary, CopiesParts, CopiesSent, GiveRows, IsUnsent}
+use Rattle.ipc_stream.specs.Canonical.{RefusesDictionary, RefusesRows, Replaces, flat}
 use Rattle.ipc_stream.specs.Writer.{Writer}
 use Rattle.ipc_stream.specs.declared.canonical.CanonicalSize.{CanonicalSize}
 use Rattle.ipc_stream.proofs.PlanFinds.{plan_finds_indices}
@@ -88,3 +89,14 @@ pub copied_by : (writer : Writer) (rows : List (List Value)) (bo bn : List ℕ) 
     → CopiesBatch writer rows bo bn was now r
 copied_by writer rows bo bn was now (Ok size) works copied kept refused = (works, copied)
 copied_by writer rows bo bn was now (Err fault) works copied kept refused = (inr (works, refused), kept.0, kept.1)
+
+-- so too the call that copies a dictionary
+pub sent_by : (writer : Writer) (id : ℤ) (bo bn : List ℕ) (was now : List ℤ) (r : Result (Option CanonicalSize) WriteFault)
+    → writer.failed ≡ false
+    → IfOk r (λ found. MatchOption found ((IsUnsent writer.schema writer.kept id) × (bn ≡ bo) × (now ≡ was))
+    (CopiesDictionary writer.schema writer.kept id bo bn was now))
+    → IfErr r (λ _. (bn ≡ bo) × (now ≡ was)) → IfErr r (RefusesDictionary writer.limits writer.schema writer.kept id)
+    → CopiesSent writer id bo bn was now r
+sent_by writer id bo bn was now (Ok (Some size)) works copied kept refused = (works, copied)
+sent_by writer id bo bn was now (Ok None) works (unsent, same, equal) kept refused = (works, unsent, same, equal)
+sent_by writer id bo bn was now (Err fault) works copied kept refused = (inr (works, refused), kept.0, kept.1)

@@ -1,11 +1,17 @@
 //! Copies the body of a batch to memory of the caller, as it is sent.
-ghost use Rattle.std.specs.Prelude.{◌≡◌, ◌+◌, ◌*◌, ◌≤◌, ◌∷◌, [], length};
-ghost use Rattle.ipc_encode.specs.Segments.{bytes_of_segments};
+ghost use Rattle.std.specs.Prelude.{◌≡◌, ◌+◌, ◌*◌, ◌≤◌, ◌∷◌, [], List, length, IfOk};
+ghost use Rattle.ipc_model.specs.declared.schema.Field.{Field};
+ghost use Rattle.ipc_model.specs.declared.value.Value.{Value};
+ghost use Rattle.ipc_encode.specs.Buffers.{AreLaidOut};
+ghost use Rattle.ipc_encode.specs.Numbers.{Numbering};
+ghost use Rattle.ipc_encode.specs.Segments.{AreSegmented, bytes_of_segments};
 ghost use Rattle.ipc_stream.specs.Canonical.{CopiesParts, Replaces, flat};
 
-use ipc_encode::{Segment, SegmentedParts};
+use ipc_encode::{Parts, Segment, SegmentedParts};
+use std::alloc::{AllocError, Global};
 
-/// The room that a batch takes as it is sent (Message.fbs, RecordBatch).
+/// The room that the rows of a batch or the values of a dictionary take as they are sent
+/// (Message.fbs, RecordBatch).
 #[derive(Clone, Copy, Debug)]
 pub struct CanonicalSize {
     /// The number of bytes of the body: a multiple of 8.
@@ -14,6 +20,28 @@ pub struct CanonicalSize {
     pub nodes: usize,
     /// The number of buffers of these fields.
     pub buffers: usize,
+}
+
+/// Returns the parts with their body as one segment. Returns an error if memory ran out.
+pub(crate) fn one_segment<'a>(alloc: Global, parts: Parts) -> Result<SegmentedParts<'a>, AllocError>
+    ensures segmented { (known : Numbering) (fields : List Field) (rows : List (List Value))
+        → AreLaidOut known fields rows parts → IfOk result (AreSegmented known fields rows) }
+    ensures len { IfOk result (λ one. one.len ≡ length (bytes_of_segments one.segments.items)) }
+{
+    let Parts {
+        nodes,
+        buffers,
+        body,
+    } = parts;
+    let len = body.len();
+    let mut segments = Vec::with_capacity(alloc, 1)?;
+    segments.push(Segment::Owned(body))?;
+    Ok(SegmentedParts {
+        nodes,
+        buffers,
+        segments,
+        len,
+    })
 }
 
 // Writes bytes from `at` on.

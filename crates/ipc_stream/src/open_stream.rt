@@ -1,9 +1,12 @@
-ghost use Rattle.std.specs.Prelude.{◌≡◌, ◌⊎◌, IfErr, IfOk, MatchResult, OnErr, OnOk, false};
+ghost use Rattle.std.specs.Prelude.{◌≡◌, ◌⊎◌, IfErr, IfOk, MatchOption, MatchResult, OnErr};
+ghost use Rattle.std.specs.Prelude.{OnOk, false};
 ghost use Rattle.ipc_model.specs.declared.table.BatchRows.{BatchRows};
 ghost use Rattle.ipc_dict_read.specs.ValuesColumns.{dictionary_columns};
+ghost use Rattle.ipc_dict.specs.Planning.{times_sent_for};
 ghost use Rattle.ipc_dict.specs.Sending.{AreCounted, sent_after};
 ghost use Rattle.ipc_stream_read.specs.Stream.{OpensStream};
-ghost use Rattle.ipc_stream.specs.Canonical.{CopiesCanonical, RefusesRows};
+ghost use Rattle.ipc_stream.specs.Canonical.{CopiesCanonical, CopiesDictionary, IsUnsent};
+ghost use Rattle.ipc_stream.specs.Canonical.{RefusesDictionary, RefusesRows};
 ghost use Rattle.ipc_stream.specs.Dictionaries.{SendsBatch, kept_at_start};
 ghost use Rattle.ipc_stream.specs.PendingBatches.{BelongsTo, HoldsBatch, RefusesPending};
 ghost use Rattle.ipc_stream.specs.PendingBatches.{StaysInStream, no_rows, with_row, with_rows};
@@ -11,7 +14,7 @@ ghost use Rattle.ipc_stream.specs.Writing.{AcceptsBatch, AcceptsSchema, RefusesB
 ghost use Rattle.ipc_stream.specs.Writing.{RefusesSchema, Sends};
 
 use crate::batch_messages::pending_messages;
-use crate::canonical::{CanonicalSize, copy_parts};
+use crate::canonical::{CanonicalSize, copy_parts, one_segment};
 use crate::column_messages::{column_messages, plan_columns};
 use crate::messages::schema_message;
 use crate::pending_batch::PendingBatch;
@@ -19,7 +22,7 @@ use crate::sending::{send, send_messages};
 use ipc_column::Batch;
 use ipc_device::Sink;
 use ipc_dict::{Dictionaries, Kept, Seed, has_short_messages};
-use ipc_encode::{BufferPool, SameNumbers, encode_columns};
+use ipc_encode::{BufferPool, NoIndices, SameNumbers, encode, encode_columns};
 use ipc_model::{BatchRows, Items, Limits, Schema, Text, Value, WriteFault};
 use std::alloc::Global;
 use std::marker::Model;
@@ -294,5 +297,47 @@ impl OpenStream {
             &SameNumbers,
         )?;
         Ok(copy_parts(&parts, bytes, numbers))
+    }
+
+    // How often a dictionary with this id was sent.
+    pub(crate) fn times_sent(&self, id: i64) -> u64
+        ensures { result ≡ times_sent_for self.now.kept id }
+    {
+        self.kept.times_sent(id)
+    }
+
+    // Copies the values of the last dictionary with this id that was sent.
+    pub(crate) fn copy_dictionary(
+        &self,
+        id: i64,
+        bytes: &mut [u8],
+        numbers: &mut [i64],
+    ) -> Result<Option<CanonicalSize>, WriteFault>
+        ensures copied { IfOk result (λ found. MatchOption found
+            ((IsUnsent self.now.schema self.now.kept id) × (bytes.new ≡ bytes.old)
+            × (numbers.new ≡ numbers.old))
+            (CopiesDictionary self.now.schema self.now.kept id bytes.old bytes.new numbers.old
+            numbers.new)) }
+        ensures kept { IfErr result
+            (λ fault. (bytes.new ≡ bytes.old) × (numbers.new ≡ numbers.old)) }
+        ensures refused { IfErr result
+            (RefusesDictionary self.now.limits self.now.schema self.now.kept id) }
+    {
+        let Some(columns) = self.columns.fields_of(id) else {
+            return Ok(None);
+        };
+        let Some(rows) = self.kept.last_sent(self.alloc, id)? else {
+            return Ok(None);
+        };
+        let columns = columns.as_slice();
+        let parts = encode(
+            self.alloc,
+            &self.limits,
+            columns,
+            rows.as_slice(),
+            &NoIndices,
+        )?;
+        let segmented = one_segment(self.alloc, parts)?;
+        Ok(Some(copy_parts(&segmented, bytes, numbers)))
     }
 }

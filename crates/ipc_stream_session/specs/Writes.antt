@@ -15,8 +15,9 @@ use Rattle.ipc_model.specs.declared.schema.Schema.{Schema}
 use Rattle.ipc_model.specs.declared.table.BatchRows.{BatchRows}
 use Rattle.ipc_model.specs.declared.value.Value.{Value}
 use Rattle.ipc_model.specs.declared.value.Value.TheVariants as value
+use Rattle.ipc_dict.specs.Planning.{times_sent_for}
 use Rattle.ipc_text_json.specs.SchemaTexts.{StatesSchema, StatesNoSchema}
-use Rattle.ipc_stream.specs.Canonical.{CopiesBatch}
+use Rattle.ipc_stream.specs.Canonical.{CopiesBatch, CopiesSent}
 use Rattle.ipc_stream.specs.PendingBatches.{with_rows}
 use Rattle.ipc_stream.specs.Writer.{StartsWriter}
 use Rattle.ipc_stream.specs.declared.canonical.CanonicalSize.{CanonicalSize}
@@ -268,6 +269,25 @@ CopiesRead (stage.Open t) b bytes_old bytes_new numbers_old numbers_new r =
 CopiesRead (stage.Ended ready) b bytes_old bytes_new numbers_old numbers_new r =
     (r ≡ Err (error.Refused w.Failed)) × (bytes_new ≡ bytes_old) × (numbers_new ≡ numbers_old)
 
+-- how often a dictionary with the id was sent by the writer of an open table; 0 in another state
+abbrev pub times_sent_by : Stage → ℤ → ℕ
+times_sent_by stage.New id = 0
+times_sent_by (stage.Open t) id = times_sent_for t.stream.kept id
+times_sent_by (stage.Ended ready) id = 0
+
+-- the values of the last dictionary with the id are copied by the writer of an open table, or
+-- refused for its cause; in another state nothing is copied
+abbrev pub CopiesLast : Stage → ℤ → List ℕ → List ℕ → List ℤ → List ℤ
+    → Result (Option CanonicalSize) WriteError → Type 0
+CopiesLast stage.New id bytes_old bytes_new numbers_old numbers_new r =
+    (r ≡ Err error.Misuse) × (bytes_new ≡ bytes_old) × (numbers_new ≡ numbers_old)
+CopiesLast (stage.Open t) id bytes_old bytes_new numbers_old numbers_new r =
+    (copied : Result (Option CanonicalSize) WriteFault)
+    × CopiesSent t.stream id bytes_old bytes_new numbers_old numbers_new copied
+    × (r ≡ refused_as copied)
+CopiesLast (stage.Ended ready) id bytes_old bytes_new numbers_old numbers_new r =
+    (r ≡ Err (error.Refused w.Failed)) × (bytes_new ≡ bytes_old) × (numbers_new ≡ numbers_old)
+
 -- ---- the end
 
 -- no row, no pair and no cell is pending
@@ -314,11 +334,11 @@ pub record ReportsStatus (Call : WriteSession → WriteSession → Result ⊤ Wr
   pub called : Call old after answer
   pub report : IsStatusOf after answer new status
 
--- the result is the room that was taken, or the number of the error, which is kept
-abbrev pub IsRoomOf : WriteSession → Result CanonicalSize WriteError → WriteSession
-    → Result CanonicalSize ℕ → Type 0
-IsRoomOf s (Ok size) new r = (r ≡ Ok size) × (new ≡ s)
-IsRoomOf s (Err e) new r = (r ≡ Err (error_number e))
+-- the result is what was copied, or the number of the error, which is kept
+abbrev pub IsCopyOf : {T : Type 0} → WriteSession → Result T WriteError → WriteSession → Result T ℕ
+    → Type 0
+IsCopyOf s (Ok copy) new r = (r ≡ Ok copy) × (new ≡ s)
+IsCopyOf s (Err e) new r = (r ≡ Err (error_number e))
     × (new ≡ record s { error = error_after s.error e })
 
 -- a batch that was read is copied (`CopiesRead`), and the result is that of the answer
@@ -327,7 +347,15 @@ pub record ReportsCopy (b : ReadBatch) (bytes_old bytes_new : List ℕ)
     Type 0 where
   pub answer : Result CanonicalSize WriteError
   pub copied : CopiesRead old.stage b bytes_old bytes_new numbers_old numbers_new answer
-  pub report : IsRoomOf old answer new r
+  pub report : IsCopyOf old answer new r
+
+-- the values of a dictionary are copied (`CopiesLast`), and the result is that of the answer
+pub record ReportsDictionary (id : ℤ) (bytes_old bytes_new : List ℕ)
+    (numbers_old numbers_new : List ℤ) (old new : WriteSession)
+    (r : Result (Option CanonicalSize) ℕ) : Type 0 where
+  pub answer : Result (Option CanonicalSize) WriteError
+  pub copied : CopiesLast old.stage id bytes_old bytes_new numbers_old numbers_new answer
+  pub report : IsCopyOf old answer new r
 
 -- the bytes that were written and not taken are `front`, and then those of `stage`: if `front` is
 -- empty, those of `stage` become `front`

@@ -1,7 +1,8 @@
 //! A table whose stream is being written.
 ghost use Rattle.std.specs.Prelude.{◌≡◌, IfErr, IfOk, Some, []};
 ghost use Rattle.ipc_model.specs.RowFaults.{HasShortPaths};
-ghost use Rattle.ipc_stream.specs.Canonical.{CopiesBatch};
+ghost use Rattle.ipc_dict.specs.Planning.{times_sent_for};
+ghost use Rattle.ipc_stream.specs.Canonical.{CopiesBatch, CopiesSent};
 ghost use Rattle.ipc_stream.specs.PendingBatches.{with_rows};
 ghost use Rattle.ipc_stream.specs.Writer.{StartsWriter};
 ghost use Rattle.ipc_stream_session.specs.Tables.{FinishesTable, StopsAtStart, emptied};
@@ -124,6 +125,26 @@ impl OpenTable {
             numbers.new result }
     {
         self.stream.copy_canonical(batch, bytes, numbers)
+    }
+
+    // How often a dictionary with this id was sent.
+    pub(crate) fn times_sent(&self, id: i64) -> u64
+        ensures { result ≡ times_sent_for self.now.stream.kept id }
+    {
+        self.stream.times_sent(id)
+    }
+
+    // Copies the values of the last dictionary with this id, as `StreamWriter::copy_dictionary`.
+    pub(crate) fn copy_dictionary(
+        &self,
+        id: i64,
+        bytes: &mut [u8],
+        numbers: &mut [i64],
+    ) -> Result<Option<CanonicalSize>, WriteFault>
+        ensures { CopiesSent self.now.stream id bytes.old bytes.new numbers.old numbers.new
+            result }
+    {
+        self.stream.copy_dictionary(id, bytes, numbers)
     }
 
     // Returns the bytes that were sent and not taken, and goes on without them.

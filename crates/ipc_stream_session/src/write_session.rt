@@ -257,6 +257,18 @@ impl WriteSession {
         Ok(table.copy_canonical(columns, bytes, numbers)?)
     }
 
+    fn try_copy_dictionary(
+        &self,
+        id: i64,
+        bytes: &mut [u8],
+        numbers: &mut [i64],
+    ) -> Result<Option<CanonicalSize>, WriteError>
+        ensures { w.CopiesLast self.now.stage id bytes.old bytes.new numbers.old numbers.new
+            result }
+    {
+        Ok(self.stage.open()?.copy_dictionary(id, bytes, numbers)?)
+    }
+
     fn try_finish(&mut self) -> Result<(), WriteError>
         ensures { w.Finishes self.old self.new result }
     {
@@ -455,6 +467,35 @@ impl WriteSession {
     {
         match self.try_copy_canonical(batch, bytes, numbers) {
             Ok(size) => Ok(size),
+            Err(error) => Err(self.report(Err(error))),
+        }
+    }
+
+    /// Returns how often a dictionary with this id was sent, at most 2^64 - 1: 0 before the schema
+    /// and after the end.
+    pub fn times_sent(&self, id: i64) -> u64
+        ensures { result ≡ w.times_sent_by self.now.stage id }
+    {
+        match &self.stage {
+            Stage::Open(table) => table.times_sent(id),
+            Stage::New | Stage::Ended(_) => 0,
+        }
+    }
+
+    /// Copies the values of the last dictionary with this id that was sent, as
+    /// `StreamWriter::copy_dictionary`. Returns `None` if none was sent, or the number of the
+    /// error: W6, W8 and W11. Nothing is sent, and the writer goes on after each error.
+    pub fn copy_dictionary(
+        &mut self,
+        id: i64,
+        bytes: &mut [u8],
+        numbers: &mut [i64],
+    ) -> Result<Option<CanonicalSize>, u32>
+        ensures { w.ReportsDictionary id bytes.old bytes.new numbers.old numbers.new self.old
+            self.new result }
+    {
+        match self.try_copy_dictionary(id, bytes, numbers) {
+            Ok(dictionary) => Ok(dictionary),
             Err(error) => Err(self.report(Err(error))),
         }
     }
