@@ -1,9 +1,10 @@
-/* Measures calls of include/arrowstream.h.
+/* Measures calls of include/arrowstream.h and include/arrowstream_cdata.h.
  *
  *     calls              prints the nanoseconds of one call, for two calls
  *     calls check        reads the stream on standard input in pieces of 1 MiB, and counts its rows
+ *     calls export       exports the stream by the Arrow C stream interface, and counts its rows
  */
-#include "arrowstream.h"
+#include "arrowstream_cdata.h"
 
 #include <stdio.h>
 #include <stdlib.h>
@@ -117,9 +118,35 @@ static void check(void) {
     printf("%zu rows\n", rows);
 }
 
+static int read_input(void *source, uint8_t *bytes, size_t length, size_t *count) {
+    *count = fread(bytes, 1, length, source);
+    return 0;
+}
+
+static void export_stream(void) {
+    arrowstream_limits limits = {.size = sizeof limits};
+    struct ArrowArrayStream stream;
+    struct ArrowArray array;
+    int64_t rows = 0;
+    arrowstream_limits_standard(&limits);
+    must(arrowstream_export_stream(&limits, read_input, NULL, stdin, &stream, NULL) == 0,
+         "out of memory");
+    while (stream.get_next(&stream, &array) == 0 && array.release) {
+        rows += array.length;
+        array.release(&array);
+    }
+    must(stream.get_last_error(&stream) == NULL, "the stream is refused");
+    stream.release(&stream);
+    printf("%lld rows\n", (long long)rows);
+}
+
 int main(int count, char **words) {
     if (count == 2 && strcmp(words[1], "check") == 0) {
         check();
+        return 0;
+    }
+    if (count == 2 && strcmp(words[1], "export") == 0) {
+        export_stream();
         return 0;
     }
     if (count != 1) return 2;
