@@ -11,6 +11,7 @@ pub mod Reasons
 pub mod Verdicts
 pub mod Pieces
 pub mod Courses
+pub mod Held
 pub mod Decoders
 pub mod Feeding
 pub mod Answered

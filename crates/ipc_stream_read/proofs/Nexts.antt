@@ -51,8 +51,8 @@ run_closed (more frame (record_batch r) rest) none is = absurd (cc)
 run_closed (more frame (dictionary_batch found r) rest) none is = absurd (cc)
 
 -- a message before a schema tells the schema that it puts in force
-step_schema : {limits : Limits} → {σ τ : State} {g : Head} {body : List ℕ} {es : List MessageEvent} (s : Schema) → Step limits σ g body es τ
-    → σ ≡ None → es ≡ schema s ∷ [] → τ ≡ Some (initial_state s)
+pub step_schema : {limits : Limits} → {σ τ : State} {g : Head} {body : List ℕ} {es : List MessageEvent} (s : Schema)
+    → Step limits σ g body es τ → σ ≡ None → es ≡ schema s ∷ [] → τ ≡ Some (initial_state s)
 step_schema s (schema_message {s = t}) none is = let same : t ≡ s = cc in ap (λ u. Some (initial_state u)) same
 step_schema s (record_batch r) none is = absurd (cc)
 step_schema s (dictionary_batch found r) none is = absurd (cc)

@@ -6,7 +6,7 @@ use Rattle.std.specs.Prelude.{Bool, true, false, OnOk}
 use Rattle.std.specs.Io.KnownBytes.{IsAtEnd}
 use Rattle.std.proofs.KnownBytes.{Consumes-nil, Consumes-trans}
 use Rattle.std.proofs.Math.Seq.{take-length}
-use Rattle.std.proofs.lemmas.List.{nil_from_length}
+use Rattle.std.proofs.lemmas.List.{append-nil, nil_from_length}
 use Rattle.ipc_model.specs.declared.fault.Fault.{Fault}
 use Rattle.ipc_model.specs.declared.fault.Fault.TheVariants.{OutOfMemory, Read, Truncated}
 use Rattle.ipc_model.specs.declared.limits.Limits.{Limits}
@@ -14,6 +14,7 @@ use Rattle.ipc_frame.specs.Frames.{end_of_stream, IsSized, Pending}
 use Rattle.ipc_frame.specs.Parts.{no_capacity}
 use Rattle.ipc_frame.specs.Failures.{UnlessOutside}
 use Rattle.ipc_frame.proofs.Exact.{pending_none}
+use Rattle.ipc_frame.proofs.Undecided.{pending_one}
 use Rattle.ipc_stream_read.specs.declared.end.End.{End}
 use Rattle.ipc_stream_read.specs.declared.end.End.TheVariants.{Closed}
 use Rattle.ipc_stream_read.specs.declared.event.Event.{Event}
@@ -23,7 +24,10 @@ use Rattle.ipc_stream_read.specs.Found.{batch_rows}
 use Rattle.ipc_frame.specs.Pieces as frames
 use Rattle.ipc_frame.specs.Pulled.{IsFew, EndsAt, FailsWhile}
 use Rattle.ipc_stream_read.specs.Decoding.{Decoding, taking, over, Reaches, ReportsEvent, ReportsOneEvent, Gives, Draws, progress_at}
-use Rattle.ipc_stream_read.specs.Decoding.{ClosesAt}
+use Rattle.ipc_stream_read.specs.Decoding.{ClosesAt, at_stage, dictionary_bytes, refused}
+use Rattle.ipc_stream_read.specs.Held.{HoldsWithin, IsWithin, KeepsWithin, as_fault}
+use Rattle.ipc_stream_read.specs.declared.read_stop.ReadStop.{ReadStop}
+use Rattle.ipc_stream_read.specs.declared.read_stop.ReadStop.TheVariants as stop
 use Rattle.ipc_stream_read.specs.Reasons as reasons
 use Rattle.ipc_stream_read.specs.Reasons.{EndsReading, IsOutside, IsUndecidedPrefix}
 use Rattle.ipc_stream_read.specs.Stream.{State, MessageEvent, schema, batch}
@@ -31,6 +35,7 @@ use Rattle.ipc_stream_read.specs.Taken.{Takes, Pulls}
 use Rattle.ipc_stream_read.specs.Verdicts.{DecisionPoint, Reason}
 use Rattle.ipc_stream_read.proofs.Decoders.{still}
 use Rattle.ipc_stream_read.proofs.Feeding.{reaches_then, tells_then}
+use Rattle.ipc_stream_read.proofs.Held.{held_more, held_none}
 
 -- what changed nothing of the source took no bytes
 pub takes_none : (a : Option (List ℕ)) (n : ℕ) → n ≤ 2 ^ 64 - 1 → Takes a a n n []
@@ -67,8 +72,9 @@ breaks limits σ x left e wanted reason = elim (is_outside e) as (λ b. is_outsi
   | false ↦ λ h. reasons.refused (reason (not_outside e Read h refl) (not_outside e OutOfMemory h refl)).1.0
 ] refl
 
--- an undecided beginning of what comes next was taken and is kept
-pub record Pulling (old now : Option (List ℕ)) (bound_old bound failed_old failed count_old count : ℕ) (before decoder : Decoding) : Type 0
+-- an undecided beginning of what comes next was taken and is kept; never more than a maximum was held
+pub record Pulling (most : Option ℕ) (old now : Option (List ℕ)) (bound_old bound failed_old failed count_old count : ℕ)
+    (before decoder : Decoding) : Type 0
   where
     pub x : List ℕ
     pub z : List ℕ
@@ -79,11 +85,12 @@ pub record Pulling (old now : Option (List ℕ)) (bound_old bound failed_old fai
     pub takes : Takes old now count_old count x
     pub fewer : bound + length x ≤ bound_old
     pub same : failed ≡ failed_old
+    pub held : HoldsWithin before.limits most before.state x
 
 -- of which no byte came yet
-pub pulls_none : (source : Option (List ℕ)) (b f n : ℕ) (d : Decoding) → n ≤ 2 ^ 64 - 1 → d.messages ≤ 2 ^ 64 - 1 → d.stage ≡ taking []
-    → Pulling source source b b f f n n d d
-pulls_none source b f n d fits counts between = record {
+pub pulls_none : (most : Option ℕ) (source : Option (List ℕ)) (b f n : ℕ) (d : Decoding) → n ≤ 2 ^ 64 - 1 → d.messages ≤ 2 ^ 64 - 1
+    → d.stage ≡ taking [] → Pulling most source source b b f f n n d d
+pulls_none most source b f n d fits counts between = record {
   x = [];
   z = [];
   kept = between;
@@ -93,10 +100,34 @@ pulls_none source b f n d fits counts between = record {
   takes = takes_none source n fits;
   fewer = omega arith;
   same = refl;
+  held = held_none d.limits most d.state;
 }
 
-module _ (old now new : Option (List ℕ)) (b0 b1 f0 f1 n0 n1 n2 : ℕ) (before decoder after : Decoding) (count : ℕ)
-    (r : Result (Option Event) Fault) (p : Pulling old now b0 b1 f0 f1 n0 n1 before decoder)
+module _ (most : Option ℕ) (old now : Option (List ℕ)) (b0 b1 f0 f1 n0 n1 : ℕ) (before decoder : Decoding)
+    (p : Pulling most old now b0 b1 f0 f1 n0 n1 before decoder) where
+  undecided_now : Pending decoder.limits p.z p.undecided.0
+  undecided_now = subst (λ l. Pending l p.z p.undecided.0) (sym p.same_limits) p.undecided.1
+
+  -- what a decoder has room for, it has for what is wanted next
+  pub room_now : (T : Type 0) → ((z : List ℕ) (k : ℕ) → decoder.stage ≡ taking z → Pending decoder.limits z k → T
+      → IsWithin most (dictionary_bytes decoder.state + length z + k)) → T
+      → IsWithin most (dictionary_bytes decoder.state + length p.z + p.undecided.0)
+  room_now T room holds = room p.z p.undecided.0 p.kept undecided_now holds
+
+  pub no_room : (T : Type 0) → ((z : List ℕ) (k : ℕ) → decoder.stage ≡ taking z → Pending decoder.limits z k → T
+      → IsWithin most (dictionary_bytes decoder.state + length z + k) → ⊥) → T
+      → IsWithin most (dictionary_bytes decoder.state + length p.z + p.undecided.0) → ⊥
+  no_room T room holds = room p.z p.undecided.0 p.kept undecided_now holds
+
+-- what a stop or an event states of the bytes that were pulled
+abbrev pub PullsWithin : Option ℕ → Option (List ℕ) → Option (List ℕ) → ℕ → ℕ → Decoding → Decoding → Result (Option Event) ReadStop
+    → Type 0
+PullsWithin most old new n0 n1 before after r =
+    (pulls : Pulls old new n0 n1 before after (as_fault r))
+    × KeepsWithin before.limits most before.state pulls.x (r ≡ Err stop.Held)
+
+module _ (most : Option ℕ) (old now new : Option (List ℕ)) (b0 b1 f0 f1 n0 n1 n2 : ℕ) (before decoder after : Decoding) (count : ℕ)
+    (r : Result (Option Event) Fault) (p : Pulling most old now b0 b1 f0 f1 n0 n1 before decoder)
     (t : Draws now new decoder after count r)
     (counted : n2 ≡ count_up n1 count) where
   takes_now : Takes old new n0 n2 (p.x ++ t.came)
@@ -118,6 +149,18 @@ module _ (old now new : Option (List ℕ)) (b0 b1 f0 f1 n0 n1 n2 : ℕ) (before 
         few = few.2;
       }
 
+  -- what came may be held with what came before
+  abbrev pub Room : Type 0
+  Room = IsWithin most (dictionary_bytes decoder.state + length p.z + p.undecided.0)
+
+  held_now : Room → HoldsWithin before.limits most before.state (p.x ++ t.came)
+  held_now room =
+      let few = subst (λ q. IsFew decoder.limits (progress_at q) t.came) p.kept t.few in
+      let wanted = subst (λ l. Pending l p.z few.0) p.same_limits few.1 in
+      let same = pending_one p.z few.0 p.undecided.0 wanted p.undecided.1 in
+      held_more most before.state decoder.state p.x p.z t.came [] p.undecided.0 p.held p.reaches.reached room
+      (omega (arith, few.2, same))
+
   told_now : (e : Event) → ReportsEvent decoder after (p.z ++ t.came) e → ReportsEvent before after (p.x ++ t.came) e
   told_now e h = tells_then before decoder after p.x p.z t.came p.same_limits p.reaches e h
 
@@ -133,6 +176,10 @@ module _ (old now new : Option (List ℕ)) (b0 b1 f0 f1 n0 n1 n2 : ℕ) (before 
         takes = takes_now;
         gives = told_now e (subst (λ y. ReportsEvent decoder after (p.z ++ y) e) (take-length t.came) g.1);
       }
+
+  pub pulled_within : Room → (e : Event) → r ≡ Ok (Some e) → PullsWithin most old new n0 n2 before after (Ok (Some e))
+  unfolding pulled
+  pulled_within room e is = (pulled e is, record { within = held_now room; above = λ bad. absurd (cc) })
 
   -- a fault that is told of what came is answered
   pub pull_refused : (e : Fault) → r ≡ Err e → Pulls old new n0 n2 before after (Err e)
@@ -154,10 +201,14 @@ module _ (old now new : Option (List ℕ)) (b0 b1 f0 f1 n0 n1 n2 : ℕ) (before 
         };
       }
 
+  pub refused_within : Room → (e : Fault) → r ≡ Err e → PullsWithin most old new n0 n2 before after (Err (stop.Refused e))
+  unfolding pull_refused
+  refused_within room e is = (pull_refused e is, record { within = held_now room; above = λ bad. absurd (cc) })
+
   -- where nothing is decided, what came is kept
-  pub pulls_more : (b2 f2 : ℕ) → r ≡ Ok None → OnOk r (b2 + count ≤ b1) → FailsWhile (progress_at decoder.stage) f1 f2 r
-      → after.limits ≡ decoder.limits → Pulling old new b0 b2 f0 f2 n0 n2 before after
-  pulls_more b2 f2 is less fails limits =
+  pub pulls_more : Room → (b2 f2 : ℕ) → r ≡ Ok None → OnOk r (b2 + count ≤ b1) → FailsWhile (progress_at decoder.stage) f1 f2 r
+      → after.limits ≡ decoder.limits → Pulling most old new b0 b2 f0 f2 n0 n2 before after
+  pulls_more room b2 f2 is less fails limits =
       let g = (gives_now (Ok None) is).1 in
       let rest = g.0 in
       let fewer = subst (λ q. OnOk q (b2 + count ≤ b1)) is less in
@@ -172,6 +223,7 @@ module _ (old now new : Option (List ℕ)) (b0 b1 f0 f1 n0 n1 n2 : ℕ) (before 
         takes = takes_now;
         fewer = omega (arith, p.fewer, fewer, t.counted, length-append p.x t.came);
         same = works.1 ∙ (sym works.0 ∙ p.same);
+        held = held_now room;
       }
 
 -- ---- an event is some bytes
@@ -188,13 +240,14 @@ told_some before after x report.End h =
     omega (arith, ap length h.0.reached.joined, length-append h.0.reached.whole end_of_stream)
 
 -- so the source has fewer left
-pub fewer_left : (old now new : Option (List ℕ)) (b0 b1 b2 f0 f1 n0 n1 n2 : ℕ) (before decoder after : Decoding) (count : ℕ)
-    (r : Result (Option Event) Fault) (p : Pulling old now b0 b1 f0 f1 n0 n1 before decoder)
+pub fewer_left : (most : Option ℕ) (old now new : Option (List ℕ)) (b0 b1 b2 f0 f1 n0 n1 n2 : ℕ) (before decoder after : Decoding)
+    (count : ℕ)
+    (r : Result (Option Event) Fault) (p : Pulling most old now b0 b1 f0 f1 n0 n1 before decoder)
     (t : Draws now new decoder after count r)
     (counted : n2 ≡ count_up n1 count) (e : Event) → r ≡ Ok (Some e) → OnOk r (b2 + count ≤ b1) → b2 < b0
 unfolding pulled
-fewer_left old now new b0 b1 b2 f0 f1 n0 n1 n2 before decoder after count r p t counted e is less =
-    let all = pulled old now new b0 b1 f0 f1 n0 n1 n2 before decoder after count r p t counted e is in
+fewer_left most old now new b0 b1 b2 f0 f1 n0 n1 n2 before decoder after count r p t counted e is less =
+    let all = pulled most old now new b0 b1 f0 f1 n0 n1 n2 before decoder after count r p t counted e is in
     let some = told_some before after (p.x ++ t.came) e all.gives in
     let fewer = subst (λ q. OnOk q (b2 + count ≤ b1)) is less in
     omega (arith, p.fewer, fewer, some, t.counted, length-append p.x t.came)
@@ -205,8 +258,8 @@ fewer_left old now new b0 b1 b2 f0 f1 n0 n1 n2 before decoder after count r p t 
 abbrev closed_now : Decoding → Decoding
 closed_now d = record { limits = d.limits; state = d.state; stage = over Closed; messages = d.messages; room = no_capacity }
 
-module _ (old now : Option (List ℕ)) (b0 b1 f0 f1 n0 n1 : ℕ) (before decoder after : Decoding)
-    (p : Pulling old now b0 b1 f0 f1 n0 n1 before decoder) (at_end : IsAtEnd now) where
+module _ (most : Option ℕ) (old now : Option (List ℕ)) (b0 b1 f0 f1 n0 n1 : ℕ) (before decoder after : Decoding)
+    (p : Pulling most old now b0 b1 f0 f1 n0 n1 before decoder) (at_end : IsAtEnd now) where
   closing : (r : Result End Fault) → ClosesAt decoder decoder.stage after r → ClosesAt decoder (taking p.z) after r
   closing r h = subst (λ s. ClosesAt decoder s after r) p.kept h
 
@@ -233,6 +286,11 @@ module _ (old now : Option (List ℕ)) (b0 b1 f0 f1 n0 n1 : ℕ) (before decoder
       cut (inl some) is same = reasons.truncated p.undecided.0 is p.undecided.1 (inr some) at_end
       cut (inr none) is same = reasons.truncated p.undecided.0 is p.undecided.1 (inl (same ∙ none)) at_end
 
+  pub cut_within : (e : Fault) → ClosesAt decoder decoder.stage after (Err e)
+      → PullsWithin most old now n0 n1 before after (Err (stop.Refused e))
+  unfolding pull_cut
+  cut_within e h = (pull_cut e h, record { within = p.held; above = λ bad. absurd (cc) })
+
   -- between two messages
   pub pull_closed : (end : End) → ClosesAt decoder decoder.stage after (Ok end) → Pulls old now n0 n1 before after (Ok None)
   pull_closed end h =
@@ -251,6 +309,51 @@ module _ (old now : Option (List ℕ)) (b0 b1 f0 f1 n0 n1 : ℕ) (before decoder
           at = ap (λ d. d.stage) c.3;
         };
       }
+
+  pub closed_within : (end : End) → ClosesAt decoder decoder.stage after (Ok end) → PullsWithin most old now n0 n1 before after (Ok None)
+  unfolding pull_closed
+  closed_within end h = (pull_closed end h, record { within = p.held; above = λ bad. absurd (cc) })
+
+-- ---- more may not be held
+
+-- an undecided beginning was taken, as where the source failed
+pub held_stops : (most : Option ℕ) (old now : Option (List ℕ)) (b0 b1 f0 f1 n0 n1 : ℕ) (before decoder after : Decoding)
+    (p : Pulling most old now b0 b1 f0 f1 n0 n1 before decoder) → after ≡ at_stage decoder refused
+    → (IsWithin most (dictionary_bytes decoder.state + length p.z + p.undecided.0) → ⊥)
+    → PullsWithin most old now n0 n1 before after (Err stop.Held)
+held_stops most old now b0 b1 f0 f1 n0 n1 before decoder after p is above = (
+  record {
+    x = p.x;
+    takes = p.takes;
+    gives = record {
+      rest = p.z;
+      reaches = subst (λ d. Reaches before d p.x [] p.z) (sym is)
+          (record { reached = p.reaches.reached; counted = p.reaches.counted });
+      ends = reasons.aside (inl refl) (record {
+        front = p.z;
+        behind = [];
+        wants = p.undecided.0;
+        joined = sym (append-nil p.z);
+        undecided = p.undecided.1;
+        few = omega arith;
+      });
+      memory = λ out. absurd (cc);
+      at = ap (λ d. d.stage) is;
+    };
+  },
+  record {
+    within = p.held;
+    above = λ stops. record {
+      events = [];
+      state = decoder.state;
+      rest = p.z;
+      reached = p.reaches.reached;
+      wants = p.undecided.0;
+      undecided = p.undecided.1;
+      above = above;
+    };
+  },
+)
 
 -- where no byte came, the source is at its end
 pub none_came : (now new : Option (List ℕ)) (decoder after : Decoding) (count : ℕ) (r : Result (Option Event) Fault) (z : List ℕ)

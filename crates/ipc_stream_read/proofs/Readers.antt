@@ -1,6 +1,9 @@
 -- What the calls of a reader say.
 use Rattle.std.proofs.Common.{◌≡◌, ◌≢◌, ◌∙◌, refl, sym, ap, subst, ℕ, ◌-◌, ◌^◌, ◌≤◌, length, List, [], ◌∷◌, Option, None, Some, Ok}
-use Rattle.std.proofs.Common.{Err, Result, arith}
+use Rattle.std.proofs.Common.{Err, Result, arith, ◌++◌}
+use Rattle.std.specs.Prelude.{IsSome, MatchResult}
+use Rattle.std.specs.Io.KnownBytes.{Consumes}
+use Rattle.std.proofs.KnownBytes.{Consumes-trans}
 use Rattle.ipc_model.specs.declared.fault.Fault.{Fault}
 use Rattle.ipc_model.specs.declared.limits.Limits.{Limits}
 use Rattle.ipc_stream_read.specs.declared.end.End.{End}
@@ -13,14 +16,20 @@ use Rattle.ipc_stream_read.specs.Decoding.{Decoding, Stage, ReportsLastEvent, Re
 use Rattle.ipc_stream_read.specs.Found.{ReadRows, batch_rows}
 use Rattle.ipc_stream_read.specs.Reader.{EndsAfter, LeadsTo, NextAnswer, NextCall, OpenFails, Opens, Reader, WorksWhile}
 use Rattle.ipc_stream_read.specs.Reader.{KeepsNone, Reading, dictionaries_in_force, in_force_of, phase_of, schema_in}
-use Rattle.ipc_stream_read.specs.Failures.{FailsAs}
+use Rattle.ipc_stream_read.specs.Failures.{CountsFault, FailsAs}
+use Rattle.ipc_stream_read.specs.Held.{CountsStop, HeldAfter, HeldInAll, HeldSoFar, KeepsWithin, WouldHold, as_fault, fault_of}
+use Rattle.ipc_stream_read.specs.declared.read_stop.ReadStop.{ReadStop}
+use Rattle.ipc_stream_read.specs.declared.read_stop.ReadStop.TheVariants as stop
 use Rattle.ipc_stream_read.specs.ReadBatches.{IsReadFrom}
 use Rattle.ipc_stream_read.specs.Reasons.{Ends, NeedsMemory, Reads}
-use Rattle.ipc_stream_read.specs.Stream.{State, MessageEvent, schema, batch, Run}
+use Rattle.ipc_stream_read.specs.Stream.{State, MessageEvent, schema, batch, Run, initial_state}
 use Rattle.ipc_stream_read.specs.Taken.{Pulls, StopsAt, Takes, TakesSchema}
-use Rattle.ipc_stream_read.proofs.Nexts.{mark_stops, no_second, run_keeps}
+use Rattle.ipc_stream_read.proofs.Held.{keeps_then}
+use Rattle.ipc_stream_read.proofs.Nexts.{mark_stops, no_second, run_closed, run_keeps, schema_broken, schema_first, schema_read}
+use Rattle.ipc_stream_read.proofs.Nexts.{step_schema}
+use Rattle.ipc_stream_read.proofs.PulledEvents.{PullsWithin}
 use Rattle.ipc_stream_read.proofs.Reasons.{run_open}
-use Rattle.ipc_stream_read.proofs.Runs.{told_run}
+use Rattle.ipc_stream_read.proofs.Runs.{run_then, told_run}
 
 -- what a reader is, by its source, its decoder and the bytes that were counted
 abbrev pub reader_of : Option (List ℕ) → ℕ → ℕ → Decoding → ℕ → Reader
@@ -138,13 +147,15 @@ module _ (old new : Option (List ℕ)) (f0 f1 b0 b1 n0 n1 : ℕ) (before after :
   }
 
 -- the same of a reader that is so
-pub seen_answers : (old new : Option (List ℕ)) (f0 f1 b0 b1 n0 n1 : ℕ) (before after : Decoding) (some : before.state ≢ None)
+pub seen_answers : (most : Option ℕ) (old new : Option (List ℕ)) (f0 f1 b0 b1 n0 n1 : ℕ) (before after : Decoding)
+    (some : before.state ≢ None)
     (reading : phase_of before.stage ≡ Reading) (same_limits : after.limits ≡ before.limits) (o : Reader)
-    → reader_of old f0 b0 before n0 ≡ o → (q r : Result (Option Event) Fault) → q ≡ r
-    → Pulls old new n0 n1 before after q → NextCall o (reader_of new f1 b1 after n1) (found_of r)
-seen_answers old new f0 f1 b0 b1 n0 n1 before after some reading same_limits o seen q r is t =
-    subst (λ p. NextCall p (reader_of new f1 b1 after n1) (found_of r)) seen
-    (next_answers old new f0 f1 b0 b1 n0 n1 before after some reading same_limits r (subst (Pulls old new n0 n1 before after) is t))
+    → reader_of old f0 b0 before n0 ≡ o → (q r : Result (Option Event) ReadStop) → q ≡ r
+    → PullsWithin most old new n0 n1 before after q → NextCall o (reader_of new f1 b1 after n1) (found_of (as_fault r))
+seen_answers most old new f0 f1 b0 b1 n0 n1 before after some reading same_limits o seen q r is t =
+    subst (λ p. NextCall p (reader_of new f1 b1 after n1) (found_of (as_fault r))) seen
+    (next_answers old new f0 f1 b0 b1 n0 n1 before after some reading same_limits (as_fault r)
+    (subst (PullsWithin most old new n0 n1 before after) is t).0)
 
 -- what a reader keeps between two calls
 pub record Ready (failures taken : ℕ) (d : Decoding) : Type 0 where
@@ -179,6 +190,17 @@ module _ (old new : Option (List ℕ)) (f0 f1 n0 n1 : ℕ) (before after : Decod
       stopped t.x (over Mark) (Ok Mark) (mark_stops before after t.x new t.gives) (λ is. absurd (cc)) (omega (arith, t.takes.counted))
   ready (Ok None) t fails = stopped t.x (over Closed) (Ok Closed) t.gives (λ is. absurd (cc)) (omega (arith, t.takes.counted))
   ready (Err e) t fails = stopped t.x refused (Err e) t.gives (λ is. absurd (cc)) (omega (arith, t.takes.counted))
+
+-- it does so where it stopped too
+pub ready_stopped : (old new : Option (List ℕ)) (f0 f1 n0 n1 : ℕ) (before after : Decoding) → before.state ≢ None
+    → (q : Result (Option Event) ReadStop) → Pulls old new n0 n1 before after (as_fault q)
+    → MatchResult q (λ _. (f0 ≡ 0) × (f1 ≡ 0)) (CountsStop f0 f1) → Ready f1 n1 after
+ready_stopped old new f0 f1 n0 n1 before after some (Ok found) t works = ready old new f0 f1 n0 n1 before after some (Ok found) t works
+ready_stopped old new f0 f1 n0 n1 before after some (Err why) t works =
+    stopped old new f0 f1 n0 n1 before after some t.x refused (Err (fault_of why)) t.gives (λ is. absurd (cc)) (omega (
+      arith,
+      t.takes.counted,
+    ))
 
 -- where some are wanted, it reads
 pub wants_some : (limits : Limits) (s : Stage) (k : ℕ) → Wants limits (progress_at s) k → (k ≡ 0 → ⊥) → phase_of s ≡ Reading
@@ -215,3 +237,191 @@ pub open_fails : (old new : Option (List ℕ)) (n0 n1 : ℕ) (before after : Dec
 open_fails old new n0 n1 before after limits e same t =
     let both = subst (λ l. (r : Reads l None t.x new [] (Err e)) × NeedsMemory l r.rest (Err e)) same t.gives in
     record { x = t.x; bytes = t.takes.bytes; reads = both.0; memory = both.1 }
+
+-- ---- what a reader holds
+
+-- a reader with any number of bytes doesn't stop for them
+pub no_maximum : {limits : Limits} → (σ : State) (x : List ℕ) → WouldHold limits None σ x → ⊥
+no_maximum σ x w = w.above tt
+
+-- where it stopped for them, there is a maximum
+pub has_maximum : {limits : Limits} → (most : Option ℕ) (old new : Option (List ℕ)) (stops : Type 0) → HeldInAll limits most old new stops
+    → stops → most ≢ None
+has_maximum {limits} most old new stops h s none =
+    no_maximum None h.x (subst (λ m. WouldHold limits m None h.x) none (h.keeps.above s))
+
+-- where it stops for fewer reasons, more would be held too
+pub all_held : {limits : Limits} → (most : Option ℕ) (old new : Option (List ℕ)) {stops ends : Type 0} → (ends → stops)
+    → HeldInAll limits most old new stops → HeldInAll limits most old new ends
+all_held most old new means h = record {
+  x = h.x;
+  bytes = h.bytes;
+  keeps = record { within = h.keeps.within; above = λ s. h.keeps.above (means s) };
+}
+
+-- what was held stays within a maximum where no more is taken
+pub still_held : {limits : Limits} → (most : Option ℕ) (start : Option (List ℕ)) (r : Reader) (stops : Type 0) → (stops → ⊥)
+    → HeldSoFar limits most start r → HeldInAll limits most start r.remaining stops
+still_held most start r stops none h = record {
+  x = h.x;
+  bytes = h.bytes;
+  keeps = record { within = h.within; above = λ s. absurd (none s) };
+}
+
+-- what `next_within` answers of what was pulled
+abbrev pub found_within : Result (Option Event) ReadStop → Result (Option ReadRows) ReadStop
+found_within (Ok (Some (report.Batch found pairs))) = Ok (Some (found, pairs))
+found_within (Ok found) = Ok None
+found_within (Err why) = Err why
+
+module _ (most : Option ℕ) (old new : Option (List ℕ)) (f0 f1 b0 b1 n0 n1 : ℕ) (before after : Decoding) (some : before.state ≢ None)
+    (limits : Limits) (start : Option (List ℕ))
+    (h : HeldSoFar limits most start (reader_of old f0 b0 before n0)) where
+  abbrev now_held : Reader
+  now_held = reader_of new f1 b1 after n1
+
+  keeps_here : (x : List ℕ) (stops : Type 0) → KeepsWithin before.limits most before.state x stops
+      → KeepsWithin limits most None (h.x ++ x) stops
+  keeps_here x stops keeps =
+      let here = subst (λ l. KeepsWithin l most before.state x stops) h.same_limits keeps in
+      keeps_then most None (Some (in_force_of (reader_of old f0 b0 before n0))) h.x x h.events stops h.within h.run
+      (subst (λ σ. KeepsWithin limits most σ x stops) (some_is before.state some) here)
+
+  in_all : (x : List ℕ) (stops ends : Type 0) → (ends → stops) → Consumes old new x
+      → KeepsWithin before.limits most before.state x stops → HeldInAll limits most start new ends
+  in_all x stops ends means bytes keeps =
+      let all = keeps_here x stops keeps in
+      record {
+        x = h.x ++ x;
+        bytes = Consumes-trans start old new h.x x h.bytes bytes;
+        keeps = record { within = all.within; above = λ s. all.above (means s) };
+      }
+
+  so_far : (x : List ℕ) (e : MessageEvent) (stops : Type 0) → after.limits ≡ before.limits → ReportsOneEvent before after x e
+      → Consumes old new x
+      → KeepsWithin before.limits most before.state x stops → HeldSoFar limits most start now_held
+  so_far x e stops same_limits t bytes keeps =
+      let run = told_run before.state after.state x e t.last in
+      let open_after = run_open run some in
+      let from = subst (λ σ. Run before.limits σ x (e ∷ []) after.state) (some_is before.state some) run in
+      let both = subst (λ τ. Run before.limits (Some (in_force_of (reader_of old f0 b0 before n0))) x (e ∷ []) τ)
+      (some_is after.state open_after) from in
+      let here = subst (λ l. Run l (Some (in_force_of (reader_of old f0 b0 before n0))) x (e ∷ []) (Some (in_force_of now_held)))
+      h.same_limits both in
+      record {
+        x = h.x ++ x;
+        bytes = Consumes-trans start old new h.x x h.bytes bytes;
+        events = h.events ++ e ∷ [];
+        run = run_then None (Some (in_force_of (reader_of old f0 b0 before n0))) (Some (in_force_of now_held)) h.x x h.events (e ∷ []) h.run
+            here;
+        within = (keeps_here x stops keeps).within;
+        same_limits = same_limits ∙ h.same_limits;
+      }
+
+  held_after : (q : Result (Option Event) ReadStop) → after.limits ≡ before.limits → PullsWithin most old new n0 n1 before after q
+      → HeldAfter limits most start now_held (found_within q)
+  held_after (Ok (Some report.Schema)) same (t, keeps) = absurd (no_second before after t.x some t.gives)
+  held_after (Ok (Some (report.Batch found pairs))) same (t, keeps) =
+      so_far t.x (batch (batch_rows (found, pairs))) _ same t.gives.0 t.takes.bytes keeps
+  held_after (Ok (Some report.End)) same (t, keeps) = in_all t.x _ _ (λ bad. absurd (cc)) t.takes.bytes keeps
+  held_after (Ok None) same (t, keeps) = in_all t.x _ _ (λ bad. absurd (cc)) t.takes.bytes keeps
+  held_after (Err why) same (t, keeps) =
+      in_all t.x _ _ (λ is. let held : why ≡ stop.Held = cc in ap Err held) t.takes.bytes keeps
+
+-- the same of a reader that is so
+pub seen_held : (most : Option ℕ) (old new : Option (List ℕ)) (f0 f1 b0 b1 n0 n1 : ℕ) (before after : Decoding) (some : before.state ≢ None)
+    (limits : Limits) (start : Option (List ℕ)) (o : Reader) → reader_of old f0 b0 before n0 ≡ o → after.limits ≡ before.limits
+    → (q r : Result (Option Event) ReadStop) → q ≡ r → PullsWithin most old new n0 n1 before after q → HeldSoFar limits most start o
+    → HeldAfter limits most start (reader_of new f1 b1 after n1) (found_within r)
+seen_held most old new f0 f1 b0 b1 n0 n1 before after some limits start o seen same q r is t h =
+    held_after most old new f0 f1 b0 b1 n0 n1 before after some limits start (subst (HeldSoFar limits most start) (sym seen) h) r same
+    (subst (PullsWithin most old new n0 n1 before after) is t)
+
+-- ---- what it holds of the schema's message
+
+module _ (most : Option ℕ) (old new : Option (List ℕ)) (n0 n1 : ℕ) (before after : Decoding) (limits : Limits)
+    (same_limits : after.limits ≡ before.limits) (fresh : before.limits ≡ limits)
+    (none : before.state ≡ None) (zero_messages : before.messages ≡ 0) where
+  keeps_first : (x : List ℕ) (stops : Type 0) → KeepsWithin before.limits most before.state x stops → KeepsWithin limits most None x stops
+  keeps_first x stops keeps =
+      subst (λ l. KeepsWithin l most None x stops) fresh (subst (λ σ. KeepsWithin before.limits most σ x stops) none keeps)
+
+  pub opens_stopped : (q : Result (Option Event) ReadStop) (why : ReadStop) → q ≡ Err why
+      → PullsWithin most old new n0 n1 before after q → OpenFails limits old new (fault_of why)
+  opens_stopped q why is t =
+      let here = subst (PullsWithin most old new n0 n1 before after) is t in
+      open_fails old new n0 n1 before after limits (fault_of why) fresh
+      (schema_broken old new n0 n1 before after same_limits none zero_messages (fault_of why) here.0)
+
+  pub stopped_held : (q : Result (Option Event) ReadStop) (why : ReadStop) → q ≡ Err why
+      → PullsWithin most old new n0 n1 before after q → HeldInAll limits most old new (why ≡ stop.Held)
+  stopped_held q why is t =
+      let here = subst (PullsWithin most old new n0 n1 before after) is t in
+      let keeps = keeps_first here.0.x _ here.1 in
+      record {
+        x = here.0.x;
+        bytes = here.0.takes.bytes;
+        keeps = record { within = keeps.within; above = λ held. keeps.above (ap Err held) };
+      }
+
+  -- the event is the schema's
+  first_here : (q : Result (Option Event) ReadStop) (found : Option Event) → q ≡ Ok found
+      → PullsWithin most old new n0 n1 before after q → PullsWithin most old new n0 n1 before after (Ok (Some report.Schema))
+  first_here q found is t =
+      let here = subst (PullsWithin most old new n0 n1 before after) is t in
+      subst (λ f. PullsWithin most old new n0 n1 before after (Ok f))
+      (schema_first old new n0 n1 before after same_limits none zero_messages found here.0) here
+
+  pub opens_some : (q : Result (Option Event) ReadStop) (found : Option Event) → q ≡ Ok found
+      → PullsWithin most old new n0 n1 before after q → IsSome found
+  opens_some q found is t =
+      let here = subst (PullsWithin most old new n0 n1 before after) is t in
+      subst IsSome (sym (schema_first old new n0 n1 before after same_limits none zero_messages found here.0)) refl
+
+  -- the decoder is between two messages then
+  pub opened_ready : (f0 f1 : ℕ) (q : Result (Option Event) ReadStop) (found : Option Event) → q ≡ Ok found
+      → PullsWithin most old new n0 n1 before after q → MatchResult q (λ _. (f0 ≡ 0) × (f1 ≡ 0)) (CountsStop f0 f1) → Ready f1 n1 after
+  opened_ready f0 f1 q found is t works =
+      let h = schema_read old new n0 n1 before after same_limits none zero_messages (first_here q found is t).0 in
+      let now = h.gives.2 in
+      let worked = subst (λ r. MatchResult r (λ _. (f0 ≡ 0) × (f1 ≡ 0)) (CountsStop f0 f1)) is works in
+      record {
+        is_open = λ bad. let same : Some (initial_state h.gives.0) ≡ None = sym (ap (λ d. d.state) now) ∙ bad in cc;
+        between = λ z at.
+            let same : taking [] ≡ taking z = sym (ap (λ d. d.stage) now) ∙ at in
+            let empty : [] ≡ z = cc in sym empty;
+        works = λ z at. worked.1;
+        counted = let one = ap (λ d. d.messages) now in omega (arith, one);
+        taken_counted = omega (arith, h.takes.counted);
+      }
+
+  pub opens_within : (f b : ℕ) (q : Result (Option Event) ReadStop) (found : Option Event) → q ≡ Ok found → n0 ≡ 0
+      → PullsWithin most old new n0 n1 before after q → Opens limits old (reader_of new f b after n1)
+  opens_within f b q found is zero t =
+      opens old new f b n0 n1 before after limits zero fresh
+      (schema_read old new n0 n1 before after same_limits none zero_messages (first_here q found is t).0)
+
+  pub opened_held : (f b : ℕ) (q : Result (Option Event) ReadStop) (found : Option Event) → q ≡ Ok found
+      → PullsWithin most old new n0 n1 before after q → HeldSoFar limits most old (reader_of new f b after n1)
+  opened_held f b q found is t =
+      let here = first_here q found is t in
+      let s = here.0.gives.0 in
+      let h = here.0.gives.1 in
+      let run = told_run before.state after.state here.0.x (schema s) h.last in
+      let nothing = run_closed h.last.run none refl in
+      let now = step_schema s h.last.report.step nothing.1 refl in
+      record {
+        x = here.0.x;
+        bytes = here.0.takes.bytes;
+        events = schema s ∷ [];
+        run = subst (λ l. Run l None here.0.x (schema s ∷ []) (Some (in_force_of (reader_of new f b after n1)))) fresh
+            (subst (λ τ. Run before.limits None here.0.x (schema s ∷ []) τ) (some_is after.state (λ bad. absurd (cc (bad, now))))
+            (subst (λ σ. Run before.limits σ here.0.x (schema s ∷ []) after.state) none run));
+        within = (keeps_first here.0.x _ here.1).within;
+        same_limits = same_limits ∙ fresh;
+      }
+
+-- a reader with any number of bytes stops for a fault alone
+pub counts_fault : (f0 f1 : ℕ) (why : ReadStop) → (why ≡ stop.Held → ⊥) → CountsStop f0 f1 why → CountsFault f0 f1 (fault_of why)
+counts_fault f0 f1 (stop.Refused fault) other h = h
+counts_fault f0 f1 stop.Held other h = absurd (other refl)

@@ -11,6 +11,7 @@ pub mod Alone
 pub mod Scopes
 pub mod Reader
 pub mod StreamStates
+pub mod Held
 pub mod Taken
 pub mod Laws
 pub mod Ends

@@ -49,13 +49,16 @@ impl Model for Decoder {
 }
 
 impl Decoder {
-    ghost use Rattle.std.specs.Prelude.{◌≡◌, ◌≤◌, ◌+◌, [], None, IfOk, IfSome, MatchResult, OnOk};
-    ghost use Rattle.std.specs.Prelude.{option_copied};
+    ghost use Rattle.std.specs.Prelude.{◌≡◌, ◌≤◌, ◌+◌, ℕ, List, [], None, IfOk, IfSome};
+    ghost use Rattle.std.specs.Prelude.{MatchResult, OnOk, IsFalse, IsTrue, length, option_copied};
+    ghost use Rattle.ipc_frame.specs.Frames.{Pending};
     ghost use Rattle.ipc_frame.specs.Parts.{GrowsWithBytes, no_capacity};
     ghost use Rattle.ipc_frame.specs.Pieces.{DropsBuffers, Wants, held_of};
     ghost use Rattle.ipc_frame.specs.Pulled.{FailsWhile};
     ghost use Rattle.ipc_stream_read.specs.Decoding.{ClosesAt, Draws, Feeds, HasColumns};
-    ghost use Rattle.ipc_stream_read.specs.Decoding.{progress_at, schema_of, stored_bytes, taking};
+    ghost use Rattle.ipc_stream_read.specs.Decoding.{at_stage, dictionary_bytes, progress_at};
+    ghost use Rattle.ipc_stream_read.specs.Decoding.{refused, schema_of, stored_bytes, taking};
+    ghost use Rattle.ipc_stream_read.specs.Held.{IsWithin};
     ghost use Rattle.ipc_stream_read.specs.Reader.{end_of, phase_of};
 
     /// Creates a decoder at the beginning of a stream. All that it accepts, in each call, is within
@@ -210,6 +213,32 @@ impl Decoder {
         ensures { result ≡ self.now.limits }
     {
         self.frames.limits()
+    }
+
+    // Whether at most `most` bytes are held after the next call of a source, if there is a maximum.
+    pub(crate) fn has_room(&self, most: Option<u64>) -> bool
+        ensures within { (z : List ℕ) (k : ℕ) → self.now.stage ≡ taking z
+            → Pending self.now.limits z k → IsTrue result
+            → IsWithin most (dictionary_bytes self.now.state + length z + k) }
+        ensures above { (z : List ℕ) (k : ℕ) → self.now.stage ≡ taking z
+            → Pending self.now.limits z k → IsFalse result
+            → IsWithin most (dictionary_bytes self.now.state + length z + k) → ⊥ }
+    {
+        match most {
+            None => true,
+            Some(most) => match most.checked_sub(self.held() as u64) {
+                Some(room) => self.wants() as u64 <= room,
+                None => false,
+            },
+        }
+    }
+
+    // Takes no more bytes: from now on each call returns F35.
+    pub(crate) fn give_up(&mut self)
+        requires { end_of (phase_of self.old.stage) ≡ None }
+        ensures { self.new ≡ at_stage self.old refused }
+    {
+        self.frames.refuse(Fault::Failed);
     }
 
     // How the stream ended, if it did.

@@ -1,9 +1,13 @@
 ghost use Rattle.std.specs.Prelude.{◌≡◌, ◌≢◌, ◌≤◌, ◌-◌, ◌^◌, ◌<◌, ◌++◌, ℕ, List, None, Some, IfOk};
-ghost use Rattle.std.specs.Prelude.{IfErr, IfSome, IsSome, MatchResult, length};
+ghost use Rattle.std.specs.Prelude.{Err, IfErr, IfSome, IsSome, MatchResult, Option, length};
+ghost use Rattle.ipc_model.specs.declared.limits.Limits.{Limits};
 ghost use Rattle.ipc_model.specs.declared.schema.Schema.{Schema};
 ghost use Rattle.ipc_model.specs.declared.table.BatchRows.{BatchRows};
 ghost use Rattle.ipc_stream_read.specs.declared.end.End.{End};
+ghost use Rattle.ipc_stream_read.specs.declared.read_stop.ReadStop.TheVariants.{Held, Refused};
 ghost use Rattle.ipc_stream_read.specs.Failures.{StaysOrFails, CountsFault};
+ghost use Rattle.ipc_stream_read.specs.Held.{CountsStop, HeldAfter, HeldInAll, HeldSoFar};
+ghost use Rattle.ipc_stream_read.specs.Held.{as_fault, fault_of};
 ghost use Rattle.ipc_stream_read.specs.Reader.{BeginsEnd, Ended, GivesBatch, KeepsNone, NextCall};
 ghost use Rattle.ipc_stream_read.specs.Reader.{OpenFails, Opens, Reading, WorksWhile, end_of};
 ghost use Rattle.ipc_stream_read.specs.Reader.{in_force_of};
@@ -13,7 +17,8 @@ ghost use Rattle.ipc_stream_read.specs.Stream.{InForce, OpensStream, SetsOnly, D
 use crate::decoder::Decoder;
 use crate::end::End;
 use crate::event::Event;
-use crate::source_reading::{pull, read_schema};
+use crate::read_stop::ReadStop;
+use crate::source_reading::pull_within;
 use ipc_column::Batch;
 use ipc_device::Source;
 use ipc_model::{Fault, Field, Items, Limits, Schema, Text};
@@ -76,16 +81,52 @@ impl<R: Source> StreamReader<R> {
             → R.remaining source ≡ Some (x ++ rest) → OpensStream limits s x
             → MatchResult result (λ reader. reader.schema ≡ s) (λ e. IsOutside e.0) }
     {
+        match StreamReader::open_within(alloc, limits, None, source) {
+            Ok(reader) => Ok(reader),
+            Err((stop, source)) => Err((stop.fault(), source)),
+        }
+    }
+
+    /// Reads the first message, as `open`, and holds at most `most_held` bytes of it, if there is a
+    /// maximum. `Decoder::held` says which bytes are held.
+    ///
+    /// Errors: `Refused` with the faults of `open`. `Held` if more bytes may be held after the next
+    /// call of the source; the source is as a failed one leaves it, but has not failed.
+    pub fn open_within(
+        alloc: Global,
+        limits: Limits,
+        most_held: Option<u64>,
+        source: R,
+    ) -> Result<StreamReader<R>, (ReadStop, R)>
+        ensures opened { IfOk result (λ s. Opens limits (R.remaining source) s) }
+        ensures refused { IfErr result (λ e. OpenFails limits (R.remaining source)
+            (R.remaining e.1) (fault_of e.0)) }
+        ensures failures { MatchResult result (λ s. (R.failures source ≡ 0) × (s.failures ≡ 0))
+            (λ e. CountsStop (R.failures source) (R.failures e.1) e.0) }
+        ensures fewer { IfOk result (λ s. s.bound < R.bound source) }
+        // The message of a schema, at the front of the source, is read, whatever follows it, unless
+        // memory runs out, the source fails, or more would be held.
+        ensures schema { (x rest : List ℕ) (s : Schema)
+            → R.remaining source ≡ Some (x ++ rest) → OpensStream limits s x
+            → MatchResult result (λ reader. reader.schema ≡ s) (λ e. IsOutside (fault_of e.0)) }
+        // After each byte that was taken, at most `most_held` bytes were held. At `Held` more would
+        // be with the bytes up to the next decision on the message.
+        ensures held { MatchResult result
+            (λ s. HeldSoFar limits most_held (R.remaining source) s)
+            (λ e. HeldInAll limits most_held (R.remaining source) (R.remaining e.1)
+            (e.0 ≡ Held)) }
+    {
         let mut source = source;
         let mut decoder = Decoder::new(alloc, limits);
         let mut taken = 0;
-        match read_schema(&mut source, &mut decoder, &mut taken) {
-            Ok(()) => Ok(StreamReader {
+        match pull_within(&mut source, &mut decoder, &mut taken, most_held) {
+            // The decoder refuses a stream that begins with anything else than a schema.
+            Ok(_) => Ok(StreamReader {
                 source,
                 decoder,
                 taken,
             }),
-            Err(fault) => Err((fault, source)),
+            Err(stop) => Err((stop, source)),
         }
     }
 
@@ -142,13 +183,51 @@ impl<R: Source> StreamReader<R> {
             → MatchResult result (λ next. (next ≡ None) × (self.new.phase ≡ Ended end))
             IsOutside }
     {
+        match self.next_within(None) {
+            Ok(next) => Ok(next),
+            Err(stop) => Err(stop.fault()),
+        }
+    }
+
+    /// Returns the next batch, as `next`, and holds at most `most_held` bytes, if there is a
+    /// maximum: those of the current message, and the bodies of the dictionaries in force.
+    ///
+    /// Errors: `Refused` with the faults of `next`. `Held` if more bytes may be held after the next
+    /// call of the source: nothing more is taken from it, and each later call returns F35. The
+    /// message has the number `messages`.
+    pub fn next_within(
+        &mut self,
+        most_held: Option<u64>,
+    ) -> Result<Option<(Batch, Items<(Text, Text)>)>, ReadStop>
+        // `Held` is like a failure of the source: an undecided beginning of a message was taken.
+        ensures next { NextCall self.old self.new (as_fault result) }
+        // A batch has a column for each field of the schema.
+        ensures columns { IfOk result
+            (λ next. IfSome next (λ found. found.0.columns ≡ length self.old.schema.fields)) }
+        ensures fewer { IfOk result (λ next. IsSome next → self.new.bound < self.old.bound) }
+        ensures failures { MatchResult result (λ _. self.new.failures ≡ self.old.failures)
+            (λ why. CountsStop self.old.failures self.new.failures why) }
+        // F36 is answered only where the source had not failed before.
+        ensures rose { IfErr result (λ why. why ≡ Refused Fault.Read → self.old.failures ≡ 0) }
+        ensures unlimited { most_held ≡ None → result ≡ Err Held → ⊥ }
+        // If each call had this maximum, never more bytes were held. At `Held` more would be with
+        // the bytes up to the next decision on the message.
+        ensures held { (limits : Limits) (start : Option (List ℕ))
+            → HeldSoFar limits most_held start self.old
+            → HeldAfter limits most_held start self.new result }
+    {
         if self.decoder.wants() == 0 {
             return match self.decoder.end() {
                 Some(_) => Ok(None),
-                None => Err(Fault::Failed),
+                None => Err(ReadStop::Refused(Fault::Failed)),
             };
         }
-        match pull(&mut self.source, &mut self.decoder, &mut self.taken)? {
+        match pull_within(
+            &mut self.source,
+            &mut self.decoder,
+            &mut self.taken,
+            most_held,
+        )? {
             Some(Event::Schema) => unreachable!(),
             Some(Event::Batch(batch, pairs)) => Ok(Some((batch, pairs))),
             Some(Event::End) => Ok(None),

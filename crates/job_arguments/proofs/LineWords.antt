@@ -24,7 +24,6 @@ use Rattle.job_arguments.specs.CommandLine.{arrowstream}
 use Rattle.job_arguments.specs.Arguments.{Asks, AsksNoJob, HasFlag, HasNumber, HasWrongValue, IsCommand}
 use Rattle.job_arguments.specs.Arguments.{IsFound, IsUsageOf, IsWrong, IsWrongFor, IsWrongFound, LacksNumber}
 use Rattle.job_arguments.specs.declared.arguments.Invocation.{Invocation}
-use Rattle.job_arguments.specs.declared.arguments.Job.{Job}
 use Rattle.job_arguments.specs.declared.arguments.Usage.{Usage}
 use Rattle.job_arguments.specs.declared.arguments.Usage.TheVariants as usage
 
@@ -151,7 +150,8 @@ refused_by words c {e} is (Err x) same kinds =
     err_is x y h = cc
 
 -- a usage that says that the words are wrong is also one for a value that is none of its option's
-pub value_wrong : {cause : Type 0} (name : Text) (rows : List Row) (why : Usage) (r : Result Job Usage) → (cause → HasWrongValue name rows)
+pub value_wrong : {cause T : Type 0} (name : Text) (rows : List Row) (why : Usage) (r : Result T Usage)
+    → (cause → HasWrongValue name rows)
     → IsErrAnd r (λ y. y ≡ why) → IsWrongFor cause why → IfErr r (IsWrongFor (HasWrongValue name rows))
 value_wrong name rows why (Ok j) follows same wrong = absurd same
 value_wrong name rows why (Err e) follows same wrong =

@@ -160,6 +160,8 @@ pub data HasWrongValue (name : Text) (rows : List Row) : Type 0 where
   limit : HasLimits name → HasWrongLimit rows → HasWrongValue name rows
   -- the number of rows to print is no number of 64 bits
   count : HasLimit name → LacksCount (codes "limit") 0 (2 ^ 64 - 1) rows → HasWrongValue name rows
+  -- the maximum of held bytes is no number of 64 bits
+  held : LacksCount (codes "max-held") 0 (2 ^ 64 - 1) rows → HasWrongValue name rows
   -- a limit of what is written is out of its range
   output : name ≡ codes "rewrite" → HasWrongOutput rows → HasWrongValue name rows
   -- the dialect of CSV is not allowed
@@ -173,12 +175,13 @@ pub data HasWrongValue (name : Text) (rows : List Row) : Type 0 where
   other : IsNoSubcommand name → HasWrongValue name rows
 
 -- the subcommand of this name, with what was found for its options, asks for this job, and has
--- these flags
+-- these flags and this maximum of held bytes
 abbrev pub IsInvocationOf : Text → List Row → Invocation → Type 0
 IsInvocationOf name rows asked =
     IsJobOf name rows asked.job × HasFlag (codes "explain") rows asked.explain
     × HasFlag (codes "progress") rows asked.progress
     × HasFlag (codes "require-eof") rows asked.require_eof
+    × HasCount (codes "max-held") 0 (2 ^ 64 - 1) rows asked.max_held
 
 -- the words ask for this: `clap` finds no fault in them, and they name a subcommand that asks for
 -- it

@@ -58,10 +58,15 @@ abbrev pub with_reports : App → App
 with_reports a = with_rule (with_rule (with_rule (with_rule a (flag (codes "require-mark")))
     (flag (codes "require-eof"))) explain) (flag (codes "progress"))
 
+-- the option with the maximum number of bytes that are held of a stream
+abbrev pub max_held : Rule
+max_held = count (codes "max-held") 0 (2 ^ 64 - 1)
+
 -- a subcommand with the options of those that read a stream: its limits, its end, and what is
 -- reported of it
 abbrev pub with_stream : App → App
-with_stream a = with_reports (with_schema_limits (with_message_limits a))
+with_stream a =
+    with_reports (with_schema_limits (with_rule (with_message_limits a) max_held))
 
 -- the subcommand that validates a stream
 abbrev pub check : App

@@ -104,6 +104,9 @@ pub struct Invocation {
     pub progress: bool,
     /// Whether nothing may follow a stream that is read to its end.
     pub require_eof: bool,
+    /// The maximum number of bytes that are held of a stream that is read, or `None` for any
+    /// number: those that came of the current message, and the bodies of the dictionaries in force.
+    pub max_held: Option<u64>,
 }
 
 /// Why a command line contains no job.
@@ -436,12 +439,12 @@ fn read_invocation(alloc: Global, name: &str, options: &ArgMatches<'_>) -> Resul
         (IsWrongFor (HasWrongValue name.now (rows_of (found_of options.now)))) }
     ensures size { IfOk result (λ asked. HasGoodSize asked.job) }
 {
-    let job = read_job(alloc, name, options)?;
     Ok(Invocation {
-        job,
+        job: read_job(alloc, name, options)?,
         explain: has_flag(options, "explain"),
         progress: has_flag(options, "progress"),
         require_eof: has_flag(options, "require-eof"),
+        max_held: read_count(alloc, options, "max-held", u64::MAX)?,
     })
 }
 

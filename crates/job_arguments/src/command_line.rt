@@ -242,12 +242,21 @@ fn with_reports<'a>(alloc: Global, command: Command<'a>) -> Result<Command<'a>, 
         ))
 }
 
+// The option for the number of bytes that are held of a stream.
+fn max_held<'a>(alloc: Global) -> Arg<'a>
+    ensures rule { rule_of result ≡ line.max_held }
+    ensures own { result.global ≡ false }
+{
+    let help = "Maximum bytes held of a message and of dictionaries; stop before more";
+    count(alloc, "max-held", u64::MAX, help)
+}
+
 // The options of a subcommand that reads a stream: its limits, its end, and what is reported of it.
 fn with_stream<'a>(alloc: Global, command: Command<'a>) -> Result<Command<'a>, AllocError>
     requires { IsCommand (app_of command) command }
     ensures { IfOk result (IsCommand (line.with_stream (app_of command.entry))) }
 {
-    let command = with_message_limits(alloc, command)?;
+    let command = with_message_limits(alloc, command)?.arg(max_held(alloc))?;
     with_reports(alloc, with_schema_limits(alloc, command)?)
 }
 

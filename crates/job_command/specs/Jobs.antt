@@ -18,7 +18,9 @@ use Rattle.ipc_text_json.specs.SchemaTexts.{StatesNoSchema}
 use Rattle.ipc_text_temporal.specs.declared.fault.TextFault.{TextFault}
 use Rattle.ipc_text_temporal.specs.declared.fault.TextFault.TheVariants as x
 use Rattle.job_print.specs.Reporting.{ReportsPrintedBatches}
+use Rattle.ipc_stream_read.specs.Held.{HeldInAll}
 use Rattle.job_print.specs.Streams.{Prints, PrintsSchema, CountsPrintFailures as PrintTells}
+use Rattle.job_print.specs.Streams.{IsHeld as IsHeldInPrint}
 use Rattle.ipc_text_csv.specs.RowCsv.{null_text}
 use Rattle.ipc_text_csv.specs.declared.dialect.Dialect.{Dialect}
 use Rattle.ipc_text_json.specs.declared.row.RowShape.{RowShape}
@@ -29,6 +31,7 @@ use Rattle.job_print.specs.declared.stop.PrintStop.{PrintStop}
 use Rattle.job_print.specs.declared.stop.PrintStop.TheVariants as print
 use Rattle.job_rewrite.specs.Reporting.{ReportsSentBatches}
 use Rattle.job_rewrite.specs.Rewriting.{Rewrites, CountsRewriteFailures as RewriteTells}
+use Rattle.job_rewrite.specs.Rewriting.{IsHeld as IsHeldInRewrite}
 use Rattle.job_rewrite.specs.declared.options.RewriteOptions.{RewriteOptions}
 use Rattle.job_rewrite.specs.declared.stop.RewriteStop.{RewriteStop}
 use Rattle.job_rewrite.specs.declared.stop.RewriteStop.TheVariants as rewrite
@@ -57,6 +60,7 @@ stop_status stop.Schema = fault_status f.Read
 stop_status (stop.Write fault) = write_fault_status fault
 stop_status (stop.Above total number) = 1
 stop_status stop.NoRoom = 1
+stop_status (stop.Held message) = 1
 stop_status (stop.Rows fault s) = write_fault_status fault
 stop_status (stop.Text fault) = text_status fault
 stop_status (stop.SchemaText text) = 1
@@ -72,6 +76,7 @@ abbrev pub stop_of_print : PrintStop → Stop
 stop_of_print (print.Read fault message) = stop.Read fault message
 stop_of_print (print.Write fault) = stop.Write fault
 stop_of_print (print.Text fault) = stop.Text fault
+stop_of_print (print.Held message) = stop.Held message
 
 -- the reason why rewriting a stream stopped, as the job's
 abbrev pub stop_of_rewrite : RewriteStop → Stop
@@ -79,6 +84,7 @@ stop_of_rewrite (rewrite.Read fault message) = stop.Read fault message
 stop_of_rewrite (rewrite.Write fault) = stop.Write fault
 stop_of_rewrite (rewrite.Above total number) = stop.Above total number
 stop_of_rewrite rewrite.NoRoom = stop.NoRoom
+stop_of_rewrite (rewrite.Held message) = stop.Held message
 
 -- the reason why a conversion from CSV by a schema stopped, as the job's
 abbrev pub stop_of_csv : Schema → CsvStop → Stop
@@ -106,23 +112,28 @@ abbrev pub row_shape : Bool → RowShape
 row_shape true = Object
 row_shape false = Array
 
--- how a stream is rewritten with these limits of what is written, and whether the mark is required
-abbrev pub rewrite_options : OutputLimits → Bool → RewriteOptions
-rewrite_options output mark = record {
+-- how a stream is rewritten with these limits of what is written, whether the mark is required, and
+-- the maximum of held bytes
+abbrev pub rewrite_options : OutputLimits → Bool → Option ℕ → RewriteOptions
+rewrite_options output mark most = record {
   require_mark = mark;
   max_body = output.body;
   max_batches = output.batches;
   max_rows = output.rows;
   max_bytes = output.bytes;
+  max_held = most;
 }
 
--- what a result states about the schema of a stream that is printed
-abbrev pub AnswersSchemaJob : Limits → Option (List ℕ) → Option (List ℕ) → Option (List ℕ)
-    → Option (List ℕ) → ℕ → ℕ → ℕ → ℕ → Result (Option ℕ) Stop → Type 0
-AnswersSchemaJob limits old new written_old written_new source_old source_new sink_old sink_new r =
+-- what a result states about the schema of a stream that is printed, with this maximum of held
+-- bytes
+abbrev pub AnswersSchemaJob : Option ℕ → Limits → Option (List ℕ) → Option (List ℕ)
+    → Option (List ℕ) → Option (List ℕ) → ℕ → ℕ → ℕ → ℕ → Result (Option ℕ) Stop → Type 0
+AnswersSchemaJob most limits old new written_old written_new source_old source_new sink_old
+    sink_new r =
     (p : Result ⊤ PrintStop) × (r ≡ job_result no_messages stop_of_print p)
     × PrintsSchema limits old new written_old written_new p
     × PrintTells source_old source_new sink_old sink_new p
+    × HeldInAll limits most old new (IsHeldInPrint p)
 
 -- what a result states about a stream that is printed by these options. When W9 and F36 come, the
 -- counts of failures of sink and source are as `print` states them
@@ -132,6 +143,7 @@ AnswersPrint options limits old new written_old written_new source_old source_ne
     r = (p : Result (Option ℕ) PrintStop) × (r ≡ job_result (λ n. n) stop_of_print p)
     × Prints options limits old new written_old written_new p
     × PrintTells source_old source_new sink_old sink_new p
+    × HeldInAll limits options.max_held old new (IsHeldInPrint p)
 
 -- what a result states about a stream that is rewritten. When W9 and F36 come, the counts of
 -- failures of sink and source tell, as `rewrite` states it
@@ -142,6 +154,7 @@ AnswersRewrite options limits old new written_old written_new source_old source_
     (p : Result ℕ RewriteStop) × (r ≡ job_result Some stop_of_rewrite p)
     × Rewrites options limits old new written_old written_new sink_old sink_new p
     × RewriteTells source_old source_new sink_old sink_new p
+    × HeldInAll limits options.max_held old new (IsHeldInRewrite p)
 
 -- the bytes of a file, if it was opened and they are known
 abbrev pub file_bytes : {P : Type 0} → (P → Option (List ℕ)) → Option P → Option (List ℕ)
@@ -196,31 +209,36 @@ AnswersCsv d bytes failures size input written_old written_new source_old source
     × CountsSourceFailure source_old source_new p × CountsSinkFailure sink_old sink_new p)
 
 -- what a result states about a job: what was read of the input, what was sent, and which device
--- failed. `bytes` and `failures` are those of the schema's file
-abbrev pub Answers : Job → Option (List ℕ) → ℕ → Option (List ℕ) → Option (List ℕ)
+-- failed. `most` is the maximum of held bytes of a stream; `bytes` and `failures` are those of the
+-- schema's file
+abbrev pub Answers : Job → Option ℕ → Option (List ℕ) → ℕ → Option (List ℕ) → Option (List ℕ)
     → Option (List ℕ) → Option (List ℕ) → ℕ → ℕ → ℕ → ℕ → Result (Option ℕ) Stop → Type 0
-Answers (job.Schema limits) bytes failures old new written_old written_new source_old source_new
-    sink_old sink_new r = AnswersSchemaJob limits old new written_old written_new source_old
-    source_new
-    sink_old sink_new r
-Answers (job.Check limits mark) bytes failures old new written_old written_new source_old source_new
-    sink_old sink_new r =
-    AnswersPrint (record { form = Counts; require_mark = mark; limit = None }) limits old new
-    written_old written_new source_old source_new sink_old sink_new r
-Answers (job.Show limits objects pairs count mark) bytes failures old new written_old written_new
-    source_old source_new sink_old sink_new r = AnswersPrint (record {
+Answers (job.Schema limits) most bytes failures old new written_old written_new source_old
+    source_new sink_old sink_new r = AnswersSchemaJob most limits old new written_old written_new
+    source_old source_new sink_old sink_new r
+Answers (job.Check limits mark) most bytes failures old new written_old written_new source_old
+    source_new sink_old sink_new r =
+    AnswersPrint (record { form = Counts; require_mark = mark; limit = None; max_held = most })
+    limits old new written_old written_new source_old source_new sink_old sink_new r
+Answers (job.Show limits objects pairs count mark) most bytes failures old new written_old
+    written_new source_old source_new sink_old sink_new r = AnswersPrint (record {
       form = Rows (row_shape objects) pairs;
       require_mark = mark;
       limit = count;
+      max_held = most;
     }) limits old new written_old written_new source_old source_new sink_old sink_new r
-Answers (job.ToCsv limits dialect count mark) bytes failures old new written_old written_new
+Answers (job.ToCsv limits dialect count mark) most bytes failures old new written_old written_new
     source_old source_new sink_old sink_new r = (d : Dialect) × IsDialectOf dialect d
-    × AnswersPrint (record { form = Records d; require_mark = mark; limit = count }) limits old new
-    written_old written_new source_old source_new sink_old sink_new r
-Answers (job.Rewrite limits output mark) bytes failures old new written_old written_new source_old
-    source_new sink_old sink_new r = AnswersRewrite (rewrite_options output mark) limits old new
-    written_old written_new source_old source_new sink_old sink_new r
-Answers (job.FromCsv path size dialect strict) bytes failures old new written_old written_new
+    × AnswersPrint (record {
+      form = Records d;
+      require_mark = mark;
+      limit = count;
+      max_held = most;
+    }) limits old new written_old written_new source_old source_new sink_old sink_new r
+Answers (job.Rewrite limits output mark) most bytes failures old new written_old written_new
+    source_old source_new sink_old sink_new r = AnswersRewrite (rewrite_options output mark most)
+    limits old new written_old written_new source_old source_new sink_old sink_new r
+Answers (job.FromCsv path size dialect strict) most bytes failures old new written_old written_new
     source_old source_new sink_old sink_new r = (d : Dialect) × IsDialectOf dialect d
     × (d.strict ≡ strict)
     × AnswersCsv d bytes failures size old written_old written_new source_old source_new sink_old

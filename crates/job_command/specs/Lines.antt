@@ -31,6 +31,10 @@ above_text Batches number = codes "output above --max-batches at batch " ++ deci
 above_text Rows number = codes "output above --max-total-rows at batch " ++ decimal number
 above_text Bytes number = codes "output above --max-total-bytes at batch " ++ decimal number
 
+-- the line of a message with which more bytes would be held than the maximum
+abbrev pub held_text : ℕ → List ℕ
+held_text message = codes "held above --max-held at message " ++ decimal message
+
 -- the line of a job that stopped, without its line feed
 abbrev pub stop_text : Stop → List ℕ
 stop_text (stop.Read fault message) = stop_line fault message
@@ -39,6 +43,7 @@ stop_text stop.Schema = codes "cannot read schema"
 stop_text (stop.Write fault) = write_line fault
 stop_text (stop.Above total number) = above_text total number
 stop_text stop.NoRoom = codes "output above --max-total-bytes at the schema"
+stop_text (stop.Held message) = held_text message
 stop_text (stop.Rows fault s) = write_line fault
 stop_text (stop.Text fault) = text_fault_line fault
 stop_text (stop.SchemaText text) = text_fault_line x.BadSchemaJson

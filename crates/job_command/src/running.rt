@@ -31,17 +31,18 @@ use std::alloc::Global;
 fn schema_job<S: Source, W: Sink>(
     alloc: Global,
     limits: Limits,
+    max_held: Option<u64>,
     input: S,
     sink: W,
 ) -> (Result<Option<u64>, Stop>, S, W)
-    ensures answers { AnswersSchemaJob limits (S.remaining input) (S.remaining result.1)
+    ensures answers { AnswersSchemaJob max_held limits (S.remaining input) (S.remaining result.1)
         (W.written sink) (W.written result.2) (S.failures input) (S.failures result.1)
         (W.failures sink) (W.failures result.2) result.0 }
     ensures handed_on { OnOk result.0 (W.held_back result.2 ≡ Some []) }
     ensures works { exit_status result.0 ≢ 3 → W.failures sink ≡ 0 → W.failures result.2 ≡ 0 }
 {
     let mut sink = sink;
-    let (result, source) = print_schema(alloc, limits, input, &mut sink);
+    let (result, source) = print_schema(alloc, limits, max_held, input, &mut sink);
     let result = match result {
         Ok(()) => Ok(None),
         Err(why) => Err(why.into()),
@@ -155,23 +156,34 @@ fn rows_form(objects: bool, pairs: bool) -> Form<'static>
 }
 
 // The options of a job that prints a stream.
-fn print_options(form: Form<'_>, limit: Option<u64>, require_mark: bool) -> PrintOptions<'_>
+fn print_options(
+    form: Form<'_>,
+    limit: Option<u64>,
+    require_mark: bool,
+    max_held: Option<u64>,
+) -> PrintOptions<'_>
     ensures { result ≡ record {
       form = form.entry;
       require_mark = require_mark;
       limit = limit;
+      max_held = max_held;
     } }
 {
     PrintOptions {
         form,
         require_mark,
         limit,
+        max_held,
     }
 }
 
 // The options of a job that writes a stream anew.
-fn rewrite_options(output: OutputLimits, require_mark: bool) -> RewriteOptions
-    ensures { result ≡ rewrite_options output require_mark }
+fn rewrite_options(
+    output: OutputLimits,
+    require_mark: bool,
+    max_held: Option<u64>,
+) -> RewriteOptions
+    ensures { result ≡ rewrite_options output require_mark max_held }
 {
     RewriteOptions {
         require_mark,
@@ -179,6 +191,7 @@ fn rewrite_options(output: OutputLimits, require_mark: bool) -> RewriteOptions
         max_batches: output.batches,
         max_rows: output.rows,
         max_bytes: output.bytes,
+        max_held,
     }
 }
 
@@ -188,15 +201,17 @@ fn do_job<P: Source, S: Source, W: Sink, N: Progress>(
     alloc: Global,
     seed: Seed,
     job: Job,
+    max_held: Option<u64>,
     schema: Option<P>,
     input: S,
     sink: W,
     progress: &mut N,
 ) -> (Result<Option<u64>, Stop>, S, W, Option<P>)
     requires { HasGoodSize job }
-    ensures answers { Answers job (file_bytes P.remaining schema) (failures_of P.failures result.3)
-        (S.remaining input) (S.remaining result.1) (W.written sink) (W.written result.2)
-        (S.failures input) (S.failures result.1) (W.failures sink) (W.failures result.2) result.0 }
+    ensures answers { Answers job max_held (file_bytes P.remaining schema)
+        (failures_of P.failures result.3) (S.remaining input) (S.remaining result.1)
+        (W.written sink) (W.written result.2) (S.failures input) (S.failures result.1)
+        (W.failures sink) (W.failures result.2) result.0 }
     ensures handed_on { OnOk result.0 (W.held_back result.2 ≡ Some []) }
     ensures works { exit_status result.0 ≢ 3 → W.failures sink ≡ 0 → W.failures result.2 ≡ 0 }
     ensures file { GivesFileBack job schema result.3 }
@@ -204,12 +219,12 @@ fn do_job<P: Source, S: Source, W: Sink, N: Progress>(
         (N.reports progress.old) (N.reports progress.new) result.0 }
 {
     let (result, input, sink) = match job {
-        Job::Schema(limits) => schema_job(alloc, limits, input, sink),
+        Job::Schema(limits) => schema_job(alloc, limits, max_held, input, sink),
         Job::Check {
             limits,
             require_mark,
         } => {
-            let options = print_options(Form::Counts, None, require_mark);
+            let options = print_options(Form::Counts, None, require_mark, max_held);
             print_job(alloc, options, limits, input, sink, progress)
         }
         Job::Show {
@@ -219,7 +234,8 @@ fn do_job<P: Source, S: Source, W: Sink, N: Progress>(
             limit,
             require_mark,
         } => {
-            let options = print_options(rows_form(objects, pairs), limit, require_mark);
+            let form = rows_form(objects, pairs);
+            let options = print_options(form, limit, require_mark, max_held);
             print_job(alloc, options, limits, input, sink, progress)
         }
         Job::ToCsv {
@@ -228,7 +244,8 @@ fn do_job<P: Source, S: Source, W: Sink, N: Progress>(
             limit,
             require_mark,
         } => {
-            let options = print_options(Form::Records(dialect.dialect()), limit, require_mark);
+            let form = Form::Records(dialect.dialect());
+            let options = print_options(form, limit, require_mark, max_held);
             print_job(alloc, options, limits, input, sink, progress)
         }
         Job::Rewrite {
@@ -236,7 +253,7 @@ fn do_job<P: Source, S: Source, W: Sink, N: Progress>(
             output,
             require_mark,
         } => {
-            let options = rewrite_options(output, require_mark);
+            let options = rewrite_options(output, require_mark, max_held);
             rewrite_job(alloc, seed, options, limits, input, sink, progress)
         }
         Job::FromCsv {
@@ -402,9 +419,10 @@ pub fn run<P: Source, S: Source, W: Sink, N: Progress, E: Sink>(
     // batch of a stream that was read was reported, as `print` and `rewrite` state it.
     ensures answers { (answer : Result (Option ℕ) Stop) × (r : Result ⊤ Stop)
         × (between : Option (List ℕ)) × (failures : ℕ) × (result.0 ≡ exit_status r)
-        × Answers invocation.job (file_bytes P.remaining schema) (failures_of P.failures result.3)
-        (S.remaining input) between (W.written sink) (W.written result.2) (S.failures input)
-        failures (W.failures sink) (W.failures result.2) answer
+        × Answers invocation.job invocation.max_held (file_bytes P.remaining schema)
+        (failures_of P.failures result.3) (S.remaining input) between (W.written sink)
+        (W.written result.2) (S.failures input) failures (W.failures sink) (W.failures result.2)
+        answer
         × EndsJob invocation.require_eof between (S.remaining result.1) failures
         (S.failures result.1) answer r
         × PrintsStopLines invocation.explain (E.written messages.old) (E.written messages.new)
@@ -425,9 +443,12 @@ pub fn run<P: Source, S: Source, W: Sink, N: Progress, E: Sink>(
         explain,
         progress: _,
         require_eof,
+        max_held,
     } = invocation;
     let input = record(alloc, &job, explain, input);
-    let (answer, input, sink, schema) = do_job(alloc, seed, job, schema, input, sink, progress);
+    let (answer, input, sink, schema) = do_job(
+        alloc, seed, job, max_held, schema, input, sink, progress,
+    );
     let mut input = input;
     let result = check_eof(require_eof, answer, &mut input);
     let status = report(alloc, explain, &result, &input, messages);

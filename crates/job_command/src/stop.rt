@@ -6,7 +6,8 @@ ghost use Rattle.job_command.specs.Lines.{stop_text};
 ghost use Rattle.ipc_device.specs.Failures.{CountsAny, CountsFailures};
 
 use crate::stop_line::{
-    end_line, send, send_above, send_fault, send_read_fault, send_text_fault, send_write_fault,
+    end_line, send, send_above, send_fault, send_held, send_read_fault, send_text_fault,
+    send_write_fault,
 };
 use csv::ByteRecord;
 use ipc_device::{Failed, Sink};
@@ -31,6 +32,9 @@ pub enum Stop {
     Above(Total, u64),
     /// The message of the schema and the end-of-stream mark have more bytes than may be written.
     NoRoom,
+    /// With the next part of the message with this number, more bytes would be held of the stream
+    /// than the maximum.
+    Held(u64),
     /// Rows of CSV could not be written.
     Rows {
         /// Why they could not be written.
@@ -70,6 +74,7 @@ impl From<job_print::PrintStop> for Stop {
             job_print::PrintStop::Read(fault, message) => Stop::Read(fault, message),
             job_print::PrintStop::Write(fault) => Stop::Write(fault),
             job_print::PrintStop::Text(fault) => Stop::Text(fault),
+            job_print::PrintStop::Held(message) => Stop::Held(message),
         }
     }
 }
@@ -83,6 +88,7 @@ impl From<job_rewrite::RewriteStop> for Stop {
             job_rewrite::RewriteStop::Write(fault) => Stop::Write(fault),
             job_rewrite::RewriteStop::Above(total, number) => Stop::Above(total, number),
             job_rewrite::RewriteStop::NoRoom => Stop::NoRoom,
+            job_rewrite::RewriteStop::Held(message) => Stop::Held(message),
         }
     }
 }
@@ -113,7 +119,7 @@ impl Stop {
             Stop::Read(fault, _) => fault.exit_status(),
             Stop::Input | Stop::Schema => Fault::Read.exit_status(),
             Stop::Write(fault) => fault.exit_status(),
-            Stop::Above(..) | Stop::NoRoom => 1,
+            Stop::Above(..) | Stop::NoRoom | Stop::Held(_) => 1,
             Stop::Rows { fault, .. } => fault.exit_status(),
             Stop::Text(TextFault::OutOfMemory) => WriteFault::OutOfMemory.exit_status(),
             Stop::Text(_) => 1,
@@ -124,8 +130,9 @@ impl Stop {
 
     /// Writes it as one line to a sink: the fault with the number of its message, as in
     /// `F4 Truncated at message 1`, or the option whose total the output would exceed, with the
-    /// number of the batch. The input and the schema's file have a line without a message, and out
-    /// of memory has no number. Nothing is allocated.
+    /// number of the batch, or that of held bytes, with the number of the message. The input and
+    /// the schema's file have a line without a message, and out of memory has no number. Nothing is
+    /// allocated.
     ///
     /// Errors: the sink failed, and it may have taken a part of the line.
     pub fn write_line<E: Sink>(&self, messages: &mut E) -> Result<(), Failed>
@@ -151,6 +158,7 @@ impl Stop {
             Stop::Write(fault) => send_write_fault(messages, fault),
             Stop::Above(total, number) => send_above(messages, total, *number),
             Stop::NoRoom => send(messages, "output above --max-total-bytes at the schema"),
+            Stop::Held(message) => send_held(messages, *message),
             Stop::Rows { fault, .. } => send_write_fault(messages, fault),
             Stop::Text(fault) => send_text_fault(messages, fault),
             Stop::SchemaText(_) => send_text_fault(messages, &TextFault::BadSchemaJson),

@@ -6,7 +6,7 @@ ghost use Rattle.ipc_model.specs.Texts.{fault_text, label, place_text, steps_tex
 ghost use Rattle.ipc_model.specs.Texts.{code_text};
 ghost use Rattle.ipc_text_temporal.specs.FaultLines.{text_fault_line};
 ghost use Rattle.ipc_device.specs.Failures.{CountsAny, CountsFailures};
-ghost use Rattle.job_command.specs.Lines.{above_text, write_line};
+ghost use Rattle.job_command.specs.Lines.{above_text, held_text, write_line};
 
 use ipc_device::{Failed, Sink, send_all};
 use ipc_model::{Fault, WriteFault};
@@ -157,6 +157,16 @@ pub fn send_above<E: Sink>(messages: &mut E, total: &Total, number: u64) -> Resu
             send_number(messages, number)
         }
     }
+}
+
+// Sends the option whose maximum of held bytes would be exceeded, and the number of the message.
+pub fn send_held<E: Sink>(messages: &mut E, message: u64) -> Result<(), Failed>
+    ensures sent { OnOk result
+        (Appends (E.written messages.old) (E.written messages.new) (held_text message)) }
+    ensures failures { CountsAny (E.failures messages.old) (E.failures messages.new) result }
+{
+    send(messages, "held above --max-held at message ")?;
+    send_number(messages, message)
 }
 
 // Sends a fault of texts with its place, the record before the column.

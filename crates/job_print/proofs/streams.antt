@@ -8,3 +8,4 @@ pub mod Streams
 pub mod Held
 pub mod Shortest
 pub mod Limited
+pub mod Unopened

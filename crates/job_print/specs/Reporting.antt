@@ -1,5 +1,6 @@
 -- Which batches are reported when a stream is printed.
 use Rattle.std.specs.Prelude.{ℕ, List, Option, Result, Ok, Err}
+use Rattle.ipc_model.specs.declared.fault.Fault.TheVariants.{Read}
 use Rattle.ipc_model.specs.declared.limits.Limits.{Limits}
 use Rattle.ipc_device.specs.Reports.{Report}
 use Rattle.ipc_stream_read.specs.Progress.{ReportsAll, ReportsBefore, ReportsSome}
@@ -22,6 +23,8 @@ ReportsPrintedBatches limits old new reports_old reports_new (Err (stop.Write fa
     ReportsSome limits old new reports_old reports_new
 ReportsPrintedBatches limits old new reports_old reports_new (Err (stop.Text fault)) =
     ReportsSome limits old new reports_old reports_new
+ReportsPrintedBatches limits old new reports_old reports_new (Err (stop.Held message)) =
+    ReportsBefore limits old new reports_old reports_new Read
 
 -- what the outcome of printing rows states about the reports, as `ReportsPrintedBatches`
 abbrev pub ReportsOutcome : Limits → Option (List ℕ) → Option (List ℕ) → Option (List Report)
@@ -34,5 +37,7 @@ ReportsOutcome limits old new reports_old reports_new (Ok (o.Whole end tally)) =
     ReportsAll limits old new reports_old reports_new
 ReportsOutcome limits old new reports_old reports_new (Ok o.Limited) =
     ReportsAll limits old new reports_old reports_new
+ReportsOutcome limits old new reports_old reports_new (Ok o.Held) =
+    ReportsBefore limits old new reports_old reports_new Read
 ReportsOutcome limits old new reports_old reports_new (Err fault) =
     ReportsSome limits old new reports_old reports_new

@@ -5,7 +5,7 @@ use Rattle.std.specs.Prelude.{IsTrue, Option, Some, None}
 use Rattle.std.specs.Prelude.{Result, Ok, Err, ⊤, Contains}
 use Rattle.std.specs.Io.KnownBytes.{Appends, Consumes, IsAtEnd, Keeps}
 use Rattle.ipc_model.specs.declared.fault.Fault.{Fault}
-use Rattle.ipc_model.specs.declared.fault.Fault.TheVariants.{OutOfMemory}
+use Rattle.ipc_model.specs.declared.fault.Fault.TheVariants.{OutOfMemory, Read}
 use Rattle.ipc_model.specs.declared.fault.WriteFault.{WriteFault}
 use Rattle.ipc_model.specs.declared.fault.WriteFault.TheVariants as w
 use Rattle.ipc_model.specs.Numbering.{write_fault_status}
@@ -16,6 +16,8 @@ use Rattle.ipc_model.specs.declared.table.Table.{Table}
 use Rattle.ipc_model.specs.declared.value.Value.{Value}
 use Rattle.ipc_stream_read.specs.declared.end.End.{End}
 use Rattle.ipc_stream_read.specs.declared.end.End.TheVariants.{Closed, Mark}
+use Rattle.ipc_stream_read.specs.declared.read_stop.ReadStop.{ReadStop}
+use Rattle.ipc_stream_read.specs.declared.read_stop.ReadStop.TheVariants as read_stop
 use Rattle.ipc_stream_read.specs.Stream.{State, MessageEvent, schema, batch, initial_state, Run}
 use Rattle.ipc_stream_read.specs.Stream.{events_of, Denotes, OpensStream}
 use Rattle.ipc_frame.specs.Failures.{CountsFault, CountsSinkFault}
@@ -176,11 +178,22 @@ pub data PrintsSome (options : PrintOptions) (limits : Limits)
       → AreLast limits σ rest new behind
       → PrintsSome options limits old new written_old written_new
 
+-- why reading stopped, at the message with this number
+abbrev pub stop_of_reading : ReadStop → ℕ → PrintStop
+stop_of_reading (read_stop.Refused fault) message = stop.Read fault message
+stop_of_reading read_stop.Held message = stop.Held message
+
+-- the result is that more bytes would be held than the maximum
+abbrev pub IsHeld : {T : Type 0} → Result T PrintStop → Type 0
+IsHeld (Err (stop.Held message)) = ⊤
+IsHeld r = ⊥
+
 -- the counts of failures of source and sink before and after a call with this result. At Ok neither
 -- ever failed. At `Read` the source's count is 1 if the fault is F36, and another fault leaves it;
 -- the sink's is left. At `Text` the source never failed, and the sink's count is left. At `Write`
 -- the sink's count is 1 if the fault is W9, and any other fault leaves both. So of devices that had
--- not failed before, F36 and W9 name the one that failed; if both failed, the answer is W9
+-- not failed before, F36 and W9 name the one that failed; if both failed, the answer is W9. At the
+-- maximum of held bytes both counts are left
 abbrev pub CountsPrintFailures : {T : Type 0} → ℕ → ℕ → ℕ → ℕ → Result T PrintStop → Type 0
 CountsPrintFailures source_old source_new sink_old sink_new (Ok done) =
     (source_old ≡ 0) × (source_new ≡ 0) × (sink_old ≡ 0) × (sink_new ≡ 0)
@@ -190,10 +203,12 @@ CountsPrintFailures source_old source_new sink_old sink_new (Err (stop.Text faul
     (source_old ≡ 0) × (source_new ≡ 0) × (sink_new ≡ sink_old)
 CountsPrintFailures source_old source_new sink_old sink_new (Err (stop.Write fault)) =
     (source_old ≡ 0) × (fault ≢ w.Write → source_new ≡ 0) × CountsSinkFault sink_old sink_new fault
+CountsPrintFailures source_old source_new sink_old sink_new (Err (stop.Held message)) =
+    (source_new ≡ source_old) × (sink_new ≡ sink_old)
 
 -- what a result states about a stream that is printed. At Ok the whole table was printed, and the
 -- number counts its messages; or its rows up to the limit were. If printing stopped, a beginning of
--- the text was printed
+-- the text was printed. At the maximum of held bytes reading broke off as where a source fails
 abbrev pub Prints : PrintOptions → Limits → Option (List ℕ) → Option (List ℕ) → Option (List ℕ)
     → Option (List ℕ) → Result (Option ℕ) PrintStop → Type 0
 Prints options limits old new written_old written_new (Ok (Some messages)) =
@@ -207,14 +222,16 @@ Prints options limits old new written_old written_new (Err (stop.Text fault)) =
     StopsPrinting options limits old new written_old written_new fault
 Prints options limits old new written_old written_new (Err (stop.Write fault)) =
     (write_fault_status fault ≢ 1) × PrintsSome options limits old new written_old written_new
+Prints options limits old new written_old written_new (Err (stop.Held message)) =
+    EndsPrinting options limits old new written_old written_new Read message
 
 -- the line of a schema: its JSON text and a line feed
 abbrev pub schema_line : Schema → List ℕ
 schema_line s = schema_text s ++ 10 ∷ []
 
 -- what a result states about the schema of a stream that is printed. At Ok exactly the message of
--- the schema was taken, and its line was printed; at `Read` no schema was read, and nothing was
--- printed; at `Write` a beginning of the line was printed
+-- the schema was taken, and its line was printed; at `Read` and at the maximum of held bytes no
+-- schema was read, and nothing was printed; at `Write` a beginning of the line was printed
 abbrev pub PrintsSchema : Limits → Option (List ℕ) → Option (List ℕ) → Option (List ℕ)
     → Option (List ℕ) → Result ⊤ PrintStop → Type 0
 PrintsSchema limits old new written_old written_new (Ok done) =
@@ -228,15 +245,20 @@ PrintsSchema limits old new written_old written_new (Err (stop.Write fault)) =
     (write_fault_status fault ≢ 1) × ((x : List ℕ) × (s : Schema) × (behind : List ℕ)
     × Consumes old new x × OpensStream limits s x
     × AppendsText written_old [] written_new behind (schema_line s))
+PrintsSchema limits old new written_old written_new (Err (stop.Held message)) =
+    (x : List ℕ) × Consumes old new x × Reads limits None x new [] (Err Read) × (message ≡ 0)
+    × Keeps written_old written_new
 
 -- the result if the source begins with the message of this schema: its line was printed, or the
--- source or the sink failed, or memory ran out
-abbrev pub AnswersSchema : Schema → Option (List ℕ) → Option (List ℕ) → Result ⊤ PrintStop → Type 0
-AnswersSchema s written_old written_new (Ok done) =
+-- source or the sink failed, or memory ran out, or there is a maximum of held bytes
+abbrev pub AnswersSchema : Option ℕ → Schema → Option (List ℕ) → Option (List ℕ)
+    → Result ⊤ PrintStop → Type 0
+AnswersSchema most s written_old written_new (Ok done) =
     Appends written_old written_new (schema_line s)
-AnswersSchema s written_old written_new (Err (stop.Read fault message)) = IsOutside fault
-AnswersSchema s written_old written_new (Err (stop.Text fault)) = ⊥
-AnswersSchema s written_old written_new (Err (stop.Write fault)) = write_fault_status fault ≢ 1
+AnswersSchema most s written_old written_new (Err (stop.Read fault message)) = IsOutside fault
+AnswersSchema most s written_old written_new (Err (stop.Text fault)) = ⊥
+AnswersSchema most s written_old written_new (Err (stop.Write fault)) = write_fault_status fault ≢ 1
+AnswersSchema most s written_old written_new (Err (stop.Held message)) = most ≢ None
 
 -- the columns of a table cannot be printed in the form, or some row up to the limit cannot, which
 -- is the first one of its batch
@@ -257,7 +279,8 @@ PrintsText options t end bytes written_old written_new =
     (stream_text options.form t.schema (within options.limit t.batches)))
 
 -- the result if the source contains a table and its end, of this many bytes, and does not fail. The
--- text was printed, or the fault is in the table, or the sink failed or memory ran out
+-- text was printed, or the fault is in the table, or the sink failed or memory ran out, or there is
+-- a maximum of held bytes
 abbrev pub AnswersPrintedTable : PrintOptions → Table → End → ℕ → Option (List ℕ) → Option (List ℕ)
     → Result (Option ℕ) PrintStop → Type 0
 AnswersPrintedTable options t end bytes written_old written_new (Ok messages) =
@@ -268,6 +291,8 @@ AnswersPrintedTable options t end bytes written_old written_new (Err (stop.Text 
     HasUnprintableRow options t fault
 AnswersPrintedTable options t end bytes written_old written_new (Err (stop.Write fault)) =
     write_fault_status fault ≢ 1
+AnswersPrintedTable options t end bytes written_old written_new (Err (stop.Held message)) =
+    options.max_held ≢ None
 
 -- x is the messages of a table, whose rows reach the limit in its last batch
 pub record ReachesLimit (options : PrintOptions) (limits : Limits) (x : List ℕ)
@@ -279,7 +304,8 @@ pub record ReachesLimit (options : PrintOptions) (limits : Limits) (x : List ℕ
 
 -- the result if the source begins with the messages x of a table whose rows reach the limit in its
 -- last batch, and does not fail. The text of the rows up to the limit was printed, and no byte
--- after x was taken; or the fault is in these rows, or the sink failed or memory ran out
+-- after x was taken; or the fault is in these rows, or the sink failed or memory ran out, or there
+-- is a maximum of held bytes
 abbrev pub AnswersFirst : PrintOptions → Table → List ℕ → Option (List ℕ) → Option (List ℕ)
     → Option (List ℕ) → Option (List ℕ) → Result (Option ℕ) PrintStop → Type 0
 AnswersFirst options t x old new written_old written_new (Ok messages) =
@@ -292,6 +318,8 @@ AnswersFirst options t x old new written_old written_new (Err (stop.Text fault))
     HasUnprintableRow options t fault
 AnswersFirst options t x old new written_old written_new (Err (stop.Write fault)) =
     write_fault_status fault ≢ 1
+AnswersFirst options t x old new written_old written_new (Err (stop.Held message)) =
+    options.max_held ≢ None
 
 -- ---- the steps in between
 
@@ -301,12 +329,18 @@ IsTally tally batches = (tally.batches ≡ count_up 0 (length batches))
     × (tally.rows ≡ count_up 0 (row_count batches))
 
 -- the text at the end, for an outcome of printing rows and this many bytes; none if the limit was
--- reached, reading broke off or a row was refused
+-- reached, reading broke off, a row was refused or more would be held
 abbrev pub outcome_tail : Form → Outcome → ℕ → List ℕ
 outcome_tail form (o.Whole end tally) bytes = tail_of form end bytes tally.batches tally.rows
 outcome_tail form o.Limited bytes = []
 outcome_tail form (o.Broken fault) bytes = []
 outcome_tail form (o.Refused fault) bytes = []
+outcome_tail form o.Held bytes = []
+
+-- the outcome is that more bytes would be held than the maximum
+abbrev pub EndsHeld : Result Outcome PrintFault → Type 0
+EndsHeld (Ok o.Held) = ⊤
+EndsHeld r = ⊥
 
 -- the stream was read to its end
 abbrev pub IsReadToEnd : Outcome → Type 0
@@ -314,6 +348,7 @@ IsReadToEnd (o.Whole end tally) = ⊤
 IsReadToEnd o.Limited = ⊥
 IsReadToEnd (o.Broken fault) = ⊥
 IsReadToEnd (o.Refused fault) = ⊥
+IsReadToEnd o.Held = ⊥
 
 module _ (options : PrintOptions) (old new : Reader) where
   -- the batches that were read after the schema, how reading ended, and that a row more is wanted
@@ -448,6 +483,9 @@ PrintsBatches options front old new before after (Ok (o.Broken fault)) =
 PrintsBatches options front old new before after (Ok (o.Refused fault)) =
     StopsAtRow options front old new before after fault
     × (old.failures ≡ 0 → new.failures ≡ 0)
+PrintsBatches options front old new before after (Ok o.Held) =
+    (answer : Result End Fault) × PrintsRows options front old new before after answer
+    × (as_required options.require_mark answer ≡ Err Read) × (new.failures ≡ old.failures)
 PrintsBatches options front old new before after (Err fault) =
     PrintsPart options front old new before after.written after.failures fault
 
@@ -487,6 +525,11 @@ PrintsStream options old new before after (Err (stop.Write fault)) =
     (why : PrintFault) × (fault ≡ write_fault why)
     × PrintsPart options (front_text options.form old.schema) old new before after.written
     after.failures why
+PrintsStream options old new before after (Err (stop.Held message)) =
+    (answer : Result End Fault)
+    × PrintsRows options (front_text options.form old.schema) old new before after answer
+    × (as_required options.require_mark answer ≡ Err Read)
+    × (new.failures ≡ old.failures) × (message ≡ new.messages)
 
 -- the result of printing a batch: its head and all its rows were put, or those before the first one
 -- that cannot be printed; or the output failed

@@ -33,6 +33,9 @@ pub struct PrintOptions<'a> {
     pub require_mark: bool,
     /// The number of rows to print at most, or `None` for all of them.
     pub limit: Option<u64>,
+    /// The maximum number of bytes that are held of the stream, or `None` for any number: those
+    /// that came of the current message, and the bodies of the dictionaries in force.
+    pub max_held: Option<u64>,
 }
 
 /// Returns whether no more rows are printed after `rows` rows. A count of rows stops at 2^64 - 1.

@@ -3,6 +3,7 @@ ghost use Rattle.std.specs.Prelude.{◌≡◌, ◌++◌, ◌∷◌, ℕ, List, [
 ghost use Rattle.std.specs.Prelude.{decimal, None, Ok, Option, false};
 ghost use Rattle.ipc_stream_read.specs.Stream.{Denotes};
 ghost use Rattle.ipc_stream_read.specs.declared.end.End.TheVariants.{Closed, Mark};
+ghost use Rattle.ipc_stream_read.specs.Held.{HeldInAll, HeldSoFar};
 ghost use Rattle.ipc_stream_read.specs.Reader.{Reading};
 ghost use Rattle.ipc_stream_read.specs.Reader.{Opens};
 ghost use Rattle.ipc_model.specs.declared.limits.Limits.{Limits};
@@ -15,7 +16,7 @@ ghost use Rattle.job_print.specs.Reporting.{ReportsPrintedBatches, ReportsOutcom
 ghost use Rattle.job_print.specs.Streams.{AnswersFirst, AnswersPrintedTable, IsReadToEnd, Prints};
 ghost use Rattle.job_print.specs.Streams.{PrintsAll, PrintsBatches, PrintsSome, PrintsStream};
 ghost use Rattle.job_print.specs.Streams.{ReachesLimit, CountsPrintFailures, outcome_tail};
-ghost use Rattle.job_print.specs.Streams.{write_fault};
+ghost use Rattle.job_print.specs.Streams.{EndsHeld, IsHeld, write_fault};
 
 use crate::batch_text::print_batch;
 use crate::form::{Form, PrintOptions, count_wanted, has_reached};
@@ -23,7 +24,7 @@ use crate::line_buffer::{LineBuffer, PrintFault};
 use crate::stop::{Outcome, PrintCounts, PrintStop};
 use ipc_device::{Progress, Sink, Source};
 use ipc_model::{Fault, Limits, Schema, WriteFault};
-use ipc_stream_read::{End, StreamReader};
+use ipc_stream_read::{End, ReadStop, StreamReader};
 use ipc_text_csv::{check_flat, csv_header};
 use ipc_text_json::schema_json;
 use ipc_text_temporal::{TextFault, push_number};
@@ -50,6 +51,9 @@ fn print_batches<R: Source, W: Sink, P: Progress>(
     ensures reports { (limits : Limits) (start : Option (List ℕ)) → Opens limits start stream.old
         → ReportsOutcome limits start stream.new.remaining (P.reports progress.old)
         (P.reports progress.new) result }
+    ensures held { (limits : Limits) (start : Option (List ℕ))
+        → HeldSoFar limits options.entry.max_held start stream.old
+        → HeldInAll limits options.entry.max_held start stream.new.remaining (EndsHeld result) }
 {
     let form = options.form;
     let mut tally = PrintCounts::none();
@@ -57,7 +61,7 @@ fn print_batches<R: Source, W: Sink, P: Progress>(
         if has_reached(options.limit, tally.rows) {
             return Ok(Outcome::Limited);
         }
-        match stream.next() {
+        match stream.next_within(options.max_held) {
             Ok(Some((batch, pairs))) => {
                 let fields = stream.fields();
                 let count = count_wanted(options.limit, tally.rows, batch.rows());
@@ -77,7 +81,8 @@ fn print_batches<R: Source, W: Sink, P: Progress>(
                     Err(missing) => return Ok(Outcome::Broken(missing)),
                 }
             }
-            Err(fault) => return Ok(Outcome::Broken(fault)),
+            Err(ReadStop::Refused(fault)) => return Ok(Outcome::Broken(fault)),
+            Err(ReadStop::Held) => return Ok(Outcome::Held),
         }
     }
 }
@@ -191,6 +196,9 @@ fn print_stream<R: Source, W: Sink, P: Progress>(
     ensures reports { (limits : Limits) (start : Option (List ℕ)) → Opens limits start stream.old
         → ReportsOutcome limits start stream.new.remaining (P.reports progress.old)
         (P.reports progress.new) result }
+    ensures held { (limits : Limits) (start : Option (List ℕ))
+        → HeldSoFar limits options.entry.max_held start stream.old
+        → HeldInAll limits options.entry.max_held start stream.new.remaining (EndsHeld result) }
 {
     let mut lines = LineBuffer::new(alloc)?;
     print_front(alloc, options.form, stream.schema(), &mut lines, sink)?;
@@ -247,6 +255,9 @@ fn print_open<R: Source, W: Sink, P: Progress>(
     ensures reports { (limits : Limits) (start : Option (List ℕ)) → Opens limits start stream.old
         → ReportsPrintedBatches limits start stream.new.remaining (P.reports progress.old)
         (P.reports progress.new) result }
+    ensures held { (limits : Limits) (start : Option (List ℕ))
+        → HeldSoFar limits options.entry.max_held start stream.old
+        → HeldInAll limits options.entry.max_held start stream.new.remaining (IsHeld result) }
 {
     if let Err(fault) = check_form(options.form, stream.schema()) {
         return Err(PrintStop::Text(fault));
@@ -256,6 +267,7 @@ fn print_open<R: Source, W: Sink, P: Progress>(
         Ok(Outcome::Limited) => Ok(None),
         Ok(Outcome::Broken(fault)) => Err(PrintStop::Read(fault, stream.messages())),
         Ok(Outcome::Refused(fault)) => Err(PrintStop::Text(fault)),
+        Ok(Outcome::Held) => Err(PrintStop::Held(stream.messages())),
         Err(fault) => Err(PrintStop::Write(write_fault_of(fault))),
     }
 }
@@ -282,6 +294,9 @@ fn print_open<R: Source, W: Sink, P: Progress>(
 ///   at the message after the last one.
 /// - `Text`: the columns or a row have no text in this form.
 /// - `Write`: the sink failed, also if the source failed before it, or memory ran out in writing.
+/// - `Held`: the bytes that came of the message with this number and the bodies of the dictionaries
+///   in force, with the next part of the message, would exceed `options.max_held`. Nothing more is
+///   taken from the source. All batches before were printed.
 pub fn print<R: Source, W: Sink, P: Progress>(
     alloc: Global,
     limits: Limits,
@@ -333,13 +348,17 @@ pub fn print<R: Source, W: Sink, P: Progress>(
     // comes after the text of its batch is not stated.
     ensures reports { ReportsPrintedBatches limits (R.remaining source) (R.remaining result.1)
         (P.reports progress.old) (P.reports progress.new) result.0 }
+    // After each byte that was taken, at most `options.max_held` bytes were held. At `Held` more
+    // would be with the bytes up to the next decision on the message.
+    ensures held { HeldInAll limits options.entry.max_held (R.remaining source)
+        (R.remaining result.1) (IsHeld result.0) }
 {
-    match StreamReader::open(alloc, limits, source) {
+    match StreamReader::open_within(alloc, limits, options.max_held, source) {
         Ok(stream) => {
             let mut stream = stream;
             let result = print_open(alloc, options, &mut stream, sink, progress);
             (result, stream.into_inner())
         }
-        Err((fault, source)) => (Err(PrintStop::Read(fault, 0)), source),
+        Err((why, source)) => (Err(PrintStop::of_reading(why, 0)), source),
     }
 }

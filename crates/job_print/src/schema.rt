@@ -1,10 +1,11 @@
 //! The schema of a stream is printed.
 ghost use Rattle.std.specs.Prelude.{◌≡◌, ◌++◌, ℕ, List, [], IfOk, OnOk, Some};
 ghost use Rattle.ipc_model.specs.declared.schema.Schema.{Schema};
+ghost use Rattle.ipc_stream_read.specs.Held.{HeldInAll};
 ghost use Rattle.ipc_stream_read.specs.Stream.{OpensStream};
 ghost use Rattle.job_print.specs.Output.{PrintsAs, output};
 ghost use Rattle.job_print.specs.Streams.{AnswersSchema, PrintsSchema, CountsPrintFailures};
-ghost use Rattle.job_print.specs.Streams.{schema_line};
+ghost use Rattle.job_print.specs.Streams.{IsHeld, schema_line};
 
 use crate::form::Form;
 use crate::line_buffer::{LineBuffer, PrintFault};
@@ -35,9 +36,11 @@ fn send_schema<W: Sink>(alloc: Global, schema: &Schema, sink: &mut W) -> Result<
 ///
 /// - `Read`, with number 0: no schema was read.
 /// - `Write`: the sink failed, or memory ran out in writing.
+/// - `Held`, with number 0: more than `max_held` bytes of the schema's message would be held.
 pub fn print_schema<R: Source, W: Sink>(
     alloc: Global,
     limits: Limits,
+    max_held: Option<u64>,
     source: R,
     sink: &mut W,
 ) -> (Result<(), PrintStop>, R)
@@ -51,12 +54,16 @@ pub fn print_schema<R: Source, W: Sink>(
     ensures devices { CountsPrintFailures (R.failures source) (R.failures result.1)
         (W.failures sink.old) (W.failures sink.new) result.0 }
     // The message of a schema, at the front of the source, is read, whatever follows it, unless
-    // memory runs out or the source fails.
+    // memory runs out, the source fails, or more would be held.
     ensures opens { (x rest : List ℕ) (s : Schema) → R.remaining source ≡ Some (x ++ rest)
         → OpensStream limits s x
-        → AnswersSchema s (W.written sink.old) (W.written sink.new) result.0 }
+        → AnswersSchema max_held s (W.written sink.old) (W.written sink.new) result.0 }
+    // After each byte that was taken, at most `max_held` bytes were held. At `Held` more would be
+    // with the bytes up to the next decision on the message.
+    ensures held { HeldInAll limits max_held (R.remaining source) (R.remaining result.1)
+        (IsHeld result.0) }
 {
-    match StreamReader::open(alloc, limits, source) {
+    match StreamReader::open_within(alloc, limits, max_held, source) {
         Ok(stream) => match send_schema(alloc, stream.schema(), sink) {
             Ok(()) => (Ok(()), stream.into_inner()),
             Err(fault) => (
@@ -64,6 +71,6 @@ pub fn print_schema<R: Source, W: Sink>(
                 stream.into_inner(),
             ),
         },
-        Err((fault, source)) => (Err(PrintStop::Read(fault, 0)), source),
+        Err((why, source)) => (Err(PrintStop::of_reading(why, 0)), source),
     }
 }

@@ -2,9 +2,10 @@
 
 ghost use Rattle.std.specs.Prelude.{◌≡◌};
 ghost use Rattle.ipc_stream_read.specs.Counts.{count_up};
+ghost use Rattle.job_print.specs.Streams.{stop_of_reading};
 
 use ipc_model::{Fault, WriteFault};
-use ipc_stream_read::End;
+use ipc_stream_read::{End, ReadStop};
 use ipc_text_temporal::TextFault;
 
 /// Why printing stopped.
@@ -16,6 +17,21 @@ pub enum PrintStop {
     Write(WriteFault),
     /// What was read has no text.
     Text(TextFault),
+    /// With the next part of the message with this number, the count of the messages before it,
+    /// more bytes would be held than the maximum.
+    Held(u64),
+}
+
+impl PrintStop {
+    // Why reading stopped, at the message with this number.
+    pub(crate) fn of_reading(why: ReadStop, message: u64) -> PrintStop
+        ensures { result ≡ stop_of_reading why message }
+    {
+        match why {
+            ReadStop::Refused(fault) => PrintStop::Read(fault, message),
+            ReadStop::Held => PrintStop::Held(message),
+        }
+    }
 }
 
 /// How many batches were read, and how many rows they have. A count stops at 2^64 - 1.
@@ -61,4 +77,6 @@ pub enum Outcome {
     Broken(Fault),
     /// At a row that has no text.
     Refused(TextFault),
+    /// Where more bytes would be held than the maximum.
+    Held,
 }

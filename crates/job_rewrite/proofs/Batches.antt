@@ -7,12 +7,16 @@ use Rattle.std.specs.Io.KnownBytes.{Appends, Consumes}
 use Rattle.std.proofs.KnownBytes.{Appends-nil, Appends-trans, Consumes-nil, Consumes-trans}
 use Rattle.std.proofs.lemmas.List.{map-append}
 use Rattle.ipc_model.specs.declared.fault.Fault.{Fault}
+use Rattle.ipc_model.specs.declared.fault.Fault.TheVariants.{Read}
 use Rattle.ipc_model.specs.declared.fault.WriteFault.{WriteFault}
 use Rattle.ipc_model.specs.declared.limits.Limits.{Limits}
 use Rattle.ipc_model.specs.declared.schema.Schema.{Schema}
 use Rattle.ipc_model.specs.declared.table.BatchRows.{BatchRows}
 use Rattle.ipc_stream_read.specs.declared.end.End.{End}
 use Rattle.ipc_stream_read.specs.declared.end.End.TheVariants.{Closed, Mark}
+use Rattle.ipc_stream_read.specs.declared.read_stop.ReadStop.{ReadStop}
+use Rattle.ipc_stream_read.specs.declared.read_stop.ReadStop.TheVariants as read_stop
+use Rattle.ipc_stream_read.specs.Held.{fault_of}
 use Rattle.ipc_stream_read.specs.Reader.{StreamPhase}
 use Rattle.ipc_stream_read.specs.Reader.{Reading, Ended, Refused}
 use Rattle.ipc_stream_read.specs.Found.{ReadRows, batch_rows}
@@ -34,7 +38,7 @@ use Rattle.job_rewrite.specs.declared.stop.RewriteStop.TheVariants as stop
 use Rattle.job_rewrite.specs.declared.options.RewriteOptions.{RewriteOptions}
 use Rattle.job_rewrite.specs.declared.options.Total.{Total}
 use Rattle.job_rewrite.specs.declared.options.Total.TheVariants as total
-use Rattle.job_rewrite.specs.Rewriting.{CopiesBatches, CopiesRest, ExceedsRest, RefusesLast, StopsAtLast}
+use Rattle.job_rewrite.specs.Rewriting.{CopiesBatches, CopiesRest, ExceedsRest, RefusesLast, StopsAtLast, stop_of_reading}
 use Rattle.job_rewrite.specs.Totals.{AreAbove, AreWithin, IsWithin}
 use Rattle.ipc_stream_read.specs.Ends.{as_required}
 use Rattle.job_rewrite.proofs.Totals.{count_last, rows_last}
@@ -382,7 +386,9 @@ module _ (options : RewriteOptions) (count rows : ℕ) (old now new : Reader) (b
   copied_unmarked found e fault t is given ends = (Ok e, copied_rest found e t is given, ends, refl)
 
   -- where reading breaks off, all batches before were sent
-  pub copied_break : (fault : Fault) → NextCall now new (Err fault)
-      → CopiesBatches options room old new before after (Err (stop.Read fault new.messages))
-  copied_break fault t =
+  pub copied_break : (why : ReadStop) → NextCall now new (Err (fault_of why))
+      → CopiesBatches options room old new before after (Err (stop_of_reading why new.messages))
+  copied_break (read_stop.Refused fault) t =
       (Err fault, rest t.x (Err fault) t.bytes (broke now new now.phase new.phase t.x fault b.reading t.gives), refl, refl)
+  copied_break read_stop.Held t =
+      (Err Read, rest t.x (Err Read) t.bytes (broke now new now.phase new.phase t.x Read b.reading t.gives), refl, refl)

@@ -1,5 +1,5 @@
 -- Where a source holds a table, that table is sent, or writing it breaks off, or memory runs out in reading.
-use Rattle.std.proofs.Common.{◌≡◌, ◌∙◌, refl, sym, subst, ℕ, ◌<◌, List, [], ◌∷◌, ◌++◌, length, map, Option, Some, None}
+use Rattle.std.proofs.Common.{◌≡◌, ◌≢◌, ◌∙◌, refl, sym, subst, ℕ, ◌<◌, List, [], ◌∷◌, ◌++◌, length, map, Option, Some, None}
 use Rattle.std.proofs.Common.{Result, Ok, Err, append_assoc, append-nil, arith}
 use Rattle.std.specs.Prelude.{Bool, IsTrue, true, false}
 use Rattle.std.specs.List.{AllByRecursion}
@@ -36,7 +36,7 @@ use Rattle.job_rewrite.specs.declared.stop.RewriteStop.TheVariants as stop
 use Rattle.job_rewrite.specs.RewriteLimits.{sent_limits}
 use Rattle.job_rewrite.specs.Rewriting.{AnswersRewrittenTable, BreaksReading, unopened, broken, BreaksWriting, unstarted, refused}
 use Rattle.job_rewrite.specs.Rewriting.{unended, BreaksTotals, Rewrites, CountsRewriteFailures, StopsAbove, with_batch}
-use Rattle.job_rewrite.specs.Rewriting.{BreaksAtSchema, StopsAtSchema}
+use Rattle.job_rewrite.specs.Rewriting.{BreaksAtSchema, IsHeld, StopsAtSchema}
 use Rattle.job_rewrite.specs.Totals.{AreWithin}
 
 -- the batch behind the first ones is inside
@@ -157,19 +157,22 @@ module _ {limits : Limits} (options : RewriteOptions) (new : Option (List ℕ)) 
   pub answered : (g0 g1 : ℕ) → ((fault : Fault) → TakesTable limits (Some z) new (Err fault) → CountsFault g0 g1 fault → fault
       ≡ OutOfMemory)
       → ((u : Table) → TakesTable limits (Some z) new (Ok (u, Closed)) → IsTrue options.require_mark → ⊥)
-      → (r : Result ℕ RewriteStop) → CountsRewriteFailures g0 g1 f0 f1 r → Rewrites options limits (Some z) new w0 w1 f0 f1 r
+      → (r : Result ℕ RewriteStop) → (IsHeld r → options.max_held ≢ None) → CountsRewriteFailures g0 g1 f0 f1 r
+      → Rewrites options limits (Some z) new w0 w1 f0 f1 r
       → AnswersRewrittenTable options (sent_limits options limits) t w0 w1 f0 f1 r
-  answered g0 g1 memory ends (Ok n) tells (c, number) =
+  answered g0 g1 memory ends (Ok n) held tells (c, number) =
       subst (λ (u : Table). AreWithin options u.batches × Sent (IsTableOf (sent_limits options limits) u) w0 w1 f0 f1)
       (same_table c.x c.table c.end c.bytes c.denotes c.closed) (c.within, c.sent)
-  answered g0 g1 memory ends (Err (stop.Read fault message)) tells c =
+  answered g0 g1 memory ends (Err (stop.Read fault message)) held tells c =
       reading fault message (λ f same takes. memory f takes (subst (λ e. CountsFault g0 g1 e) (sym same) tells.0)) ends c
-  answered g0 g1 memory ends (Err (stop.Write fault)) tells c = writing fault c
-  answered g0 g1 memory ends (Err (stop.Above total number)) tells c = stopping total number c
-  answered g0 g1 memory ends (Err stop.NoRoom) tells c = roomless c
+  answered g0 g1 memory ends (Err (stop.Write fault)) held tells c = writing fault c
+  answered g0 g1 memory ends (Err (stop.Above total number)) held tells c = stopping total number c
+  answered g0 g1 memory ends (Err stop.NoRoom) held tells c = roomless c
+  answered g0 g1 memory ends (Err (stop.Held message)) held tells c = held tt
 
 module _ {limits : Limits} (options : RewriteOptions) (old new w0 w1 : Option (List ℕ)) (g0 g1 f0 f1 : ℕ) (r : Result ℕ RewriteStop)
-    (tells : CountsRewriteFailures g0 g1 f0 f1 r) (c : Rewrites options limits old new w0 w1 f0 f1 r) (none : g1 ≡ 0) where
+    (held : IsHeld r → options.max_held ≢ None) (tells : CountsRewriteFailures g0 g1 f0 f1 r)
+    (c : Rewrites options limits old new w0 w1 f0 f1 r) (none : g1 ≡ 0) where
   -- where bytes up to an end mark denote a table, that one is written or refused, unless memory runs out
   pub answered_marked : (x rest : List ℕ) (t : Table) → old ≡ Some (x ++ rest)
       → Denotes limits x t Mark → AnswersRewrittenTable options (sent_limits options limits) t w0 w1 f0 f1 r
@@ -181,7 +184,7 @@ module _ {limits : Limits} (options : RewriteOptions) (old new w0 w1 : Option (L
       (λ u takes required.
       let same : Closed ≡ Mark = (answers_marked (Some z) new 0 0 (Ok (u, Closed)) takes refl (refl, refl) x rest t refl d).1 in
       absurd (cc))
-      r tells (subst (λ (o : Option (List ℕ)). Rewrites options limits o new w0 w1 f0 f1 r) is c)
+      r held tells (subst (λ (o : Option (List ℕ)). Rewrites options limits o new w0 w1 f0 f1 r) is c)
 
   -- where all bytes of the source denote a table, and no mark is required, that one is written or refused, unless memory runs out
   pub answered_closed : (x : List ℕ) (t : Table) → options.require_mark ≡ false → old ≡ Some x → Denotes limits x t Closed
@@ -193,4 +196,4 @@ module _ {limits : Limits} (options : RewriteOptions) (old new w0 w1 : Option (L
       (λ u takes required.
       let bad : false ≡ true = sym free ∙ required in
       absurd (cc))
-      r tells (subst (λ (o : Option (List ℕ)). Rewrites options limits o new w0 w1 f0 f1 r) is c)
+      r held tells (subst (λ (o : Option (List ℕ)). Rewrites options limits o new w0 w1 f0 f1 r) is c)

@@ -5,3 +5,4 @@ pub mod Leaving
 pub mod Complete
 pub mod Totals
 pub mod Whole
+pub mod Stopped

@@ -6,9 +6,11 @@ use Rattle.std.specs.List.{AllByRecursion}
 use Rattle.std.specs.Io.KnownBytes.{Consumes}
 use Rattle.std.proofs.KnownBytes.{Appends-trans, Consumes-trans}
 use Rattle.ipc_model.specs.declared.fault.Fault.{Fault}
+use Rattle.ipc_model.specs.declared.fault.Fault.TheVariants.{Read}
 use Rattle.ipc_model.specs.declared.fault.WriteFault.{WriteFault}
 use Rattle.ipc_model.specs.declared.fault.WriteFault.TheVariants as w
 use Rattle.ipc_model.specs.declared.limits.Limits.{Limits}
+use Rattle.ipc_model.specs.declared.schema.Schema.{Schema}
 use Rattle.ipc_model.specs.declared.table.BatchRows.{BatchRows}
 use Rattle.ipc_model.specs.declared.table.Table.{Table}
 use Rattle.ipc_stream_read.specs.declared.end.End.{End}
@@ -37,7 +39,7 @@ use Rattle.job_rewrite.specs.RewriteLimits.{sent_limits}
 use Rattle.ipc_stream.proofs.Chains.{table_sends, table_tells}
 use Rattle.job_rewrite.specs.Rewriting.{CopiesTable, BreaksReading, unopened, broken, BreaksWriting, unstarted}
 use Rattle.job_rewrite.specs.Rewriting.{refused, unended, Rewrites, CopiesRest, CopiesBatches}
-use Rattle.job_rewrite.specs.Rewriting.{BreaksAtSchema, Exceeds, ExceedsRest, StopsAtSchema}
+use Rattle.job_rewrite.specs.Rewriting.{BreaksAtSchema, Exceeds, ExceedsRest, IsHeld, StopsAtSchema}
 
 -- behind the schema's message no dictionary is in force
 in_force_here : {limits : Limits} → (start : Option (List ℕ)) (s : Reader) → Opens limits start s
@@ -80,6 +82,7 @@ module _ {limits : Limits} (options : RewriteOptions) (start : Option (List ℕ)
       (subst (λ m. StopsAtSchema m (sent_limits options s.limits) s.schema w0 w1 f0 f1) (sym is) h)
   not_begun (stop.Read fault message) is h = absurd h
   not_begun (stop.Above total number) is h = absurd h
+  not_begun (stop.Held message) is h = absurd h
 
   pub none_reported : (why : RewriteStop) (reports : Option (List Report))
       → StartsNot (sent_limits options s.limits) most s.schema w0 w1 f0 f1 why
@@ -88,6 +91,16 @@ module _ {limits : Limits} (options : RewriteOptions) (start : Option (List ℕ)
   none_reported stop.NoRoom reports h = opened_some start s reports o
   none_reported (stop.Read fault message) reports h = absurd h
   none_reported (stop.Above total number) reports h = absurd h
+  none_reported (stop.Held message) reports h = absurd h
+
+-- it is for none of held bytes
+pub not_begun_held : (limits : Limits) (most : ℕ) (s : Schema) (w0 w1 : Option (List ℕ)) (f0 f1 : ℕ) (why : RewriteStop)
+    → StartsNot limits most s w0 w1 f0 f1 why → IsHeld (Err why) → ⊥
+not_begun_held limits most s w0 w1 f0 f1 (stop.Held message) h held = h
+not_begun_held limits most s w0 w1 f0 f1 (stop.Write fault) h held = held
+not_begun_held limits most s w0 w1 f0 f1 stop.NoRoom h held = held
+not_begun_held limits most s w0 w1 f0 f1 (stop.Read fault message) h held = held
+not_begun_held limits most s w0 w1 f0 f1 (stop.Above total number) h held = held
 
 module _ {limits : Limits} (options : RewriteOptions) (start : Option (List ℕ)) (s t : Reader) (before : Writer) (room : Option ℕ)
     (w0 : Option (List ℕ)) (f0 : ℕ) (o : Opens limits start s)
@@ -255,6 +268,10 @@ module _ {limits : Limits} (options : RewriteOptions) (start : Option (List ℕ)
     };
   }
   broken_here after stop.NoRoom r = absurd r
+  broken_here after (stop.Held message) (answer, r, ends, number) =
+      broken o.x r.x (table_with r.batches) answer (taken after answer r) (opened start s o) (reads_behind after answer r).0 ends
+      (number ∙ numbered after answer r) r.within (all_accepted r.batches r.accepts)
+      (all_sent r.batches after.written after.failures r.sent)
 
   -- where the batches were not all read and sent, neither was the stream
   pub batches_broken : (after : Writer) (w1 : Option (List ℕ)) (f1 : ℕ) (why : RewriteStop) → w1 ≡ after.written

@@ -1,5 +1,6 @@
 -- Which batches are reported when a stream is rewritten.
 use Rattle.std.specs.Prelude.{ℕ, List, Option, Result, Ok, Err}
+use Rattle.ipc_model.specs.declared.fault.Fault.TheVariants.{Read}
 use Rattle.ipc_model.specs.declared.limits.Limits.{Limits}
 use Rattle.ipc_device.specs.Reports.{Report}
 use Rattle.ipc_stream_read.specs.Progress.{ReportsAll, ReportsBefore, ReportsSome}
@@ -21,3 +22,5 @@ ReportsSentBatches limits old new reports_old reports_new (Err (stop.Above total
     ReportsSome limits old new reports_old reports_new
 ReportsSentBatches limits old new reports_old reports_new (Err stop.NoRoom) =
     ReportsSome limits old new reports_old reports_new
+ReportsSentBatches limits old new reports_old reports_new (Err (stop.Held message)) =
+    ReportsBefore limits old new reports_old reports_new Read

@@ -1,10 +1,10 @@
 -- What is taken from a source and sent to a sink when a stream is rewritten.
-use Rattle.std.specs.Prelude.{◌≡◌, ◌+◌, ℕ, List, [], ◌∷◌, ◌++◌, map, Option, Some, length}
-use Rattle.std.specs.Prelude.{None, Result, Ok, Err, IsTrue}
+use Rattle.std.specs.Prelude.{◌≡◌, ◌≢◌, ◌+◌, ℕ, List, [], ◌∷◌, ◌++◌, map, Option, Some, length}
+use Rattle.std.specs.Prelude.{None, Result, Ok, Err, IsTrue, ⊤}
 use Rattle.std.specs.Io.KnownBytes.{Consumes, IsAtEnd}
 use Rattle.std.specs.List.{AllByRecursion}
 use Rattle.ipc_model.specs.declared.fault.Fault.{Fault}
-use Rattle.ipc_model.specs.declared.fault.Fault.TheVariants.{OutOfMemory}
+use Rattle.ipc_model.specs.declared.fault.Fault.TheVariants.{OutOfMemory, Read}
 use Rattle.ipc_model.specs.declared.fault.WriteFault.{WriteFault}
 use Rattle.ipc_model.specs.declared.fault.WriteFault.TheVariants as w
 use Rattle.ipc_model.specs.declared.limits.Limits.{Limits}
@@ -17,6 +17,8 @@ use Rattle.ipc_frame.specs.Failures.{CountsFault, CountsSinkFault}
 use Rattle.ipc_stream_read.specs.Ends.{as_required}
 use Rattle.ipc_stream_read.specs.Reader.{Reader, in_force_of}
 use Rattle.ipc_stream_read.specs.Reasons.{Reads}
+use Rattle.ipc_stream_read.specs.declared.read_stop.ReadStop.{ReadStop}
+use Rattle.ipc_stream_read.specs.declared.read_stop.ReadStop.TheVariants as read_stop
 use Rattle.ipc_stream_read.specs.Stream.{batch, initial_state, Run, Denotes, DenotesClosed}
 use Rattle.ipc_stream_read.specs.Counts.{count_up, messages_in}
 use Rattle.ipc_stream.specs.Dictionaries.{SendsBatch, SendsBatches, SendsTable, kept_after}
@@ -173,8 +175,19 @@ pub record BreaksAtSchema (options : RewriteOptions) (limits : Limits)
   pub stops : StopsAtSchema options.max_bytes (sent_limits options limits) s written_old written_new
       failures_old failures_new
 
+-- why reading stopped, at the message with this number
+abbrev pub stop_of_reading : ReadStop → ℕ → RewriteStop
+stop_of_reading (read_stop.Refused fault) message = stop.Read fault message
+stop_of_reading read_stop.Held message = stop.Held message
+
+-- the result is that more bytes would be held than the options allow
+abbrev pub IsHeld : Result ℕ RewriteStop → Type 0
+IsHeld (Err (stop.Held message)) = ⊤
+IsHeld r = ⊥
+
 -- what a result states about a stream that is read under these limits and written under those that
--- the options give. At Ok the number counts the messages that were read
+-- the options give. At Ok the number counts the messages that were read. At the maximum of held
+-- bytes reading broke off as where a source fails
 abbrev pub Rewrites : RewriteOptions → Limits → Option (List ℕ) → Option (List ℕ) → Option (List ℕ)
     → Option (List ℕ) → ℕ → ℕ → Result ℕ RewriteStop → Type 0
 Rewrites options limits old new written_old written_new failures_old failures_new (Ok messages) =
@@ -194,10 +207,14 @@ Rewrites options limits old new written_old written_new failures_old failures_ne
 Rewrites options limits old new written_old written_new failures_old failures_new
     (Err stop.NoRoom) =
     BreaksAtSchema options limits old new written_old written_new failures_old failures_new
+Rewrites options limits old new written_old written_new failures_old failures_new
+    (Err (stop.Held message)) =
+    BreaksReading options limits old new written_old written_new failures_old failures_new Read
+    message
 
 -- the result if the source contains this table: it was sent with the end mark and is within the
 -- totals, or memory ran out in reading it, or writing it broke off, or it stopped before the first
--- batch that would exceed a total, or at a schema without room
+-- batch that would exceed a total, at a schema without room, or at a maximum of held bytes
 abbrev pub AnswersRewrittenTable : RewriteOptions → Limits → Table → Option (List ℕ)
     → Option (List ℕ) → ℕ → ℕ → Result ℕ RewriteStop → Type 0
 AnswersRewrittenTable options limits t written_old written_new failures_old failures_new (Ok done) =
@@ -218,10 +235,13 @@ AnswersRewrittenTable options limits t written_old written_new failures_old fail
     (Err stop.NoRoom) =
     StopsAtSchema options.max_bytes limits t.schema written_old written_new failures_old
     failures_new
+AnswersRewrittenTable options limits t written_old written_new failures_old failures_new
+    (Err (stop.Held message)) = options.max_held ≢ None
 
 -- how a result changes the counts of failures of the source and the sink. Success and a stop at a
 -- total need 0 before and after; at a schema without room the sink was not called. If reading is
--- refused, the sink did not fail in the call; if writing is refused, the source never failed
+-- refused, the sink did not fail in the call; if writing is refused, the source never failed. At
+-- the maximum of held bytes neither failed in the call
 abbrev pub CountsRewriteFailures : ℕ → ℕ → ℕ → ℕ → Result ℕ RewriteStop → Type 0
 CountsRewriteFailures source_old source_new sink_old sink_new (Ok done) =
     (source_old ≡ 0) × (source_new ≡ 0) × (sink_old ≡ 0) × (sink_new ≡ 0)
@@ -233,6 +253,8 @@ CountsRewriteFailures source_old source_new sink_old sink_new (Err (stop.Above t
     (source_old ≡ 0) × (source_new ≡ 0) × (sink_old ≡ 0) × (sink_new ≡ 0)
 CountsRewriteFailures source_old source_new sink_old sink_new (Err stop.NoRoom) =
     (source_old ≡ 0) × (source_new ≡ 0) × (sink_new ≡ sink_old)
+CountsRewriteFailures source_old source_new sink_old sink_new (Err (stop.Held message)) =
+    (source_new ≡ source_old) × (sink_new ≡ sink_old)
 
 -- ---- the batches after the schema
 
@@ -312,3 +334,6 @@ CopiesBatches options room old new before after (Err (stop.Write fault)) =
 CopiesBatches options room old new before after (Err (stop.Above total number)) =
     StopsAtLast options room old new before after total number
 CopiesBatches options room old new before after (Err stop.NoRoom) = ⊥
+CopiesBatches options room old new before after (Err (stop.Held message)) =
+    (answer : Result End Fault) × CopiesRest options old new before after answer
+    × (as_required options.require_mark answer ≡ Err Read) × (message ≡ new.messages)

@@ -3,6 +3,7 @@ ghost use Rattle.std.specs.Prelude.{◌≡◌, ◌++◌, ℕ, List, [], OnOk, Op
 ghost use Rattle.ipc_model.specs.declared.limits.Limits.{Limits};
 ghost use Rattle.ipc_model.specs.declared.table.Table.{Table};
 ghost use Rattle.ipc_stream_read.specs.declared.end.End.TheVariants.{Closed, Mark};
+ghost use Rattle.ipc_stream_read.specs.Held.{HeldInAll, HeldSoFar};
 ghost use Rattle.ipc_stream_read.specs.Reader.{Reading};
 ghost use Rattle.ipc_stream_read.specs.Reader.{Opens};
 ghost use Rattle.ipc_stream_read.specs.Stream.{Denotes};
@@ -10,7 +11,7 @@ ghost use Rattle.job_rewrite.specs.Outputs.{AppendsWithin, StartsOutput};
 ghost use Rattle.job_rewrite.specs.RewriteLimits.{sent_limits};
 ghost use Rattle.job_rewrite.specs.Reporting.{ReportsSentBatches};
 ghost use Rattle.job_rewrite.specs.Rewriting.{AnswersRewrittenTable, CopiesBatches, Rewrites};
-ghost use Rattle.job_rewrite.specs.Rewriting.{CountsRewriteFailures};
+ghost use Rattle.job_rewrite.specs.Rewriting.{CountsRewriteFailures, IsHeld};
 
 use crate::bounded::Bounded;
 use crate::limits::sent_limits;
@@ -47,11 +48,14 @@ fn copy_batches<R: Source, W: Sink, O: Output<W>, P: Progress>(
     ensures reports { (limits : Limits) (start : Option (List ℕ)) → Opens limits start stream.old
         → ReportsSentBatches limits start stream.new.remaining (P.reports progress.old)
         (P.reports progress.new) result }
+    ensures held { (limits : Limits) (start : Option (List ℕ))
+        → HeldSoFar limits options.max_held start stream.old
+        → HeldInAll limits options.max_held start stream.new.remaining (IsHeld result) }
 {
     let mut batches: u64 = 0;
     let mut rows: u64 = 0;
     loop {
-        match stream.next() {
+        match stream.next_within(options.max_held) {
             Ok(Some((batch, pairs))) => {
                 let more = batch.rows() as u64;
                 if let Some(total) = options.total_above(batches, rows, more) {
@@ -70,7 +74,7 @@ fn copy_batches<R: Source, W: Sink, O: Output<W>, P: Progress>(
                 Ok(_) => return Ok(stream.messages()),
                 Err(missing) => return Err(RewriteStop::Read(missing, stream.messages())),
             },
-            Err(fault) => return Err(RewriteStop::Read(fault, stream.messages())),
+            Err(why) => return Err(RewriteStop::of_reading(why, stream.messages())),
         }
     }
 }
@@ -103,6 +107,9 @@ fn copy_stream<R: Source, W: Sink, O: Output<W>, P: Progress>(
     ensures reports { (limits : Limits) (start : Option (List ℕ)) → Opens limits start stream.old
         → ReportsSentBatches limits start stream.new.remaining (P.reports progress.old)
         (P.reports progress.new) result.0 }
+    ensures held { (limits : Limits) (start : Option (List ℕ))
+        → HeldSoFar limits options.max_held start stream.old
+        → HeldInAll limits options.max_held start stream.new.remaining (IsHeld result.0) }
 {
     let mut output = output;
     match copy_batches(options, stream, &mut output, progress) {
@@ -136,6 +143,9 @@ fn rewrite_open<R: Source, W: Sink, P: Progress>(
     ensures reports { (limits : Limits) (start : Option (List ℕ)) → Opens limits start stream.old
         → ReportsSentBatches limits start stream.new.remaining (P.reports progress.old)
         (P.reports progress.new) result.0 }
+    ensures held { (limits : Limits) (start : Option (List ℕ))
+        → HeldSoFar limits options.max_held start stream.old
+        → HeldInAll limits options.max_held start stream.new.remaining (IsHeld result.0) }
 {
     let limits = sent_limits(&stream.limits(), options);
     let Some(most) = options.max_bytes else {
@@ -180,6 +190,9 @@ fn rewrite_open<R: Source, W: Sink, P: Progress>(
 ///   was sent, and no mark; the number is that of the batches before it.
 /// - `RewriteStop::NoRoom`: the message of the schema and the end-of-stream mark would exceed
 ///   `options.max_bytes`. Nothing was sent.
+/// - `RewriteStop::Held`: the bytes that came of the message with this number and the bodies of the
+///   dictionaries in force, with the next part of the message, would exceed `options.max_held`.
+///   Nothing more is taken from the source. All batches before were sent, and no mark.
 pub fn rewrite<R: Source, W: Sink, P: Progress>(
     alloc: Global,
     seed: Seed,
@@ -222,13 +235,17 @@ pub fn rewrite<R: Source, W: Sink, P: Progress>(
     // after the messages of its batch is not stated.
     ensures reports { ReportsSentBatches limits (R.remaining source) (R.remaining result.1)
         (P.reports progress.old) (P.reports progress.new) result.0 }
+    // After each byte that was taken, at most `options.max_held` bytes were held. At `Held` more
+    // would be with the bytes up to the next decision on the message.
+    ensures held { HeldInAll limits options.max_held (R.remaining source) (R.remaining result.1)
+        (IsHeld result.0) }
 {
-    match StreamReader::open(alloc, limits, source) {
+    match StreamReader::open_within(alloc, limits, options.max_held, source) {
         Ok(stream) => {
             let mut stream = stream;
             let (result, sink) = rewrite_open(alloc, seed, options, &mut stream, sink, progress);
             (result, stream.into_inner(), sink)
         }
-        Err((fault, source)) => (Err(RewriteStop::Read(fault, 0)), source, sink),
+        Err((why, source)) => (Err(RewriteStop::of_reading(why, 0)), source, sink),
     }
 }

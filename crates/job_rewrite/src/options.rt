@@ -21,6 +21,9 @@ pub struct RewriteOptions {
     /// The maximum number of bytes that are written in all, or `None` for any number: those of all
     /// messages, of the schema, of dictionaries and of batches, and of the end-of-stream mark.
     pub max_bytes: Option<u64>,
+    /// The maximum number of bytes that are held of what is read, or `None` for any number: those
+    /// that came of the current message, and the bodies of the dictionaries in force.
+    pub max_held: Option<u64>,
 }
 
 /// A total of what is written.

@@ -1,7 +1,10 @@
 //! Why a stream is not rewritten.
+ghost use Rattle.std.specs.Prelude.{◌≡◌};
+ghost use Rattle.job_rewrite.specs.Rewriting.{stop_of_reading};
 
 use crate::options::Total;
 use ipc_model::{Fault, WriteFault};
+use ipc_stream_read::ReadStop;
 
 /// Why a stream is not rewritten.
 #[derive(Debug, Drop)]
@@ -14,6 +17,21 @@ pub enum RewriteStop {
     Above(Total, u64),
     /// The message of the schema and the end-of-stream mark have more bytes than may be written.
     NoRoom,
+    /// With the next part of the message with this number, counted from 0, more bytes would be held
+    /// of what is read than the options allow.
+    Held(u64),
+}
+
+impl RewriteStop {
+    // Why reading stopped, at the message with this number.
+    pub(crate) fn of_reading(why: ReadStop, message: u64) -> RewriteStop
+        ensures { result ≡ stop_of_reading why message }
+    {
+        match why {
+            ReadStop::Refused(fault) => RewriteStop::Read(fault, message),
+            ReadStop::Held => RewriteStop::Held(message),
+        }
+    }
 }
 
 impl From<WriteFault> for RewriteStop {

@@ -156,6 +156,7 @@ fn done(
         explain: false,
         progress: false,
         require_eof: false,
+        max_held: None,
     };
     let schema = Some(schema);
     let (status, _, sink, _) = run(

@@ -19,7 +19,7 @@ use Rattle.ipc_model.specs.declared.schema.Field.{Field}
 use Rattle.ipc_model.specs.declared.schema.Schema.{Schema}
 use Rattle.ipc_text_temporal.specs.declared.fault.TextFault.{TextFault}
 use Rattle.job_print.specs.declared.form.PrintOptions.{PrintOptions}
-use Rattle.job_print.specs.declared.stop.Outcome.TheVariants.{Whole, Limited, Broken, Refused as Lacking}
+use Rattle.job_print.specs.declared.stop.Outcome.TheVariants.{Whole, Limited, Broken, Held, Refused as Lacking}
 use Rattle.job_print.specs.FirstRows.{batch_prefix, within, HasReached, WantsMoreRows, wanted_rows}
 use Rattle.job_print.specs.Forms.{batch_heading as heading, line_of, HaveLines, HaveAllLines, row_count}
 use Rattle.job_print.specs.Output.{Output, output, Puts, PutFails}
@@ -360,4 +360,14 @@ module _ (options : PrintOptions) (tally : PrintCounts) (old now new : Reader) (
     printed t.x (Err f) t.bytes t.counted (broke now new now.phase new.phase t.x f b.reading t.gives),
     refl,
     record { failed = tells.failed; stayed = λ other. tells.stayed other ∙ b.counts },
+  )
+
+  -- where more would be held, it is as where the source fails
+  pub batches_held : NextCall now new (Err Read) → new.failures ≡ now.failures
+      → PrintsBatches options [] old new before after (Ok Held)
+  batches_held t same = (
+    Err Read,
+    printed t.x (Err Read) t.bytes t.counted (broke now new now.phase new.phase t.x Read b.reading t.gives),
+    refl,
+    same ∙ b.counts,
   )

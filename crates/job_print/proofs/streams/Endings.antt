@@ -10,7 +10,7 @@ use Rattle.job_print.specs.declared.line_buffer.PrintFault.{PrintFault}
 use Rattle.job_print.specs.declared.line_buffer.PrintFault.TheVariants.{Write}
 use Rattle.job_print.specs.declared.form.PrintOptions.{PrintOptions}
 use Rattle.job_print.specs.declared.stop.Outcome.{Outcome}
-use Rattle.job_print.specs.declared.stop.Outcome.TheVariants.{Whole, Limited, Broken, Refused as Lacking}
+use Rattle.job_print.specs.declared.stop.Outcome.TheVariants.{Whole, Limited, Broken, Held, Refused as Lacking}
 use Rattle.job_print.specs.FirstRows.{batch_prefix, within, WantsMoreRows, wanted_rows}
 use Rattle.job_print.specs.Forms.{IsTail, batch_heading, line_of, row_count, tail_of, tail_text}
 use Rattle.std.specs.Prelude.{◌≢◌}
@@ -42,6 +42,8 @@ module _ (options : PrintOptions) (front : List ℕ) (old new : Reader) where
       let puts = puts_then before mid after front _ p h.puts in
       (record { state = h.state; read = h.read; reached = h.reached; puts = puts; sent = h.sent }, q.1)
   behind_front before mid after (Ok (Broken f)) p q =
+      let r = q.1 in (q.0, record { read = r.read; puts = puts_then before mid after front _ p r.puts; sent = r.sent }, q.2, q.3)
+  behind_front before mid after (Ok Held) p q =
       let r = q.1 in (q.0, record { read = r.read; puts = puts_then before mid after front _ p r.puts; sent = r.sent }, q.2, q.3)
   behind_front before mid after (Ok (Lacking f)) p q =
       let h = q.0 in
@@ -114,6 +116,8 @@ module _ (options : PrintOptions) (front : List ℕ) (old new : Reader) where
         (record { state = h.state; read = h.read; reached = h.reached; puts = puts; sent = empty }, p.1)
     flushed (Broken f) last after empty p tail q =
         (p.0, record { read = p.1.read; puts = then_flushed last after p.1.puts tail q; sent = empty }, p.2, p.3)
+    flushed Held last after empty p tail q =
+        (p.0, record { read = p.1.read; puts = then_flushed last after p.1.puts tail q; sent = empty }, p.2, p.3)
     flushed (Lacking f) last after empty p tail q =
         (record { read = p.0.read; puts = then_flushed last after p.0.puts tail q; few = omega (arith, ap length empty) }, p.1)
 
@@ -173,6 +177,7 @@ module _ (options : PrintOptions) (front : List ℕ) (old new : Reader) where
     tail_cut Limited w n e is p q = absurd is
     tail_cut (Broken f) w n e is p q = absurd is
     tail_cut (Lacking f) w n e is p q = absurd is
+    tail_cut Held w n e is p q = absurd is
 
     -- what was kept did not go out
     pub unflushed : (outcome : Outcome) (last : Output) (w : Option (List ℕ)) (n : ℕ)
@@ -190,6 +195,7 @@ module _ (options : PrintOptions) (front : List ℕ) (old new : Reader) where
         part_read options front old new before w n Write h.x h.batches h.state h.bytes h.run h.wanted missing.0 (omega (arith, missing.1))
         (λ other. absurd (other refl))
     unflushed (Broken f) last w n p tail q = rows_unflushed p.0 w n p.1 (puts_not_then mid last w n [] [] Write tail q)
+    unflushed Held last w n p tail q = rows_unflushed p.0 w n p.1 (puts_not_then mid last w n [] [] Write tail q)
     unflushed (Lacking f) last w n p tail q =
         let h = p.0 in
         let k = wanted_rows options.limit (row_count h.batches) (length h.last.rows) in

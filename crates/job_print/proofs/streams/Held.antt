@@ -1,5 +1,5 @@
 -- Where a source holds a table, its text is printed, or what stands in the way is in the table or outside.
-use Rattle.std.proofs.Common.{◌≡◌, ◌∙◌, refl, sym, ap, subst, ℕ, zero, inl, inr, List, [], ◌∷◌, ◌++◌, length, Option, Some, None, ◌+◌}
+use Rattle.std.proofs.Common.{◌≡◌, ◌≢◌, ◌∙◌, refl, sym, ap, subst, ℕ, zero, inl, inr, List, [], ◌∷◌, ◌++◌, length, Option, Some, None, ◌+◌}
 use Rattle.std.proofs.Common.{Result, Ok, Err, ⊎_elim, append_assoc, append-nil, arith}
 use Rattle.std.specs.Prelude.{⊤, ◌⊎◌, Bool, Contains, IsTrue, false, true}
 use Rattle.std.specs.Io.KnownBytes.{Appends, Consumes, IsAtEnd}
@@ -30,16 +30,17 @@ use Rattle.job_print.specs.FirstRows.{within, WantsMoreRows}
 use Rattle.job_print.specs.Forms.{form_fault, row_count, RefusesFirstRow}
 use Rattle.job_print.specs.Output.{Output}
 use Rattle.job_print.specs.Streams.{AnswersPrintedTable, EndsPrinting, HasUnprintableRow, Prints, PrintsFirst, PrintsStream, PrintsTable}
-use Rattle.job_print.specs.Streams.{PrintsText, StopsPrinting, broken, stream_text, refused, unfit, unopened}
+use Rattle.job_print.specs.Streams.{IsHeld, PrintsText, StopsPrinting, broken, stream_text, refused, unfit, unopened}
 use Rattle.job_print.proofs.streams.FirstRows.{reached_more, refused_within, within_prefix}
 use Rattle.job_print.proofs.streams.Streams.{one_more, reads_opened}
 
--- how often the source failed is stated where reading is refused
-abbrev pub TellsRead : ℕ → ℕ → Result (Option ℕ) PrintStop → Type 0
-TellsRead old new (Ok messages) = ⊤
-TellsRead old new (Err (stop.Read fault message)) = CountsFault old new fault
-TellsRead old new (Err (stop.Write fault)) = ⊤
-TellsRead old new (Err (stop.Text fault)) = ⊤
+-- how often the source failed is stated where reading is refused, and that there is a maximum of held bytes where it stopped for that
+abbrev pub TellsRead : PrintOptions → ℕ → ℕ → Result (Option ℕ) PrintStop → Type 0
+TellsRead options old new (Ok messages) = ⊤
+TellsRead options old new (Err (stop.Read fault message)) = CountsFault old new fault
+TellsRead options old new (Err (stop.Write fault)) = ⊤
+TellsRead options old new (Err (stop.Text fault)) = ⊤
+TellsRead options old new (Err (stop.Held message)) = options.max_held ≢ None
 
 -- why reading broke off, as what was taken: a fault, or an end without the mark that is required
 broken_taken : {limits : Limits} → (options : PrintOptions) (old new w0 w1 : Option (List ℕ)) (fault : Fault) (n : ℕ)
@@ -129,7 +130,7 @@ same_closed z x (Some b) bytes end = sym (append-nil x) ∙ ap (λ (c : List ℕ
 
 module _ {limits : Limits} (options : PrintOptions) (old new w0 w1 : Option (List ℕ)) (g0 g1 : ℕ) (none : g1 ≡ 0) where
   -- where bytes up to an end mark denote a table, that one is printed, unless something stands in the way
-  pub printed_marked : (r : Result (Option ℕ) PrintStop) → TellsRead g0 g1 r → Prints options limits old new w0 w1 r
+  pub printed_marked : (r : Result (Option ℕ) PrintStop) → TellsRead options g0 g1 r → Prints options limits old new w0 w1 r
       → (x rest : List ℕ) (t : Table) → old ≡ Some (x ++ rest) → Denotes limits x t Mark
       → AnswersPrintedTable options t Mark (length x) w0 w1 r
   printed_marked (Ok None) tells p x rest t is d =
@@ -152,9 +153,10 @@ module _ {limits : Limits} (options : PrintOptions) (old new w0 w1 : Option (Lis
       lacking options (x ++ rest) t (holds_marked x rest t d) new w0 w1 fault
       (subst (λ (o : Option (List ℕ)). StopsPrinting options limits o new w0 w1 fault) is p)
   printed_marked (Err (stop.Write fault)) tells p x rest t is d = p.0
+  printed_marked (Err (stop.Held n)) tells p x rest t is d = tells
 
   -- where all bytes of the source denote a table, and no mark is required, so is that one
-  pub printed_closed : (r : Result (Option ℕ) PrintStop) → TellsRead g0 g1 r → Prints options limits old new w0 w1 r
+  pub printed_closed : (r : Result (Option ℕ) PrintStop) → TellsRead options g0 g1 r → Prints options limits old new w0 w1 r
       → (x : List ℕ) (t : Table) → options.require_mark ≡ false → old ≡ Some x → Denotes limits x t Closed
       → AnswersPrintedTable options t Closed (length x) w0 w1 r
   printed_closed (Ok None) tells p x t free is d =
@@ -173,11 +175,13 @@ module _ {limits : Limits} (options : PrintOptions) (old new w0 w1 : Option (Lis
       lacking options x t (holds_closed x t d) new w0 w1 fault
       (subst (λ (o : Option (List ℕ)). StopsPrinting options limits o new w0 w1 fault) is p)
   printed_closed (Err (stop.Write fault)) tells p x t free is d = p.0
+  printed_closed (Err (stop.Held n)) tells p x t free is d = tells
 
--- what the answer to a stream whose schema was read says of how often its source failed
+-- what the answer to a stream whose schema was read says of how reading went
 pub stream_tells : (options : PrintOptions) (s t : Reader) (before after : Output) (r : Result (Option ℕ) PrintStop)
-    → PrintsStream options s t before after r → TellsRead s.failures t.failures r
-stream_tells options s t before after (Ok messages) p = tt
-stream_tells options s t before after (Err (stop.Read fault n)) p = p.3
-stream_tells options s t before after (Err (stop.Write fault)) p = tt
-stream_tells options s t before after (Err (stop.Text fault)) p = tt
+    → (IsHeld r → options.max_held ≢ None) → PrintsStream options s t before after r → TellsRead options s.failures t.failures r
+stream_tells options s t before after (Ok messages) held p = tt
+stream_tells options s t before after (Err (stop.Read fault n)) held p = p.3
+stream_tells options s t before after (Err (stop.Write fault)) held p = tt
+stream_tells options s t before after (Err (stop.Text fault)) held p = tt
+stream_tells options s t before after (Err (stop.Held n)) held p = held tt

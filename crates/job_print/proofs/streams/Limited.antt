@@ -205,7 +205,7 @@ module _ {limits : Limits} (options : PrintOptions) (x rest : List ℕ) (t : Tab
 -- where the source begins with the messages of a table up to the limit, the answer is the text of its rows up to it
 pub printed_first : {limits : Limits} → (options : PrintOptions) (old new w0 w1 : Option (List ℕ)) (g0 g1 : ℕ) → g1 ≡ 0
     → (r : Result (Option ℕ) PrintStop)
-    → TellsRead g0 g1 r → Prints options limits old new w0 w1 r → (x rest : List ℕ) (t : Table) → old ≡ Some (x ++ rest)
+    → TellsRead options g0 g1 r → Prints options limits old new w0 w1 r → (x rest : List ℕ) (t : Table) → old ≡ Some (x ++ rest)
     → ReachesLimit options limits x t → AnswersFirst options t x old new w0 w1 r
 printed_first {limits} options old new w0 w1 g0 g1 none r tells p x rest t is h =
     subst (λ (o : Option (List ℕ)). AnswersFirst options t x o new w0 w1 r) (sym is)
@@ -215,10 +215,11 @@ printed_first {limits} options old new w0 w1 g0 g1 none r tells p x rest t is h 
     outside_memory fault says (inl read) = absurd (omega (arith, none, says.failed read))
     outside_memory fault says (inr memory) = memory
 
-    by_result : (r : Result (Option ℕ) PrintStop) → TellsRead g0 g1 r → Prints options limits (Some (x ++ rest)) new w0 w1 r
+    by_result : (r : Result (Option ℕ) PrintStop) → TellsRead options g0 g1 r → Prints options limits (Some (x ++ rest)) new w0 w1 r
         → AnswersFirst options t x (Some (x ++ rest)) new w0 w1 r
     by_result (Ok (Some n)) says q = absurd (not_whole options x rest t h new w0 w1 q.0)
     by_result (Ok None) says q = first_printed options x rest t h new w0 w1 q
     by_result (Err (stop.Read fault n)) says q = outside_memory fault says (breaks_outside options x rest t h new w0 w1 fault n q)
     by_result (Err (stop.Text fault)) says q = stops_text options x rest t h new w0 w1 fault q
     by_result (Err (stop.Write fault)) says q = q.0
+    by_result (Err (stop.Held n)) says q = says

@@ -1,12 +1,13 @@
 -- The reports of the batches that were printed.
 use Rattle.std.proofs.Common.{ℕ, List, Option, Ok}
+use Rattle.ipc_model.specs.declared.fault.Fault.TheVariants.{Read}
 use Rattle.ipc_model.specs.declared.limits.Limits.{Limits}
 use Rattle.ipc_device.specs.Reports.{Report}
 use Rattle.ipc_stream_read.specs.Progress.{ReportsSome}
 use Rattle.ipc_stream_read.specs.Reader.{Opens, Reader}
 use Rattle.ipc_stream_read.proofs.Reporting.{opened_some, some_of_all, some_of_before}
 use Rattle.job_print.specs.declared.stop.Outcome.{Outcome}
-use Rattle.job_print.specs.declared.stop.Outcome.TheVariants.{Whole, Limited, Broken, Refused}
+use Rattle.job_print.specs.declared.stop.Outcome.TheVariants.{Whole, Limited, Broken, Held, Refused}
 use Rattle.job_print.specs.Reporting.{ReportsOutcome}
 
 -- where no batch was read, none is reported
@@ -21,3 +22,4 @@ outcome_some old new a b (Whole e tally) all = some_of_all old new a b all
 outcome_some old new a b Limited all = some_of_all old new a b all
 outcome_some old new a b (Broken f) all = some_of_before old new a b f all
 outcome_some old new a b (Refused f) some = some
+outcome_some old new a b Held all = some_of_before old new a b Read all

@@ -6,6 +6,7 @@ use Rattle.std.specs.Prelude.{length}
 use Rattle.std.specs.Io.KnownBytes.{Appends, Consumes, IsAtEnd, Keeps}
 use Rattle.std.proofs.KnownBytes.{Consumes-trans, Keeps-refl}
 use Rattle.ipc_model.specs.declared.fault.Fault.{Fault}
+use Rattle.ipc_model.specs.declared.fault.Fault.TheVariants.{Read}
 use Rattle.ipc_model.specs.declared.table.Table.{Table}
 use Rattle.ipc_model.specs.declared.value.Value.{Value}
 use Rattle.ipc_stream_read.specs.declared.end.End.{End}
@@ -183,6 +184,11 @@ module _ {limits : Limits} (options : PrintOptions) (old : Option (List ℕ)) (s
       broken o.x r.x (record { schema = s.schema; batches = r.batches }) answer (all_bytes after answer r) opened
       (reads_behind after answer r).0 ends (number ∙ numbered after answer r) r.below r.have
       (grows_appends w0 w1 (stream_text options.form s.schema r.batches) r.puts.bytes)
+  prints_rows (Err (stop.Held n)) (answer, r, ends, tells, number) =
+      let after = output w1 n1 [] in
+      broken o.x r.x (record { schema = s.schema; batches = r.batches }) answer (all_bytes after answer r) opened
+      (reads_behind after answer r).0 ends (number ∙ numbered after answer r) r.below r.have
+      (grows_appends w0 w1 (stream_text options.form s.schema r.batches) r.puts.bytes)
   prints_rows (Err (stop.Text fault)) (inl other) =
       let taken : Consumes old t.remaining o.x = subst (λ (z : Reader). Consumes old z.remaining o.x) (sym other.same) o.bytes in
       let silent : Keeps w0 w1 = subst (λ (z : Output). Keeps w0 z.written) (sym other.silent) (Keeps-refl w0) in
@@ -291,6 +297,7 @@ pub part_of : {limits : Limits} → (options : PrintOptions) (old new w0 w1 : Op
 part_of options old new w0 w1 (Ok (Some n)) h = table_part options old new w0 w1 h.0
 part_of options old new w0 w1 (Ok None) h = first_part options old new w0 w1 h
 part_of options old new w0 w1 (Err (stop.Read fault n)) h = broken_part options old new w0 w1 fault n h
+part_of options old new w0 w1 (Err (stop.Held n)) h = broken_part options old new w0 w1 Read n h
 part_of options old new w0 w1 (Err (stop.Text fault)) h = stopped_part options old new w0 w1 fault h
 part_of options old new w0 w1 (Err (stop.Write fault)) h = h.1
 

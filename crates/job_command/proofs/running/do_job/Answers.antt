@@ -7,7 +7,7 @@ returns-clause-answers g c = elim c.match-job.branch [
   | in-Schema w ↦ rw (w.in-Schema.is, w.result-is) w.schema_job.ensures.answers
   | in-Check w ↦ rw (w.in-Check.is, w.result-is) (rw w.print_options-options.ensures at w.print_job.ensures.answers)
   | in-Show w ↦ rw (w.in-Show.is, w.result-is)
-      (rw (w.print_options-options-in-Show.ensures, w.rows_form.ensures) at w.print_job-in-Show.ensures.answers)
+      (rw (w.print_options-options-in-Show.ensures, w.rows_form-form.ensures) at w.print_job-in-Show.ensures.answers)
   | in-ToCsv w ↦ rw (w.in-ToCsv.is, w.result-is) (
     w.dialect.result,
     (w.dialect.ensures.delimiter, w.dialect.ensures.null),

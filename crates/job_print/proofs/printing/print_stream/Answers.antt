@@ -1,5 +1,6 @@
 use Rattle.std.proofs.Common.{Ok, Err, refl}
 use Rattle.std.proofs.lemmas.Result.{err_from_is_err_and}
+use Rattle.ipc_stream_read.proofs.Readers.{all_held, still_held}
 use Rattle.ipc_stream_read.proofs.Reporting.{opened_some}
 use Rattle.job_print.specs.Output.{output}
 use Rattle.job_print.proofs.streams.Endings.{behind_front, flushed, unflushed, tail_cut}
@@ -99,3 +100,33 @@ pub returns-in_err-flush-2-clause-reports : goal.returns-in_err-flush-2-clause-r
 returns-in_err-flush-2-clause-reports g c = λ limits start o.
     let p = err_from_is_err_and c.from_residual-in_err-flush-2.result c.from_residual-in_err-flush-2.ensures.1 in
     rw p.1 (outcome_some start _ _ _ c.in_ok-outcome.outcome (c.in_ok-outcome.ensures.reports limits start o))
+
+pub returns-in_err-lines-clause-held : goal.returns-in_err-lines-clause-held
+returns-in_err-lines-clause-held g c = λ limits start h.
+    let p = err_from_is_err_and c.from_residual.result c.from_residual.ensures.1 in
+    rw p.1 (still_held _ start _ _ (λ bad. absurd bad) h)
+
+pub returns-in_err-print_front-clause-held : goal.returns-in_err-print_front-clause-held
+returns-in_err-print_front-clause-held g c = λ limits start h.
+    let p = err_from_is_err_and c.from_residual-in_err-print_front.result c.from_residual-in_err-print_front.ensures.1 in
+    rw p.1 (still_held _ start _ _ (λ bad. absurd bad) h)
+
+pub returns-in_err-flush-clause-held : goal.returns-in_err-flush-clause-held
+returns-in_err-flush-clause-held g c = λ limits start h.
+    let p = err_from_is_err_and c.from_residual-in_err-flush.result c.from_residual-in_err-flush.ensures.1 in
+    rw p.1 (still_held _ start _ _ (λ bad. absurd bad) h)
+
+pub returns-in_err-outcome-clause-held : goal.returns-in_err-outcome-clause-held
+returns-in_err-outcome-clause-held g c = λ limits start h.
+    let p = err_from_is_err_and c.from_residual-in_err-outcome.result c.from_residual-in_err-outcome.ensures.1 in
+    rw p.1 (c.in_err-outcome.ensures.held limits start h)
+
+pub returns-in_err-print_tail-clause-held : goal.returns-in_err-print_tail-clause-held
+returns-in_err-print_tail-clause-held g c = λ limits start h.
+    let p = err_from_is_err_and c.from_residual-in_err-print_tail.result c.from_residual-in_err-print_tail.ensures.1 in
+    rw p.1 (all_held _ _ _ (λ bad. absurd bad) (c.in_ok-outcome.ensures.held limits start h))
+
+pub returns-in_err-flush-2-clause-held : goal.returns-in_err-flush-2-clause-held
+returns-in_err-flush-2-clause-held g c = λ limits start h.
+    let p = err_from_is_err_and c.from_residual-in_err-flush-2.result c.from_residual-in_err-flush-2.ensures.1 in
+    rw p.1 (all_held _ _ _ (λ bad. absurd bad) (c.in_ok-outcome.ensures.held limits start h))

@@ -1,6 +1,8 @@
-use Rattle.std.proofs.Common.{refl}
-use Rattle.std.proofs.KnownBytes.{Keeps-refl}
+use Rattle.std.proofs.Common.{None}
+use Rattle.std.specs.Prelude.{⊤}
+use Rattle.ipc_stream_read.proofs.Readers.{still_held}
 use Rattle.job_print.proofs.streams.Streams.{schema_printed, schema_cut}
+use Rattle.job_print.proofs.streams.Unopened.{unopened_answers, unopened_counts, unopened_held, unopened_schema}
 use Rattle.job_print.proofs.schema.print_schema.Goals as goal
 
 pub returns-in-Ok-send_schema-clause-prints : goal.returns-in-Ok-send_schema-clause-prints
@@ -13,7 +15,24 @@ returns-in-Err-send_schema-clause-prints g c =
     rw c.write_fault_of.ensures (schema_cut _ _ c.in-Ok.stream _ _ _ _ c.in-Err-send_schema.fault c.in-Ok.ensures.opened
     c.into_inner-in-Err-send_schema.ensures.remaining (rw c.schema.ensures at c.in-Err-send_schema.ensures.puts))
 
+pub returns-in-Ok-send_schema-clause-held : goal.returns-in-Ok-send_schema-clause-held
+returns-in-Ok-send_schema-clause-held g c =
+    rw c.into_inner.ensures.remaining (still_held _ _ _ _ (λ bad. absurd bad) c.in-Ok.ensures.held)
+
+pub returns-in-Err-send_schema-clause-held : goal.returns-in-Err-send_schema-clause-held
+returns-in-Err-send_schema-clause-held g c =
+    rw c.into_inner-in-Err-send_schema.ensures.remaining (still_held _ _ _ _ (λ bad. absurd bad) c.in-Ok.ensures.held)
+
 pub returns-in-Err-clause-prints : goal.returns-in-Err-clause-prints
-returns-in-Err-clause-prints g c =
-    let fails = c.in-Err.ensures.refused in
-    (fails.x, fails.bytes, fails.reads, refl, Keeps-refl (g.W.Sink.written c.args.sink.now))
+returns-in-Err-clause-prints g c = rw c.of_reading.ensures (unopened_schema _ _ _ c.in-Err.why c.in-Err.ensures.refused)
+
+pub returns-in-Err-clause-devices : goal.returns-in-Err-clause-devices
+returns-in-Err-clause-devices g c = rw c.of_reading.ensures (unopened_counts ⊤ _ _ _ c.in-Err.why c.in-Err.ensures.failures)
+
+pub returns-in-Err-clause-opens : goal.returns-in-Err-clause-opens
+returns-in-Err-clause-opens g c = λ x rest s is opens.
+    rw c.of_reading.ensures (unopened_answers _ _ _ None None c.in-Err.why (c.in-Err.ensures.schema x rest s is opens)
+    c.in-Err.ensures.held s)
+
+pub returns-in-Err-clause-held : goal.returns-in-Err-clause-held
+returns-in-Err-clause-held g c = rw c.of_reading.ensures (unopened_held _ _ ⊤ _ c.in-Err.why c.in-Err.ensures.held)

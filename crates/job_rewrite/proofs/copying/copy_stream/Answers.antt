@@ -1,3 +1,4 @@
+use Rattle.ipc_stream_read.proofs.Readers.{all_held}
 use Rattle.ipc_stream_read.proofs.Reporting.{some_of_all}
 use Rattle.job_rewrite.proofs.Bytes.{within_finished, within_left, within_unfinished}
 use Rattle.job_rewrite.proofs.Whole.{batches_broken, end_refused, table_copied}
@@ -35,3 +36,6 @@ returns-in-Err-clause-within g c = λ written failures started.
 
 pub returns-in-Err-finish-clause-reports : goal.returns-in-Err-finish-clause-reports
 returns-in-Err-finish-clause-reports g c = λ limits start o. some_of_all start _ _ _ (c.in-Ok.ensures.reports limits start o)
+
+pub returns-in-Err-finish-clause-held : goal.returns-in-Err-finish-clause-held
+returns-in-Err-finish-clause-held g c = λ limits start h. all_held _ _ _ (λ bad. absurd bad) (c.in-Ok.ensures.held limits start h)

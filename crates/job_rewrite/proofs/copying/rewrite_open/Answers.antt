@@ -1,5 +1,6 @@
+use Rattle.ipc_stream_read.proofs.Readers.{still_held}
 use Rattle.ipc_stream_read.proofs.Reporting.{opened_some}
-use Rattle.job_rewrite.proofs.Whole.{none_reported, not_begun, schema_refused}
+use Rattle.job_rewrite.proofs.Whole.{none_reported, not_begun, not_begun_held, schema_refused}
 use Rattle.job_rewrite.proofs.copying.rewrite_open.Goals as goal
 
 pub returns-in-Ok-clause-rewrites : goal.returns-in-Ok-clause-rewrites
@@ -34,3 +35,11 @@ pub returns-in-Err-start-clause-reports : goal.returns-in-Err-start-clause-repor
 returns-in-Err-start-clause-reports g c = λ limits start o.
     none_reported c.args.options start _ _ _ _ _ c.in-Some.most o c.in-Err-start.stop _
     (rw (c.sent_limits-limits.ensures.sent, c.limits.ensures, c.schema-2.ensures) at c.in-Err-start.ensures.refused)
+
+pub returns-in-Err-clause-held : goal.returns-in-Err-clause-held
+returns-in-Err-clause-held g c = λ limits start h. still_held _ start _ _ (λ bad. absurd bad) h
+
+pub returns-in-Err-start-clause-held : goal.returns-in-Err-start-clause-held
+returns-in-Err-start-clause-held g c = λ limits start h.
+    still_held _ start _ _ (not_begun_held _ _ _ _ _ _ _ c.in-Err-start.stop
+    (rw (c.sent_limits-limits.ensures.sent, c.limits.ensures, c.schema-2.ensures) at c.in-Err-start.ensures.refused)) h

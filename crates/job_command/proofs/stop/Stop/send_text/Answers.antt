@@ -21,6 +21,9 @@ returns-in-Above-clause-sent g c = sent_as _ _ _ _ c.send_above.result (ap stop_
 pub returns-in-NoRoom-clause-sent : goal.returns-in-NoRoom-clause-sent
 returns-in-NoRoom-clause-sent g c = sent_as _ _ _ _ c.send-in-NoRoom.result (ap stop_text c.in-NoRoom.is) c.send-in-NoRoom.ensures.sent
 
+pub returns-in-Held-clause-sent : goal.returns-in-Held-clause-sent
+returns-in-Held-clause-sent g c = sent_as _ _ _ _ c.send_held.result (ap stop_text c.in-Held.is) c.send_held.ensures.sent
+
 pub returns-in-Rows-clause-sent : goal.returns-in-Rows-clause-sent
 returns-in-Rows-clause-sent g c =
     sent_as _ _ _ _ c.send_write_fault-in-Rows.result (ap stop_text c.in-Rows.is) c.send_write_fault-in-Rows.ensures.sent
