@@ -21,8 +21,8 @@
  *   - a pointer with a length may be read, or written if it is not const, for that many elements,
  *     and may be NULL if the length is 0; an `out` or `wanted` may be written; no two of them
  *     overlap;
- *   - each reader, batch and writer is used by one call at a time, and not from a signal handler. A
- *     reader and a writer stay on the thread that made them; a batch may pass to another one;
+ *   - each reader, batch and writer is used by one call at a time, and not from a signal handler.
+ *     Any thread may make a call; a lock or the like passes what one thread wrote to the next;
  *   - malloc, realloc and free are one allocator, and malloc aligns as C demands.
  *
  * A call at NULL returns ARROWSTREAM_MISUSE if it returns a status, and else 0, and does nothing
@@ -405,8 +405,36 @@ uint32_t arrowstream_writer_canonical(arrowstream_writer *writer, const arrowstr
                                       uint8_t *bytes, size_t length, int64_t *numbers,
                                       size_t count, arrowstream_canonical *out);
 
+/* Gives the values of the dictionary with this id, in place of those that were given before: one
+ * column of `rows` values, with its nodes, buffers and body as in arrowstream_writer_buffers. Each
+ * index in what that call sends refers to them. Nothing is sent.
+ *
+ * Returns ARROWSTREAM_OK; 25 if no field of the schema has the id; 26 to 34 if a reader refuses the
+ * values (F25 to F34 of docs/FAULTS.md); ARROWSTREAM_MISUSE, also if a count is odd; or
+ * ARROWSTREAM_WRITE + 10 or 11. After an error the values of before remain. */
+uint32_t arrowstream_writer_dictionary(arrowstream_writer *writer, int64_t id, int64_t rows,
+                                       const int64_t *nodes, size_t node_count,
+                                       const int64_t *buffers, size_t buffer_count,
+                                       const uint8_t *body, size_t length);
+
+/* Sends a batch of `rows` rows from the caller's buffers, which lie in `body` in any layout that
+ * the format allows (Message.fbs, RecordBatch; Arrow Columnar Format, "RecordBatch message").
+ * `nodes` has two numbers for each field in pre-order: its slots, and the nulls among them.
+ * `buffers` has two for each buffer, in the order of the fields: where it begins in `body`, and its
+ * length in bytes. The counts are those of the numbers. The numbers that
+ * arrowstream_writer_canonical copies are in this form.
+ *
+ * The batch is checked as a reader checks it, and sent as arrowstream_writer_columns sends one,
+ * without pairs. Rows and pairs that were not sent remain.
+ *
+ * Returns ARROWSTREAM_OK; 26 to 34 if a reader refuses the batch (F26 to F34 of docs/FAULTS.md);
+ * ARROWSTREAM_MISUSE, also if a count is odd; or ARROWSTREAM_WRITE + 2 to 11. */
+uint32_t arrowstream_writer_buffers(arrowstream_writer *writer, int64_t rows, const int64_t *nodes,
+                                    size_t node_count, const int64_t *buffers, size_t buffer_count,
+                                    const uint8_t *body, size_t length);
+
 /* Returns how often a dictionary with this id was sent: 0 before the schema, after the end, and at
- * NULL. While it stays the same, so do the values of the dictionary. */
+ * NULL. */
 uint64_t arrowstream_writer_times_sent(arrowstream_writer *writer, int64_t id);
 
 /* Copies the values of the last dictionary with this id that the writer sent, each as a row of one

@@ -241,6 +241,10 @@ static void call_at_null(void) {
     for (size_t at = 0; at < count; at++)
         if (make(NULL, &steps[at]) != ARROWSTREAM_MISUSE) stop("another status at NULL", at);
     if (arrowstream_writer_columns(NULL, NULL) != ARROWSTREAM_MISUSE) stop("columns at NULL", 0);
+    if (arrowstream_writer_buffers(NULL, 0, NULL, 0, NULL, 0, NULL, 0) != ARROWSTREAM_MISUSE
+        || arrowstream_writer_dictionary(NULL, 0, 0, NULL, 0, NULL, 0, NULL, 0)
+            != ARROWSTREAM_MISUSE)
+        stop("buffers at NULL", 0);
     if (arrowstream_writer_ready(NULL) != 0 || arrowstream_writer_times_sent(NULL, 0) != 0
         || arrowstream_writer_take(NULL, bytes, sizeof bytes) != 0)
         stop("bytes of NULL", 0);
@@ -375,10 +379,43 @@ static uint32_t copy_values(arrowstream_writer *writer, int64_t id, const canoni
                                                copy->numbers, copy->count, out);
 }
 
+/* A writer, and a second one that is given what the first one copies. */
+typedef struct {
+    arrowstream_writer *first, *second;
+} writers;
+
+/* Gives the copy of a dictionary to the second writer. */
+static void give_dictionary(const writers *to, int64_t id, const canonical *copy) {
+    const int64_t *numbers = copy->numbers;
+    size_t count = 2 * copy->room.buffers;
+    if (arrowstream_writer_dictionary(to->second, id, numbers[0], numbers, 1, numbers + 2, count,
+                                      copy->bytes, copy->room.bytes) != ARROWSTREAM_MISUSE)
+        stop("an odd count", 0);
+    if (arrowstream_writer_dictionary(to->second, id, numbers[0], numbers, 2, numbers + 2, count,
+                                      copy->bytes, copy->room.bytes) != ARROWSTREAM_OK)
+        stop("values that are refused", 0);
+}
+
+/* Gives the copy of a batch to the second writer, which sends the same body. */
+static void give_buffers(const writers *to, size_t rows, const canonical *copy) {
+    size_t nodes = 2 * copy->room.nodes, body = copy->room.bytes;
+    if (arrowstream_writer_buffers(to->second, (int64_t)rows, copy->numbers, nodes,
+                                   copy->numbers + nodes, copy->count - nodes, copy->bytes, body)
+        != ARROWSTREAM_OK)
+        stop("buffers that are refused", rows);
+    size_t count = arrowstream_writer_ready(to->second);
+    uint8_t *bytes = __real_malloc(count);
+    if (!bytes || arrowstream_writer_take(to->second, bytes, count) != count)
+        stop("no bytes", count);
+    if (count < body || memcmp(bytes + count - body, copy->bytes, body) != 0)
+        stop("another body of buffers", count);
+    free(bytes);
+}
+
 /* The values of a dictionary that was sent lie as those of a batch do. Where it was sent again,
  * they are among the bytes that were sent. */
-static void check_dictionary(arrowstream_writer *writer, int64_t id, const uint8_t *bytes,
-                             size_t ready) {
+static void check_dictionary(const writers *of, int64_t id, const uint8_t *bytes, size_t ready) {
+    arrowstream_writer *writer = of->first;
     arrowstream_canonical room = {.size = sizeof room}, again = room, small = room;
     uint64_t times = arrowstream_writer_times_sent(writer, id);
     small.size--;
@@ -398,21 +435,23 @@ static void check_dictionary(arrowstream_writer *writer, int64_t id, const uint8
         stop("another dictionary", 0);
     check_ranges(&copy);
     if (!is_among(copy.bytes, room.bytes, bytes, ready)) stop("values that were not sent", 0);
+    give_dictionary(of, id, &copy);
     free(copy.bytes);
     free(copy.numbers);
 }
 
-static void check_dictionaries(const arrowstream_reader *reader, arrowstream_writer *writer,
-                               uint64_t *path, size_t steps, const uint8_t *bytes, size_t ready) {
+static void check_dictionaries(const arrowstream_reader *reader, const writers *of, uint64_t *path,
+                               size_t steps, const uint8_t *bytes, size_t ready) {
     arrowstream_field field = {.size = sizeof field};
     if (arrowstream_reader_field(reader, path, steps, &field) != ARROWSTREAM_OK)
         stop("no field", steps);
-    if (field.index_bits != 0) check_dictionary(writer, field.dictionary, bytes, ready);
+    if (field.index_bits != 0) check_dictionary(of, field.dictionary, bytes, ready);
     for (path[steps] = 0; path[steps] < field.children; path[steps]++)
-        check_dictionaries(reader, writer, path, steps + 1, bytes, ready);
+        check_dictionaries(reader, of, path, steps + 1, bytes, ready);
 }
 
-static void copy_batch(arrowstream_reader *reader, arrowstream_writer *writer) {
+static void copy_batch(arrowstream_reader *reader, const writers *to) {
+    arrowstream_writer *writer = to->first;
     arrowstream_batch *batch = NULL;
     if (arrowstream_reader_take(reader, &batch) != ARROWSTREAM_OK) stop("no batch", 0);
     size_t rows = arrowstream_batch_rows(batch);
@@ -429,7 +468,8 @@ static void copy_batch(arrowstream_reader *reader, arrowstream_writer *writer) {
         uint64_t path[65];
         size_t ready = 0;
         uint8_t *bytes = take_body(writer, &copy, &ready);
-        check_dictionaries(reader, writer, path, 0, bytes, ready);
+        check_dictionaries(reader, to, path, 0, bytes, ready);
+        give_buffers(to, rows, &copy);
         free(bytes);
     }
     free(copy.bytes);
@@ -443,23 +483,28 @@ static void copy_stream(void) {
     size_t length = fread(bytes, 1, sizeof bytes, stdin), from = 0;
     arrowstream_limits limits = {.size = sizeof limits};
     arrowstream_reader *reader = NULL;
-    arrowstream_writer *writer = NULL;
+    writers to = {NULL, NULL};
     arrowstream_progress now = {.size = sizeof now};
     arrowstream_limits_standard(&limits);
     arrowstream_reader_open(&limits, &reader);
-    arrowstream_writer_open(&limits, &writer);
-    if (!reader || !writer) stop("no memory", 0);
+    arrowstream_writer_open(&limits, &to.first);
+    arrowstream_writer_open(&limits, &to.second);
+    if (!reader || !to.first || !to.second) stop("no memory", 0);
     while (from < length && now.event != ARROWSTREAM_END) {
         if (arrowstream_reader_feed(reader, bytes + from, length - from, &now) != ARROWSTREAM_OK)
             stop("a refused stream", from);
         from += now.taken;
-        if (now.event == ARROWSTREAM_SCHEMA) copy_schema(reader, writer);
-        if (now.event == ARROWSTREAM_BATCH) copy_batch(reader, writer);
+        if (now.event == ARROWSTREAM_SCHEMA) {
+            copy_schema(reader, to.first);
+            copy_schema(reader, to.second);
+        }
+        if (now.event == ARROWSTREAM_BATCH) copy_batch(reader, &to);
     }
-    if (arrowstream_writer_finish(writer) != ARROWSTREAM_OK) stop("no end", from);
-    take(writer, 1);
+    if (arrowstream_writer_finish(to.first) != ARROWSTREAM_OK) stop("no end", from);
+    take(to.first, 1);
     arrowstream_reader_free(reader);
-    arrowstream_writer_free(writer);
+    arrowstream_writer_free(to.first);
+    arrowstream_writer_free(to.second);
 }
 
 int main(int count, char **words) {

@@ -90,6 +90,17 @@ abbrev pub SendsColumns : WriteSession → ReadBatch → WriteSession → ReadBa
 SendsColumns was batch is left status =
     (left ≡ batch) × s.ReportsStatus (s.SendsColumns batch) was is status
 
+-- the values of a dictionary are given
+abbrev pub GivesDictionary : WriteSession → ℤ → ℤ → List ℤ → List ℤ → List ℕ → WriteSession → ℕ
+    → Type 0
+GivesDictionary was id rows nodes buffers body is status =
+    s.ReportsStatus (s.GivesDictionary id rows nodes buffers body) was is status
+
+-- buffers are sent as a batch
+abbrev pub SendsBuffers : WriteSession → ℤ → List ℤ → List ℤ → List ℕ → WriteSession → ℕ → Type 0
+SendsBuffers was rows nodes buffers body is status =
+    s.ReportsStatus (s.SendsBuffers rows nodes buffers body) was is status
+
 -- the room that a batch takes, or the number of an error
 abbrev pub IsRoomAnswer : Result CanonicalSize ℕ → Canonical → Canonical → ℕ → Type 0
 IsRoomAnswer (Ok room) old new status = (status ≡ 0) × ShowsRoom room old.size new

@@ -11,7 +11,7 @@ ghost use Rattle.std.specs.Borrow.{sem};
 ghost use Rattle.ipc_stream_session.specs.declared.batch.ReadBatch.{ReadBatch};
 ghost use Rattle.ipc_stream_session.specs.declared.session.ReadSession.{ReadSession};
 ghost use Rattle.ipc_stream_session.specs.declared.write_session.WriteSession.{WriteSession};
-ghost use Rattle.arrowstream_c.specs.AtNull.{CopiesNothing, IsNowhere, RefusesText, TakesNothing};
+ghost use Rattle.arrowstream_c.specs.AtNull.{IsNowhere, RefusesText, TakesNothing};
 ghost use Rattle.arrowstream_c.specs.Calls.{AreRows, AreColumns, ClonesBatch, Closes, CopiesBuffer};
 ghost use Rattle.arrowstream_c.specs.Calls.{CopiesFieldText, CopiesLine, CopiesPairs, CopiesSchema};
 ghost use Rattle.arrowstream_c.specs.Calls.{DescribesColumn, DescribesField, Feeds, OpensReader};
@@ -26,12 +26,13 @@ mod at_null;
 mod batch;
 mod batch_calls;
 mod block;
+mod blocks;
 mod reader;
 mod reader_calls;
 mod writer;
 mod writer_calls;
 
-use answers::{Canonical, Column, FieldNumbers, MISUSE, Progress, ReadLimits};
+use answers::{Column, FieldNumbers, MISUSE, Progress, ReadLimits};
 use batch::BatchHandle;
 use block::Block;
 use ipc_stream_session::{ReadBatch, ReadSession, WriteSession};
@@ -650,78 +651,6 @@ pub unsafe extern "C" fn arrowstream_writer_columns(writer: *mut u8, batch: *mut
     writer_calls::send_columns(
         &mut *(writer as *mut WriteSession),
         &mut *(batch as *mut ReadBatch),
-    )
-}
-
-/// Returns how often a dictionary with this id was sent: 0 before the schema and after the end.
-#[unsafe(no_mangle)]
-pub unsafe extern "C" fn arrowstream_writer_times_sent(writer: *mut u8, id: i64) -> u64
-    ghost was: { Option WriteSession }
-    requires* { sem 𝓛 (writer_or_null writer was) }
-    ensures* { ∃ₛ (λ (is : Option WriteSession). sem 𝓛 (writer_or_null writer is)
-        ∗ ⌜ OfHandle (λ was is. w.CountsSent was id is result) (result ≡ 0) was is ⌝) }
-{
-    if writer.is_null() {
-        return 0;
-    }
-    writer_calls::times_sent(&mut *(writer as *mut WriteSession), id)
-}
-
-/// Copies the values of the last dictionary with this id that was sent, as rows of one column, and
-/// their node and the ranges of their buffers. Returns 0, or the number of the error.
-#[unsafe(no_mangle)]
-pub unsafe extern "C" fn arrowstream_writer_canonical_values(
-    writer: *mut u8,
-    id: i64,
-    bytes: &mut [u8],
-    numbers: &mut [i64],
-    out: &mut Canonical,
-) -> u32
-    ghost was: { Option WriteSession }
-    requires* { sem 𝓛 (writer_or_null writer was) }
-    ensures* { ∃ₛ (λ (is : Option WriteSession). sem 𝓛 (writer_or_null writer is)
-        ∗ ⌜ OfHandle (λ was is. w.CopiesDictionary was id is bytes.old bytes.new numbers.old
-        numbers.new out.old out.new result)
-        (CopiesNothing bytes.old bytes.new numbers.old numbers.new out.old out.new result)
-        was is ⌝) }
-{
-    if writer.is_null() {
-        return at_null::no_copy(bytes, numbers, out);
-    }
-    writer_calls::copy_dictionary(&mut *(writer as *mut WriteSession), id, bytes, numbers, out)
-}
-
-/// Copies the body of the message that `arrowstream_writer_columns` would send for a batch that was
-/// read, and its nodes and the ranges of its buffers. Returns 0, or the number of the error.
-#[unsafe(no_mangle)]
-pub unsafe extern "C" fn arrowstream_writer_canonical(
-    writer: *mut u8,
-    batch: *mut u8,
-    bytes: &mut [u8],
-    numbers: &mut [i64],
-    out: &mut Canonical,
-) -> u32
-    ghost was: { Option WriteSession × Option ReadBatch }
-    requires* { sem 𝓛 (writer_or_null writer was.0) ∗ sem 𝓛 (batch_or_null batch was.1) }
-    ensures* { ∃ₛ (λ (is : Option WriteSession). ∃ₛ (λ (left : Option ReadBatch).
-        sem 𝓛 (writer_or_null writer is) ∗ (sem 𝓛 (batch_or_null batch left)
-        ∗ ⌜ OfHandles (λ was batch is left. w.CopiesCanonical was batch is left bytes.old bytes.new
-        numbers.old numbers.new out.old out.new result)
-        (CopiesNothing bytes.old bytes.new numbers.old numbers.new out.old out.new result)
-        was.0 was.1 is left ⌝))) }
-{
-    if writer.is_null() {
-        return at_null::no_copy(bytes, numbers, out);
-    }
-    if batch.is_null() {
-        return at_null::no_copy(bytes, numbers, out);
-    }
-    writer_calls::copy_canonical(
-        &mut *(writer as *mut WriteSession),
-        &mut *(batch as *mut ReadBatch),
-        bytes,
-        numbers,
-        out,
     )
 }
 

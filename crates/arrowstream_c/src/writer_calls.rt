@@ -107,6 +107,32 @@ pub(crate) fn send_columns(writer: &mut WriteSession, batch: &mut ReadBatch) -> 
     writer.send_columns(batch)
 }
 
+pub(crate) fn give_dictionary(
+    writer: &mut WriteSession,
+    id: i64,
+    rows: i64,
+    nodes: &[i64],
+    buffers: &[i64],
+    body: &[u8],
+) -> u32
+    ensures { w.GivesDictionary writer.old id rows nodes.now buffers.now body.now writer.new
+        result }
+{
+    writer.give_dictionary(id, rows, nodes, buffers, body)
+}
+
+pub(crate) fn send_buffers(
+    writer: &mut WriteSession,
+    rows: i64,
+    nodes: &[i64],
+    buffers: &[i64],
+    body: &[u8],
+) -> u32
+    ensures { w.SendsBuffers writer.old rows nodes.now buffers.now body.now writer.new result }
+{
+    writer.send_buffers(rows, nodes, buffers, body)
+}
+
 pub(crate) fn times_sent(writer: &mut WriteSession, id: i64) -> u64
     ensures { w.CountsSent writer.old id writer.new result }
 {

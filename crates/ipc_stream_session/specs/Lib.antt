@@ -2,6 +2,7 @@ pub mod Cells
 pub mod Copies
 pub mod Fields
 pub mod Formats
+pub mod Parts
 pub mod Paths
 pub mod Sessions
 pub mod Stages

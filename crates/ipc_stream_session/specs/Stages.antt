@@ -2,7 +2,6 @@
 use Rattle.std.specs.Prelude.{◌≡◌, ⊤, ℕ, false, List, [], Some, Result, Ok, Err}
 use Rattle.ipc_model.specs.declared.fault.WriteFault.{WriteFault}
 use Rattle.ipc_model.specs.declared.fault.WriteFault.TheVariants as w
-use Rattle.ipc_model.specs.declared.schema.Schema.{Schema}
 use Rattle.ipc_model.specs.declared.table.BatchRows.{BatchRows}
 use Rattle.ipc_stream.specs.Writer.{Writer, LeavesBatch}
 use Rattle.ipc_stream.specs.Writing.{AcceptsBatch, RefusesBatch}
@@ -41,10 +40,10 @@ abbrev pub IsOver : Writer → Stage → Type 0
 IsOver stream new = (ready : List ℕ) × (stream.written ≡ Some ready) × (new ≡ stage.Ended ready)
 
 -- the state of a stream after a call that sent a batch: W9 and W11 end it
-abbrev pub IsAfter : Writer → Schema → Result ⊤ WriteFault → Stage → Type 0
-IsAfter stream s (Err w.Write) new = IsOver stream new
-IsAfter stream s (Err w.OutOfMemory) new = IsOver stream new
-IsAfter stream s sent new = new ≡ stage.Open (record { stream = stream; schema = s })
+abbrev pub IsAfter : TableState → Writer → Result ⊤ WriteFault → Stage → Type 0
+IsAfter t stream (Err w.Write) new = IsOver stream new
+IsAfter t stream (Err w.OutOfMemory) new = IsOver stream new
+IsAfter t stream sent new = new ≡ stage.Open (record t { stream = stream })
 
 -- a stream that goes on after a call has not failed
 abbrev pub WorksIfOpen : Writer → Result ⊤ WriteFault → Type 0
@@ -63,4 +62,4 @@ pub record SendsBatch (t : TableState) (b : BatchRows) (new : Stage)
   pub after : Writer
   pub leaves : LeavesBatch t.stream b after sent
   pub accepted : IsAccepted t b sent
-  pub stage_is : IsAfter after t.schema sent new
+  pub stage_is : IsAfter t after sent new

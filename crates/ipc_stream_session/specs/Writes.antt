@@ -17,13 +17,18 @@ use Rattle.ipc_model.specs.declared.value.Value.{Value}
 use Rattle.ipc_model.specs.declared.value.Value.TheVariants as value
 use Rattle.ipc_dict.specs.Planning.{times_sent_for}
 use Rattle.ipc_text_json.specs.SchemaTexts.{StatesSchema, StatesNoSchema}
+use Rattle.ipc_meta.specs.declared.head.BatchHead.{BatchHead}
+use Rattle.ipc_column.specs.Rows.{RefusesParts, Rows}
+use Rattle.ipc_stream_read.specs.Stream.{InForce, values_in_force}
+use Rattle.ipc_stream_read.specs.StreamStates.{RefusesValues, SetsValues}
 use Rattle.ipc_stream.specs.Canonical.{CopiesBatch, CopiesSent}
 use Rattle.ipc_stream.specs.PendingBatches.{with_rows}
-use Rattle.ipc_stream.specs.Writer.{StartsWriter}
 use Rattle.ipc_stream.specs.declared.canonical.CanonicalSize.{CanonicalSize}
 use Rattle.ipc_stream_session.specs.Cells.{nested_cell}
+use Rattle.ipc_stream_session.specs.Parts.{IsHead}
 use Rattle.ipc_stream_session.specs.Stages.{HasWritten, IsNotOpen, SendsBatch, emptied_stage}
-use Rattle.ipc_stream_session.specs.Tables.{FinishesTable, MovesBytes, StopsAtStart, TableState}
+use Rattle.ipc_stream_session.specs.Tables.{FinishesTable, IsBegun, MovesBytes, StopsAtStart}
+use Rattle.ipc_stream_session.specs.Tables.{TableState, in_force}
 use Rattle.ipc_stream_session.specs.WriteErrors.{error_line, error_number}
 use Rattle.ipc_stream_session.specs.declared.batch.ReadBatch.{ReadBatch}
 use Rattle.ipc_stream_session.specs.declared.cells.OpenNesting.{OpenNesting}
@@ -79,11 +84,6 @@ TakesTableOut old new (Ok t) =
 TakesTableOut old new (Err e) = IsNotOpen old.stage e × (new ≡ old)
 
 -- ---- the schema
-
--- the table is open, and the message of its schema is written
-pub record IsBegun (limits : Limits) (s : Schema) (t : TableState) : Type 0 where
-  pub starts : StartsWriter limits s (Some []) 0 t.stream
-  pub schema_is : t.schema ≡ s
 
 -- the state after a schema was refused: W9 and W11 end the stream
 abbrev pub stage_at : WriteFault → List ℕ → Stage
@@ -255,6 +255,61 @@ SendsRead b t old new r = Sends (with_rows b.pairs b.batch.rows) (pending old) t
 -- the call that sends a batch that was read
 abbrev pub SendsColumns : ReadBatch → WriteSession → WriteSession → Result ⊤ WriteError → Type 0
 SendsColumns b old new r = OnStage old.stage (λ t. SendsRead b t old new r) old new r
+
+-- these numbers are those of no head: there is an odd number of them, and the call is a misuse. Or
+-- memory ran out, and nothing more is written
+abbrev pub LacksHead : ℤ → List ℤ → List ℤ → WriteSession → WriteSession → Result ⊤ WriteError
+    → Type 0
+LacksHead rows nodes buffers old new r =
+    (((h : BatchHead) → ¬ IsHead rows nodes buffers h) × IsRefused error.Misuse old new r)
+    ⊎ ((r ≡ Err (error.Refused w.OutOfMemory)) × EndsSession old new)
+
+-- what the head of these numbers does to an open table, if they are those of one
+abbrev pub OfHead : ℤ → List ℤ → List ℤ → (BatchHead → Type 0) → WriteSession → WriteSession
+    → Result ⊤ WriteError → Type 0
+OfHead rows nodes buffers Call old new r = ((h : BatchHead) × IsHead rows nodes buffers h × Call h)
+    ⊎ LacksHead rows nodes buffers old new r
+
+-- a reader refuses the head and the body for this cause, and the session stays as it was
+abbrev pub IsInvalid : (Fault → Type 0) → WriteSession → WriteSession → Result ⊤ WriteError → Type 0
+IsInvalid Cause old new r = (fault : Fault) × (¬ (fault ≡ NoMemory)) × Cause fault
+    × IsRefused (error.Invalid fault) old new r
+
+-- the error of buffers that a reader refuses for this cause; if memory ran out, nothing more is
+-- written
+abbrev pub RefusesInvalid : Fault → WriteSession → WriteSession → WriteError → Type 0
+RefusesInvalid NoMemory old new e = (e ≡ error.Refused w.OutOfMemory) × EndsSession old new
+RefusesInvalid fault old new e = (e ≡ error.Invalid fault) × (new ≡ old)
+
+-- the rows that a reader has of the head and the body are sent without pairs, or it refuses them
+abbrev pub SendsParts : List ℕ → TableState → WriteSession → WriteSession → Result ⊤ WriteError
+    → BatchHead → Type 0
+SendsParts body t old new r h = ((rows : List (List Value))
+    × Rows t.limits (values_in_force t.given) t.schema.fields h body rows
+    × Sends (with_rows [] rows) (pending old) t old new r)
+    ⊎ IsInvalid (λ fault. RefusesParts t.limits fault (values_in_force t.given) t.schema.fields h
+    body) old new r
+
+-- the call that sends buffers as a batch
+abbrev pub SendsBuffers : ℤ → List ℤ → List ℤ → List ℕ → WriteSession → WriteSession
+    → Result ⊤ WriteError → Type 0
+SendsBuffers rows nodes buffers body old new r = OnStage old.stage
+    (λ t. OfHead rows nodes buffers (SendsParts body t old new r) old new r) old new r
+
+-- the values that a reader has of the head and the body are given for the dictionary with the id,
+-- or it refuses them
+abbrev pub GivesParts : ℤ → List ℕ → TableState → WriteSession → WriteSession → Result ⊤ WriteError
+    → BatchHead → Type 0
+GivesParts id body t old new r h = ((o : InForce)
+    × SetsValues t.limits (in_force t) o id h body (Ok tt) × (r ≡ Ok tt)
+    × (new ≡ record old { stage = stage.Open (record t { given = o.dictionaries }) }))
+    ⊎ IsInvalid (λ fault. RefusesValues t.limits (in_force t) id h body fault) old new r
+
+-- the call that gives the values of a dictionary
+abbrev pub GivesDictionary : ℤ → ℤ → List ℤ → List ℤ → List ℕ → WriteSession → WriteSession
+    → Result ⊤ WriteError → Type 0
+GivesDictionary id rows nodes buffers body old new r = OnStage old.stage
+    (λ t. OfHead rows nodes buffers (GivesParts id body t old new r) old new r) old new r
 
 -- the body of a batch that was read is copied by the writer of an open table, or refused for its
 -- cause; in another state nothing is copied

@@ -10,6 +10,7 @@ mod copy;
 mod field;
 mod format;
 mod open_table;
+mod parts;
 mod ready;
 mod session;
 mod stage;

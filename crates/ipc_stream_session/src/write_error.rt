@@ -3,7 +3,7 @@ ghost use Rattle.std.specs.Prelude.{◌≡◌, ◌↔◌, IsTrue, Some};
 ghost use Rattle.ipc_stream_session.specs.WriteErrors.{error_line, error_number};
 ghost use Rattle.ipc_stream_session.specs.declared.write_error.WriteError.TheVariants.{Refused};
 
-use ipc_model::WriteFault;
+use ipc_model::{Fault, WriteFault};
 use ipc_text_temporal::TextFault;
 use std::error::Error;
 use std::fmt;
@@ -18,13 +18,15 @@ pub enum WriteError {
     /// X6: the text is not the JSON of a schema, or `Schema::check` refuses its schema with
     /// `Limits::standard`.
     BadSchemaJson,
+    /// F25 to F34: a reader of the schema refuses the buffers of a batch or of a dictionary.
+    Invalid(Fault),
     /// W1 to W11: as in `StreamWriter`.
     Refused(WriteFault),
 }
 
 impl WriteError {
-    /// Returns the number: 65 for a misuse, 66 for a text that is not UTF-8, 100 more than the
-    /// number after the letter W, or 200 more than the number after the letter X.
+    /// Returns the number: 65 for a misuse, 66 for a text that is not UTF-8, the number after the
+    /// letter F, 100 more than that after the letter W, or 200 more than that after the letter X.
     pub fn number(&self) -> u32
         ensures { result ≡ error_number self.now }
     {
@@ -32,6 +34,7 @@ impl WriteError {
             WriteError::Misuse => 65,
             WriteError::NotUtf8 => 66,
             WriteError::BadSchemaJson => 206,
+            WriteError::Invalid(fault) => u32::from(fault.number()),
             WriteError::Refused(fault) => 100 + u32::from(fault.number()),
         }
     }
@@ -54,6 +57,7 @@ impl fmt::Display for WriteError {
             WriteError::Misuse => f.write_str("call out of order"),
             WriteError::NotUtf8 => f.write_str("text is not UTF-8"),
             WriteError::BadSchemaJson => write!(f, "{}", TextFault::BadSchemaJson),
+            WriteError::Invalid(fault) => write!(f, "{fault}"),
             WriteError::Refused(fault) => write!(f, "{fault}"),
         }
     }

@@ -1,13 +1,16 @@
 //! A stream that is written, as a value between the calls of a program in another language.
-ghost use Rattle.std.specs.Prelude.{◌≡◌};
+ghost use Rattle.std.specs.Prelude.{◌≡◌, Err, IfErr, IfOk, OnOk};
+ghost use Rattle.ipc_stream_session.specs.Parts.{IsHead};
 ghost use Rattle.ipc_stream_session.specs.Writes as w;
 
 use crate::batch::ReadBatch;
 use crate::cells::{Nesting, OpenNesting, pop, push};
 use crate::open_table::OpenTable;
+use crate::parts::head_of;
 use crate::ready::Ready;
 use crate::stage::Stage;
 use crate::write_error::WriteError;
+use ipc_meta::BatchHead;
 use ipc_model::{BatchRows, Fault, Items, Limits, Row, Schema, Text, Value, WriteFault, conforms};
 use ipc_stream::CanonicalSize;
 use ipc_text_json::schema_from_json_bytes;
@@ -243,6 +246,87 @@ impl WriteSession {
         Ok(sent?)
     }
 
+    // The head and the body of a batch, if the writer is open and the numbers are those of a head.
+    fn copy_parts(
+        &mut self,
+        rows: i64,
+        nodes: &[i64],
+        buffers: &[i64],
+        body: &[u8],
+    ) -> Result<(BatchHead, Vec<u8>), WriteError>
+        ensures open { OnOk result (self.new ≡ self.old) }
+        ensures parts { IfOk result
+            (λ parts. IsHead rows nodes.now buffers.now parts.0 × (parts.1.items ≡ body.now)) }
+        ensures refused { IfErr result (λ e. w.OnStage self.old.stage
+            (λ _. w.LacksHead rows nodes.now buffers.now self.old self.new (Err e))
+            self.old self.new (Err e)) }
+    {
+        self.stage.open()?;
+        let head = head_of(self.alloc, rows, nodes, buffers);
+        let (Ok(head), Ok(body)) = (head, body.to_vec(self.alloc)) else {
+            return Err(self.end(WriteFault::OutOfMemory));
+        };
+        match head {
+            Some(head) => Ok((head, body)),
+            None => Err(WriteError::Misuse),
+        }
+    }
+
+    // The error of buffers that a reader refuses. If memory ran out, nothing more is written.
+    fn invalid(&mut self, fault: Fault) -> WriteError
+        ensures { w.RefusesInvalid fault self.old self.new result }
+    {
+        match fault {
+            Fault::OutOfMemory => self.end(WriteFault::OutOfMemory),
+            fault => WriteError::Invalid(fault),
+        }
+    }
+
+    fn try_send_buffers(
+        &mut self,
+        rows: i64,
+        nodes: &[i64],
+        buffers: &[i64],
+        body: &[u8],
+    ) -> Result<(), WriteError>
+        ensures { w.SendsBuffers rows nodes.now buffers.now body.now self.old self.new result }
+    {
+        let (head, body) = self.copy_parts(rows, nodes, buffers, body)?;
+        let table = self.take_table()?;
+        match table.read_batch(self.alloc, head, body) {
+            Ok(batch) => {
+                let (stage, sent) = table.send_columns(&batch, Items::new(self.alloc));
+                self.stage = stage;
+                Ok(sent?)
+            }
+            Err(fault) => {
+                self.stage = Stage::Open(table);
+                Err(self.invalid(fault))
+            }
+        }
+    }
+
+    fn try_give_dictionary(
+        &mut self,
+        id: i64,
+        rows: i64,
+        nodes: &[i64],
+        buffers: &[i64],
+        body: &[u8],
+    ) -> Result<(), WriteError>
+        ensures { w.GivesDictionary id rows nodes.now buffers.now body.now self.old self.new
+            result }
+    {
+        let (head, body) = self.copy_parts(rows, nodes, buffers, body)?;
+        let mut table = self.take_table()?;
+        let given = table.give(self.alloc, id, head, body);
+        self.stage = Stage::Open(table);
+        match given {
+            Ok(()) => Ok(()),
+            Err(fault) => Err(self.invalid(fault)),
+        }
+    }
+
     fn try_copy_canonical(
         &self,
         batch: &ReadBatch,
@@ -469,6 +553,45 @@ impl WriteSession {
             Ok(size) => Ok(size),
             Err(error) => Err(self.report(Err(error))),
         }
+    }
+
+    /// Gives the values of the dictionary with this id, in place of those that were given before: a
+    /// batch of `rows` rows and one column, whose nodes, buffers and body are as in a message
+    /// (Message.fbs, DictionaryBatch). Indices in what `send_buffers` sends refer to them. Nothing
+    /// is sent. `nodes` has for a node its slots and nulls, and `buffers` for a buffer its offset
+    /// in the body and its length in bytes.
+    ///
+    /// Returns 0, or the number of the error, after which what was given remains: F25 if no field
+    /// of the schema has the id; F26 to F34 if a reader refuses the values; a misuse if `nodes` or
+    /// `buffers` has an odd length; W11, which ends the writer.
+    pub fn give_dictionary(
+        &mut self,
+        id: i64,
+        rows: i64,
+        nodes: &[i64],
+        buffers: &[i64],
+        body: &[u8],
+    ) -> u32
+        ensures { w.ReportsStatus
+            (w.GivesDictionary id rows nodes.now buffers.now body.now) self.old self.new result }
+    {
+        let answer = self.try_give_dictionary(id, rows, nodes, buffers, body);
+        self.report(answer)
+    }
+
+    /// Sends one batch of `rows` rows, whose nodes, buffers and body are as in a message
+    /// (Message.fbs, RecordBatch) and as in `give_dictionary`. It is checked as a reader checks a
+    /// batch, and sent as `send_columns` sends one, without pairs. Indices refer to the values that
+    /// were given last. Pending rows and pairs remain.
+    ///
+    /// Returns 0, or the number of the error: F26 to F34 if a reader refuses the batch; a misuse if
+    /// `nodes` or `buffers` has an odd length; W2 to W9 and W11 as `send_columns`.
+    pub fn send_buffers(&mut self, rows: i64, nodes: &[i64], buffers: &[i64], body: &[u8]) -> u32
+        ensures { w.ReportsStatus
+            (w.SendsBuffers rows nodes.now buffers.now body.now) self.old self.new result }
+    {
+        let answer = self.try_send_buffers(rows, nodes, buffers, body);
+        self.report(answer)
     }
 
     /// Returns how often a dictionary with this id was sent, at most 2^64 - 1: 0 before the schema

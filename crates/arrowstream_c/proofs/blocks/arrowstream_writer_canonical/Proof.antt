@@ -46,9 +46,9 @@ use Rattle.arrowstream_c.specs.AtNull.{CopiesNothing}
 use Rattle.arrowstream_c.specs.Handles.{OfHandles, held_or_null}
 use Rattle.arrowstream_c.specs.WriterCalls.{CopiesCanonical}
 use Rattle.arrowstream_c.proofs.Handles.{on_handle}
-use Rattle.arrowstream_c.specs.contracts.arrowstream_writer_canonical as f
-use Rattle.arrowstream_c.proofs.arrowstream_writer_canonical.Statement.{statement}
-use Rattle.arrowstream_c.proofs.arrowstream_writer_canonical.Code as code
+use Rattle.arrowstream_c.specs.contracts.blocks.arrowstream_writer_canonical as f
+use Rattle.arrowstream_c.proofs.blocks.arrowstream_writer_canonical.Statement.{statement}
+use Rattle.arrowstream_c.proofs.blocks.arrowstream_writer_canonical.Code as code
 use Rattle.arrowstream_c.specs.contracts.writer_calls.copy_canonical as g
 use Rattle.arrowstream_c.proofs.writer_calls.copy_canonical.Met.{met}
 use Rattle.arrowstream_c.specs.contracts.at_null.no_copy as n

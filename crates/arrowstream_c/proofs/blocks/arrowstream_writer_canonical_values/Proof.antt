@@ -47,9 +47,9 @@ use Rattle.arrowstream_c.specs.AtNull.{CopiesNothing}
 use Rattle.arrowstream_c.specs.Handles.{OfHandle, held_or_null}
 use Rattle.arrowstream_c.specs.WriterCalls.{CopiesDictionary}
 use Rattle.arrowstream_c.proofs.Handles.{on_handle}
-use Rattle.arrowstream_c.specs.contracts.arrowstream_writer_canonical_values as f
-use Rattle.arrowstream_c.proofs.arrowstream_writer_canonical_values.Statement.{statement}
-use Rattle.arrowstream_c.proofs.arrowstream_writer_canonical_values.Code as code
+use Rattle.arrowstream_c.specs.contracts.blocks.arrowstream_writer_canonical_values as f
+use Rattle.arrowstream_c.proofs.blocks.arrowstream_writer_canonical_values.Statement.{statement}
+use Rattle.arrowstream_c.proofs.blocks.arrowstream_writer_canonical_values.Code as code
 use Rattle.arrowstream_c.specs.contracts.writer_calls.copy_dictionary as g
 use Rattle.arrowstream_c.proofs.writer_calls.copy_dictionary.Met.{met}
 use Rattle.arrowstream_c.specs.contracts.at_null.no_copy as n

@@ -41,9 +41,9 @@ use Rattle.ipc_stream_session.specs.contracts.write_session.WriteSession as held
 use Rattle.arrowstream_c.specs.Handles.{OfHandle, held_or_null}
 use Rattle.arrowstream_c.specs.WriterCalls.{CountsSent}
 use Rattle.arrowstream_c.proofs.Handles.{on_handle}
-use Rattle.arrowstream_c.specs.contracts.arrowstream_writer_times_sent as f
-use Rattle.arrowstream_c.proofs.arrowstream_writer_times_sent.Statement.{statement}
-use Rattle.arrowstream_c.proofs.arrowstream_writer_times_sent.Code as code
+use Rattle.arrowstream_c.specs.contracts.blocks.arrowstream_writer_times_sent as f
+use Rattle.arrowstream_c.proofs.blocks.arrowstream_writer_times_sent.Statement.{statement}
+use Rattle.arrowstream_c.proofs.blocks.arrowstream_writer_times_sent.Code as code
 use Rattle.arrowstream_c.specs.contracts.writer_calls.times_sent as g
 use Rattle.arrowstream_c.proofs.writer_calls.times_sent.Met.{met}
 
