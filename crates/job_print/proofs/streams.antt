@@ -9,3 +9,4 @@ pub mod Held
 pub mod Shortest
 pub mod Limited
 pub mod Unopened
+pub mod Expected

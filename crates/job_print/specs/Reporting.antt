@@ -1,5 +1,5 @@
 -- Which batches are reported when a stream is printed.
-use Rattle.std.specs.Prelude.{ℕ, List, Option, Result, Ok, Err}
+use Rattle.std.specs.Prelude.{◌≡◌, ℕ, List, Option, Result, Ok, Err}
 use Rattle.ipc_model.specs.declared.fault.Fault.TheVariants.{Read}
 use Rattle.ipc_model.specs.declared.limits.Limits.{Limits}
 use Rattle.ipc_device.specs.Reports.{Report}
@@ -12,7 +12,7 @@ use Rattle.job_print.specs.declared.stop.PrintStop.TheVariants as stop
 
 -- what a result states about the reports: at Ok, and where reading broke off, each batch that was
 -- read was reported, in order. Where a row has no text or writing failed, the last one that was
--- read may have no report
+-- read may have no report. At another schema than the one that is expected none was read
 abbrev pub ReportsPrintedBatches : Limits → Option (List ℕ) → Option (List ℕ) → Option (List Report)
     → Option (List Report) → Result (Option ℕ) PrintStop → Type 0
 ReportsPrintedBatches limits old new reports_old reports_new (Ok messages) =
@@ -25,6 +25,8 @@ ReportsPrintedBatches limits old new reports_old reports_new (Err (stop.Text fau
     ReportsSome limits old new reports_old reports_new
 ReportsPrintedBatches limits old new reports_old reports_new (Err (stop.Held message)) =
     ReportsBefore limits old new reports_old reports_new Read
+ReportsPrintedBatches limits old new reports_old reports_new (Err (stop.OtherSchema path)) =
+    reports_new ≡ reports_old
 
 -- what the outcome of printing rows states about the reports, as `ReportsPrintedBatches`
 abbrev pub ReportsOutcome : Limits → Option (List ℕ) → Option (List ℕ) → Option (List Report)

@@ -27,6 +27,7 @@ use Rattle.ipc_stream_read.specs.Reader.{Reader, in_force_of}
 use Rattle.ipc_stream_read.specs.Counts.{count_up, messages_in}
 use Rattle.ipc_text_json.specs.SchemaJson.{schema_text}
 use Rattle.ipc_text_temporal.specs.declared.fault.TextFault.{TextFault}
+use Rattle.job_expect.specs.Differences.{IsExpected, IsOther}
 use Rattle.job_print.specs.declared.form.Form.{Form}
 use Rattle.job_print.specs.declared.form.PrintOptions.{PrintOptions}
 use Rattle.job_print.specs.declared.line_buffer.PrintFault.{PrintFault}
@@ -183,6 +184,31 @@ abbrev pub stop_of_reading : ReadStop → ℕ → PrintStop
 stop_of_reading (read_stop.Refused fault) message = stop.Read fault message
 stop_of_reading read_stop.Held message = stop.Held message
 
+-- the message of a schema alone was taken, and nothing was printed
+pub record ReadsSchemaAlone (limits : Limits)
+    (old new written_old written_new : Option (List ℕ)) : Type 0 where
+  pub x : List ℕ
+  pub schema : Schema
+  pub bytes : Consumes old new x
+  pub opens : OpensStream limits schema x
+  pub silent : Keeps written_old written_new
+
+-- the result if the source begins with the message of this schema, where a schema may be expected.
+-- Another one is refused before anything is printed, unless the source fails, memory runs out or
+-- more would be held
+abbrev pub AnswersExpected : {T : Type 0} → Option Schema → Schema → Option (List ℕ)
+    → Option (List ℕ) → Result T PrintStop → Type 0
+AnswersExpected expected s written_old written_new (Ok done) = IsExpected expected s
+AnswersExpected expected s written_old written_new (Err (stop.Read fault message)) =
+    IsExpected expected s ⊎ (IsOutside fault × Keeps written_old written_new)
+AnswersExpected expected s written_old written_new (Err (stop.Text fault)) = IsExpected expected s
+AnswersExpected expected s written_old written_new (Err (stop.Write fault)) =
+    IsExpected expected s ⊎ ((fault ≡ w.OutOfMemory) × Keeps written_old written_new)
+AnswersExpected expected s written_old written_new (Err (stop.Held message)) =
+    IsExpected expected s ⊎ Keeps written_old written_new
+AnswersExpected expected s written_old written_new (Err (stop.OtherSchema path)) =
+    IsOther expected s path.items
+
 -- the result is that more bytes would be held than the maximum
 abbrev pub IsHeld : {T : Type 0} → Result T PrintStop → Type 0
 IsHeld (Err (stop.Held message)) = ⊤
@@ -193,7 +219,7 @@ IsHeld r = ⊥
 -- the sink's is left. At `Text` the source never failed, and the sink's count is left. At `Write`
 -- the sink's count is 1 if the fault is W9, and any other fault leaves both. So of devices that had
 -- not failed before, F36 and W9 name the one that failed; if both failed, the answer is W9. At the
--- maximum of held bytes both counts are left
+-- maximum of held bytes both counts are left. At another schema the counts are as at `Text`
 abbrev pub CountsPrintFailures : {T : Type 0} → ℕ → ℕ → ℕ → ℕ → Result T PrintStop → Type 0
 CountsPrintFailures source_old source_new sink_old sink_new (Ok done) =
     (source_old ≡ 0) × (source_new ≡ 0) × (sink_old ≡ 0) × (sink_new ≡ 0)
@@ -205,10 +231,13 @@ CountsPrintFailures source_old source_new sink_old sink_new (Err (stop.Write fau
     (source_old ≡ 0) × (fault ≢ w.Write → source_new ≡ 0) × CountsSinkFault sink_old sink_new fault
 CountsPrintFailures source_old source_new sink_old sink_new (Err (stop.Held message)) =
     (source_new ≡ source_old) × (sink_new ≡ sink_old)
+CountsPrintFailures source_old source_new sink_old sink_new (Err (stop.OtherSchema path)) =
+    (source_old ≡ 0) × (source_new ≡ 0) × (sink_new ≡ sink_old)
 
 -- what a result states about a stream that is printed. At Ok the whole table was printed, and the
 -- number counts its messages; or its rows up to the limit were. If printing stopped, a beginning of
--- the text was printed. At the maximum of held bytes reading broke off as where a source fails
+-- the text was printed. At the maximum of held bytes reading broke off as where a source fails. At
+-- another schema than the one that is expected, the schema alone was read
 abbrev pub Prints : PrintOptions → Limits → Option (List ℕ) → Option (List ℕ) → Option (List ℕ)
     → Option (List ℕ) → Result (Option ℕ) PrintStop → Type 0
 Prints options limits old new written_old written_new (Ok (Some messages)) =
@@ -224,6 +253,8 @@ Prints options limits old new written_old written_new (Err (stop.Write fault)) =
     (write_fault_status fault ≢ 1) × PrintsSome options limits old new written_old written_new
 Prints options limits old new written_old written_new (Err (stop.Held message)) =
     EndsPrinting options limits old new written_old written_new Read message
+Prints options limits old new written_old written_new (Err (stop.OtherSchema path)) =
+    ReadsSchemaAlone limits old new written_old written_new
 
 -- the line of a schema: its JSON text and a line feed
 abbrev pub schema_line : Schema → List ℕ
@@ -231,7 +262,8 @@ schema_line s = schema_text s ++ 10 ∷ []
 
 -- what a result states about the schema of a stream that is printed. At Ok exactly the message of
 -- the schema was taken, and its line was printed; at `Read` and at the maximum of held bytes no
--- schema was read, and nothing was printed; at `Write` a beginning of the line was printed
+-- schema was read, and nothing was printed; at `Write` a beginning of the line was printed; at
+-- another schema than the one that is expected nothing was printed
 abbrev pub PrintsSchema : Limits → Option (List ℕ) → Option (List ℕ) → Option (List ℕ)
     → Option (List ℕ) → Result ⊤ PrintStop → Type 0
 PrintsSchema limits old new written_old written_new (Ok done) =
@@ -248,9 +280,12 @@ PrintsSchema limits old new written_old written_new (Err (stop.Write fault)) =
 PrintsSchema limits old new written_old written_new (Err (stop.Held message)) =
     (x : List ℕ) × Consumes old new x × Reads limits None x new [] (Err Read) × (message ≡ 0)
     × Keeps written_old written_new
+PrintsSchema limits old new written_old written_new (Err (stop.OtherSchema path)) =
+    ReadsSchemaAlone limits old new written_old written_new
 
 -- the result if the source begins with the message of this schema: its line was printed, or the
--- source or the sink failed, or memory ran out, or there is a maximum of held bytes
+-- source or the sink failed, or memory ran out, or there is a maximum of held bytes, or another
+-- schema is expected, as `AnswersExpected` states
 abbrev pub AnswersSchema : Option ℕ → Schema → Option (List ℕ) → Option (List ℕ)
     → Result ⊤ PrintStop → Type 0
 AnswersSchema most s written_old written_new (Ok done) =
@@ -259,6 +294,7 @@ AnswersSchema most s written_old written_new (Err (stop.Read fault message)) = I
 AnswersSchema most s written_old written_new (Err (stop.Text fault)) = ⊥
 AnswersSchema most s written_old written_new (Err (stop.Write fault)) = write_fault_status fault ≢ 1
 AnswersSchema most s written_old written_new (Err (stop.Held message)) = most ≢ None
+AnswersSchema most s written_old written_new (Err (stop.OtherSchema path)) = ⊤
 
 -- the columns of a table cannot be printed in the form, or some row up to the limit cannot, which
 -- is the first one of its batch
@@ -280,7 +316,7 @@ PrintsText options t end bytes written_old written_new =
 
 -- the result if the source contains a table and its end, of this many bytes, and does not fail. The
 -- text was printed, or the fault is in the table, or the sink failed or memory ran out, or there is
--- a maximum of held bytes
+-- a maximum of held bytes, or another schema is expected, as `AnswersExpected` states
 abbrev pub AnswersPrintedTable : PrintOptions → Table → End → ℕ → Option (List ℕ) → Option (List ℕ)
     → Result (Option ℕ) PrintStop → Type 0
 AnswersPrintedTable options t end bytes written_old written_new (Ok messages) =
@@ -293,6 +329,7 @@ AnswersPrintedTable options t end bytes written_old written_new (Err (stop.Write
     write_fault_status fault ≢ 1
 AnswersPrintedTable options t end bytes written_old written_new (Err (stop.Held message)) =
     options.max_held ≢ None
+AnswersPrintedTable options t end bytes written_old written_new (Err (stop.OtherSchema path)) = ⊤
 
 -- x is the messages of a table, whose rows reach the limit in its last batch
 pub record ReachesLimit (options : PrintOptions) (limits : Limits) (x : List ℕ)
@@ -305,7 +342,7 @@ pub record ReachesLimit (options : PrintOptions) (limits : Limits) (x : List ℕ
 -- the result if the source begins with the messages x of a table whose rows reach the limit in its
 -- last batch, and does not fail. The text of the rows up to the limit was printed, and no byte
 -- after x was taken; or the fault is in these rows, or the sink failed or memory ran out, or there
--- is a maximum of held bytes
+-- is a maximum of held bytes, or another schema is expected, as `AnswersExpected` states
 abbrev pub AnswersFirst : PrintOptions → Table → List ℕ → Option (List ℕ) → Option (List ℕ)
     → Option (List ℕ) → Option (List ℕ) → Result (Option ℕ) PrintStop → Type 0
 AnswersFirst options t x old new written_old written_new (Ok messages) =
@@ -320,6 +357,7 @@ AnswersFirst options t x old new written_old written_new (Err (stop.Write fault)
     write_fault_status fault ≢ 1
 AnswersFirst options t x old new written_old written_new (Err (stop.Held message)) =
     options.max_held ≢ None
+AnswersFirst options t x old new written_old written_new (Err (stop.OtherSchema path)) = ⊤
 
 -- ---- the steps in between
 
@@ -503,6 +541,12 @@ abbrev pub write_fault : PrintFault → WriteFault
 write_fault p.Write = w.Write
 write_fault p.OutOfMemory = w.OutOfMemory
 
+-- why a stream is not printed whose schema may be another than the one that is expected
+abbrev pub RefusesOther : Option Schema → Schema → PrintStop → Type 0
+RefusesOther expected s (stop.OtherSchema path) = IsOther expected s path.items
+RefusesOther expected s (stop.Write fault) = fault ≡ w.OutOfMemory
+RefusesOther expected s why = ⊥
+
 -- what a result states about a stream whose schema was read
 abbrev pub PrintsStream : PrintOptions → Reader → Reader → Output → Output
     → Result (Option ℕ) PrintStop → Type 0
@@ -530,6 +574,8 @@ PrintsStream options old new before after (Err (stop.Held message)) =
     × PrintsRows options (front_text options.form old.schema) old new before after answer
     × (as_required options.require_mark answer ≡ Err Read)
     × (new.failures ≡ old.failures) × (message ≡ new.messages)
+PrintsStream options old new before after (Err (stop.OtherSchema path)) =
+    (new ≡ old) × (after ≡ before)
 
 -- the result of printing a batch: its head and all its rows were put, or those before the first one
 -- that cannot be printed; or the output failed

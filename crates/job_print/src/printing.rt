@@ -1,22 +1,25 @@
 //! A stream is read, and its rows are printed as they come.
 ghost use Rattle.std.specs.Prelude.{◌≡◌, ◌++◌, ◌∷◌, ℕ, List, [], length, Some, IfErr, IfOk, OnOk};
-ghost use Rattle.std.specs.Prelude.{decimal, None, Ok, Option, false};
-ghost use Rattle.ipc_stream_read.specs.Stream.{Denotes};
+ghost use Rattle.std.specs.Prelude.{decimal, None, Ok, Option, OnErr, false, option_copied};
+ghost use Rattle.ipc_stream_read.specs.Stream.{Denotes, OpensStream};
 ghost use Rattle.ipc_stream_read.specs.declared.end.End.TheVariants.{Closed, Mark};
 ghost use Rattle.ipc_stream_read.specs.Held.{HeldInAll, HeldSoFar};
 ghost use Rattle.ipc_stream_read.specs.Reader.{Reading};
 ghost use Rattle.ipc_stream_read.specs.Reader.{Opens};
 ghost use Rattle.ipc_model.specs.declared.limits.Limits.{Limits};
+ghost use Rattle.ipc_model.specs.declared.schema.Schema.{Schema};
 ghost use Rattle.ipc_model.specs.declared.table.Table.{Table};
 ghost use Rattle.ipc_text_csv.specs.RowCsv.{unless_fault};
 ghost use Rattle.ipc_text_json.specs.SchemaJson.{schema_text};
+ghost use Rattle.job_expect.specs.Differences.{IsExpected};
 ghost use Rattle.job_print.specs.Forms.{counts_text, form_fault, front_text};
 ghost use Rattle.job_print.specs.Output.{output, PrintsAs};
 ghost use Rattle.job_print.specs.Reporting.{ReportsPrintedBatches, ReportsOutcome};
 ghost use Rattle.job_print.specs.Streams.{AnswersFirst, AnswersPrintedTable, IsReadToEnd, Prints};
 ghost use Rattle.job_print.specs.Streams.{PrintsAll, PrintsBatches, PrintsSome, PrintsStream};
 ghost use Rattle.job_print.specs.Streams.{ReachesLimit, CountsPrintFailures, outcome_tail};
-ghost use Rattle.job_print.specs.Streams.{EndsHeld, IsHeld, write_fault};
+ghost use Rattle.job_print.specs.Streams.{AnswersExpected, EndsHeld, IsHeld, RefusesOther};
+ghost use Rattle.job_print.specs.Streams.{write_fault};
 
 use crate::batch_text::print_batch;
 use crate::form::{Form, PrintOptions, count_wanted, has_reached};
@@ -28,6 +31,7 @@ use ipc_stream_read::{End, ReadStop, StreamReader};
 use ipc_text_csv::{check_flat, csv_header};
 use ipc_text_json::schema_json;
 use ipc_text_temporal::{TextFault, push_number};
+use job_expect::first_difference;
 use std::alloc::{AllocError, Global};
 
 // Prints the rows of a stream up to the limit, and returns how that ended. The text of each batch
@@ -216,6 +220,22 @@ fn print_stream<R: Source, W: Sink, P: Progress>(
     Ok(outcome)
 }
 
+/// Checks that the schema of a stream is the one that is expected, if there is one.
+pub(crate) fn check_expected(
+    alloc: Global,
+    expected: Option<&Schema>,
+    schema: &Schema,
+) -> Result<(), PrintStop>
+    ensures same { OnOk result (IsExpected (option_copied expected.entry) schema.now) }
+    ensures other { IfErr result (RefusesOther (option_copied expected.entry) schema.now) }
+{
+    match first_difference(alloc, expected, schema) {
+        Ok(None) => Ok(()),
+        Ok(Some(path)) => Err(PrintStop::OtherSchema(path)),
+        Err(_) => Err(PrintStop::Write(WriteFault::OutOfMemory)),
+    }
+}
+
 // Whether the form has a place for the columns.
 fn check_form(form: Form<'_>, schema: &Schema) -> Result<(), TextFault>
     ensures { result ≡ unless_fault (form_fault form.entry schema.now.fields) (Ok tt) }
@@ -236,9 +256,9 @@ pub(crate) fn write_fault_of(fault: PrintFault) -> WriteFault
     }
 }
 
-// Prints a stream whose schema was read, as `print`.
+// Prints a stream whose schema was read, and is the one that is expected, if there is one.
 #[tactic(auto, using(crate::proofs::streams::Reporting::none_reported))]
-fn print_open<R: Source, W: Sink, P: Progress>(
+fn print_expected<R: Source, W: Sink, P: Progress>(
     alloc: Global,
     options: PrintOptions<'_>,
     stream: &mut StreamReader<R>,
@@ -250,6 +270,9 @@ fn print_open<R: Source, W: Sink, P: Progress>(
     ensures prints { PrintsStream options.entry stream.old stream.new
         (output (W.written sink.old) (W.failures sink.old) [])
         (output (W.written sink.new) (W.failures sink.new) []) result }
+    ensures expected { (expected : Option Schema) → IsExpected expected stream.old.schema
+        → AnswersExpected expected stream.old.schema (W.written sink.old) (W.written sink.new)
+        result }
     ensures devices { stream.old.failures ≡ 0 → CountsPrintFailures stream.old.failures
         stream.new.failures (W.failures sink.old) (W.failures sink.new) result }
     ensures reports { (limits : Limits) (start : Option (List ℕ)) → Opens limits start stream.old
@@ -270,6 +293,37 @@ fn print_open<R: Source, W: Sink, P: Progress>(
         Ok(Outcome::Held) => Err(PrintStop::Held(stream.messages())),
         Err(fault) => Err(PrintStop::Write(write_fault_of(fault))),
     }
+}
+
+// Prints a stream whose schema was read, as `print`.
+fn print_open<R: Source, W: Sink, P: Progress>(
+    alloc: Global,
+    options: PrintOptions<'_>,
+    expected: Option<&Schema>,
+    stream: &mut StreamReader<R>,
+    sink: &mut W,
+    progress: &mut P,
+) -> Result<Option<u64>, PrintStop>
+    requires { stream.old.phase ≡ Reading }
+    ensures handed_on { OnOk result (W.held_back sink.new ≡ Some []) }
+    ensures prints { PrintsStream options.entry stream.old stream.new
+        (output (W.written sink.old) (W.failures sink.old) [])
+        (output (W.written sink.new) (W.failures sink.new) []) result }
+    ensures expected { AnswersExpected (option_copied expected.entry) stream.old.schema
+        (W.written sink.old) (W.written sink.new) result }
+    ensures devices { stream.old.failures ≡ 0 → CountsPrintFailures stream.old.failures
+        stream.new.failures (W.failures sink.old) (W.failures sink.new) result }
+    ensures reports { (limits : Limits) (start : Option (List ℕ)) → Opens limits start stream.old
+        → ReportsPrintedBatches limits start stream.new.remaining (P.reports progress.old)
+        (P.reports progress.new) result }
+    ensures held { (limits : Limits) (start : Option (List ℕ))
+        → HeldSoFar limits options.entry.max_held start stream.old
+        → HeldInAll limits options.entry.max_held start stream.new.remaining (IsHeld result) }
+{
+    if let Err(why) = check_expected(alloc, expected, stream.schema()) {
+        return Err(why);
+    }
+    print_expected(alloc, options, stream, sink, progress)
 }
 
 /// Prints the stream of `source` to `sink` by these options, batch by batch under these limits.
@@ -297,10 +351,13 @@ fn print_open<R: Source, W: Sink, P: Progress>(
 /// - `Held`: the bytes that came of the message with this number and the bodies of the dictionaries
 ///   in force, with the next part of the message, would exceed `options.max_held`. Nothing more is
 ///   taken from the source. All batches before were printed.
+/// - `OtherSchema`: a schema is expected, and the stream has another one, as `first_difference`
+///   compares them. Nothing was printed, and nothing after the schema's message was read.
 pub fn print<R: Source, W: Sink, P: Progress>(
     alloc: Global,
     limits: Limits,
     options: PrintOptions<'_>,
+    expected: Option<&Schema>,
     source: R,
     sink: &mut W,
     progress: &mut P,
@@ -343,6 +400,12 @@ pub fn print<R: Source, W: Sink, P: Progress>(
         → ReachesLimit options.entry limits x t → R.failures result.1 ≡ 0
         → AnswersFirst options.entry t x (R.remaining source) (R.remaining result.1)
         (W.written sink.old) (W.written sink.new) result.0 }
+    // If a schema is expected and the source begins with the message of another one, nothing is
+    // printed, whatever follows it. `OtherSchema` has the path of the first difference.
+    ensures expected { (x rest : List ℕ) (s : Schema) → R.remaining source ≡ Some (x ++ rest)
+        → OpensStream limits s x
+        → AnswersExpected (option_copied expected.entry) s (W.written sink.old)
+        (W.written sink.new) result.0 }
     // Each batch that was read was reported once, in order, with the bytes taken up to it, and the
     // batches and rows so far. At `Text` and `Write` the last one may have no report. That a report
     // comes after the text of its batch is not stated.
@@ -356,7 +419,7 @@ pub fn print<R: Source, W: Sink, P: Progress>(
     match StreamReader::open_within(alloc, limits, options.max_held, source) {
         Ok(stream) => {
             let mut stream = stream;
-            let result = print_open(alloc, options, &mut stream, sink, progress);
+            let result = print_open(alloc, options, expected, &mut stream, sink, progress);
             (result, stream.into_inner())
         }
         Err((why, source)) => (Err(PrintStop::of_reading(why, 0)), source),

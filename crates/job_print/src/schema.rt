@@ -1,15 +1,15 @@
 //! The schema of a stream is printed.
-ghost use Rattle.std.specs.Prelude.{◌≡◌, ◌++◌, ℕ, List, [], IfOk, OnOk, Some};
+ghost use Rattle.std.specs.Prelude.{◌≡◌, ◌++◌, ℕ, List, [], IfOk, OnOk, Some, option_copied};
 ghost use Rattle.ipc_model.specs.declared.schema.Schema.{Schema};
 ghost use Rattle.ipc_stream_read.specs.Held.{HeldInAll};
 ghost use Rattle.ipc_stream_read.specs.Stream.{OpensStream};
 ghost use Rattle.job_print.specs.Output.{PrintsAs, output};
-ghost use Rattle.job_print.specs.Streams.{AnswersSchema, PrintsSchema, CountsPrintFailures};
-ghost use Rattle.job_print.specs.Streams.{IsHeld, schema_line};
+ghost use Rattle.job_print.specs.Streams.{AnswersExpected, AnswersSchema, PrintsSchema};
+ghost use Rattle.job_print.specs.Streams.{CountsPrintFailures, IsHeld, schema_line};
 
 use crate::form::Form;
 use crate::line_buffer::{LineBuffer, PrintFault};
-use crate::printing::{print_front, write_fault_of};
+use crate::printing::{check_expected, print_front, write_fault_of};
 use crate::stop::PrintStop;
 use ipc_device::{Sink, Source};
 use ipc_model::{Limits, Schema};
@@ -37,10 +37,13 @@ fn send_schema<W: Sink>(alloc: Global, schema: &Schema, sink: &mut W) -> Result<
 /// - `Read`, with number 0: no schema was read.
 /// - `Write`: the sink failed, or memory ran out in writing.
 /// - `Held`, with number 0: more than `max_held` bytes of the schema's message would be held.
+/// - `OtherSchema`: a schema is expected, and the stream has another one, as `first_difference`
+///   compares them. Nothing was printed.
 pub fn print_schema<R: Source, W: Sink>(
     alloc: Global,
     limits: Limits,
     max_held: Option<u64>,
+    expected: Option<&Schema>,
     source: R,
     sink: &mut W,
 ) -> (Result<(), PrintStop>, R)
@@ -54,23 +57,34 @@ pub fn print_schema<R: Source, W: Sink>(
     ensures devices { CountsPrintFailures (R.failures source) (R.failures result.1)
         (W.failures sink.old) (W.failures sink.new) result.0 }
     // The message of a schema, at the front of the source, is read, whatever follows it, unless
-    // memory runs out, the source fails, or more would be held.
+    // memory runs out, the source fails, more would be held, or another schema is expected.
     ensures opens { (x rest : List ℕ) (s : Schema) → R.remaining source ≡ Some (x ++ rest)
         → OpensStream limits s x
         → AnswersSchema max_held s (W.written sink.old) (W.written sink.new) result.0 }
+    // If a schema is expected and the source begins with the message of another one, nothing is
+    // printed. `OtherSchema` has the path of the first difference.
+    ensures expected { (x rest : List ℕ) (s : Schema) → R.remaining source ≡ Some (x ++ rest)
+        → OpensStream limits s x
+        → AnswersExpected (option_copied expected.entry) s (W.written sink.old)
+        (W.written sink.new) result.0 }
     // After each byte that was taken, at most `max_held` bytes were held. At `Held` more would be
     // with the bytes up to the next decision on the message.
     ensures held { HeldInAll limits max_held (R.remaining source) (R.remaining result.1)
         (IsHeld result.0) }
 {
     match StreamReader::open_within(alloc, limits, max_held, source) {
-        Ok(stream) => match send_schema(alloc, stream.schema(), sink) {
-            Ok(()) => (Ok(()), stream.into_inner()),
-            Err(fault) => (
-                Err(PrintStop::Write(write_fault_of(fault))),
-                stream.into_inner(),
-            ),
-        },
+        Ok(stream) => {
+            if let Err(why) = check_expected(alloc, expected, stream.schema()) {
+                return (Err(why), stream.into_inner());
+            }
+            match send_schema(alloc, stream.schema(), sink) {
+                Ok(()) => (Ok(()), stream.into_inner()),
+                Err(fault) => (
+                    Err(PrintStop::Write(write_fault_of(fault))),
+                    stream.into_inner(),
+                ),
+            }
+        }
         Err((why, source)) => (Err(PrintStop::of_reading(why, 0)), source),
     }
 }

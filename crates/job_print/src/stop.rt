@@ -20,6 +20,9 @@ pub enum PrintStop {
     /// With the next part of the message with this number, the count of the messages before it,
     /// more bytes would be held than the maximum.
     Held(u64),
+    /// The schema is another than the one that is expected: the path of the first field that
+    /// differs.
+    OtherSchema(Vec<u64>),
 }
 
 impl PrintStop {

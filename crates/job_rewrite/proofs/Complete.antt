@@ -169,6 +169,7 @@ module _ {limits : Limits} (options : RewriteOptions) (new : Option (List ℕ)) 
   answered g0 g1 memory ends (Err (stop.Above total number)) held tells c = stopping total number c
   answered g0 g1 memory ends (Err stop.NoRoom) held tells c = roomless c
   answered g0 g1 memory ends (Err (stop.Held message)) held tells c = held tt
+  answered g0 g1 memory ends (Err (stop.OtherSchema path)) held tells c = tt
 
 module _ {limits : Limits} (options : RewriteOptions) (old new w0 w1 : Option (List ℕ)) (g0 g1 f0 f1 : ℕ) (r : Result ℕ RewriteStop)
     (held : IsHeld r → options.max_held ≢ None) (tells : CountsRewriteFailures g0 g1 f0 f1 r)

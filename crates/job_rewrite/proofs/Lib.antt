@@ -6,3 +6,4 @@ pub mod Complete
 pub mod Totals
 pub mod Whole
 pub mod Stopped
+pub mod Expected

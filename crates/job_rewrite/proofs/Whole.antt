@@ -46,7 +46,7 @@ in_force_here : {limits : Limits} → (start : Option (List ℕ)) (s : Reader) �
     → in_force_of s ≡ record { schema = s.schema; dictionaries = [] }
 in_force_here start s o = ap (λ d. record { schema = s.schema; dictionaries = d }) o.no_dictionary
 
-opened : {limits : Limits} → (start : Option (List ℕ)) (s : Reader) (o : Opens limits start s) → OpensStream limits s.schema o.x
+pub opened : {limits : Limits} → (start : Option (List ℕ)) (s : Reader) (o : Opens limits start s) → OpensStream limits s.schema o.x
 opened {limits} start s o =
     subst (λ (i : InForce). Run limits None o.x (schema s.schema ∷ []) (Some i)) (in_force_here start s o) o.run
 
@@ -83,6 +83,7 @@ module _ {limits : Limits} (options : RewriteOptions) (start : Option (List ℕ)
   not_begun (stop.Read fault message) is h = absurd h
   not_begun (stop.Above total number) is h = absurd h
   not_begun (stop.Held message) is h = absurd h
+  not_begun (stop.OtherSchema path) is h = absurd h
 
   pub none_reported : (why : RewriteStop) (reports : Option (List Report))
       → StartsNot (sent_limits options s.limits) most s.schema w0 w1 f0 f1 why
@@ -92,6 +93,7 @@ module _ {limits : Limits} (options : RewriteOptions) (start : Option (List ℕ)
   none_reported (stop.Read fault message) reports h = absurd h
   none_reported (stop.Above total number) reports h = absurd h
   none_reported (stop.Held message) reports h = absurd h
+  none_reported (stop.OtherSchema path) reports h = absurd h
 
 -- it is for none of held bytes
 pub not_begun_held : (limits : Limits) (most : ℕ) (s : Schema) (w0 w1 : Option (List ℕ)) (f0 f1 : ℕ) (why : RewriteStop)
@@ -101,6 +103,7 @@ not_begun_held limits most s w0 w1 f0 f1 (stop.Write fault) h held = held
 not_begun_held limits most s w0 w1 f0 f1 stop.NoRoom h held = held
 not_begun_held limits most s w0 w1 f0 f1 (stop.Read fault message) h held = held
 not_begun_held limits most s w0 w1 f0 f1 (stop.Above total number) h held = held
+not_begun_held limits most s w0 w1 f0 f1 (stop.OtherSchema path) h held = held
 
 module _ {limits : Limits} (options : RewriteOptions) (start : Option (List ℕ)) (s t : Reader) (before : Writer) (room : Option ℕ)
     (w0 : Option (List ℕ)) (f0 : ℕ) (o : Opens limits start s)
@@ -268,6 +271,7 @@ module _ {limits : Limits} (options : RewriteOptions) (start : Option (List ℕ)
     };
   }
   broken_here after stop.NoRoom r = absurd r
+  broken_here after (stop.OtherSchema path) r = absurd r
   broken_here after (stop.Held message) (answer, r, ends, number) =
       broken o.x r.x (table_with r.batches) answer (taken after answer r) (opened start s o) (reads_behind after answer r).0 ends
       (number ∙ numbered after answer r) r.within (all_accepted r.batches r.accepts)

@@ -1,5 +1,5 @@
 -- Which batches are reported when a stream is rewritten.
-use Rattle.std.specs.Prelude.{ℕ, List, Option, Result, Ok, Err}
+use Rattle.std.specs.Prelude.{◌≡◌, ℕ, List, Option, Result, Ok, Err}
 use Rattle.ipc_model.specs.declared.fault.Fault.TheVariants.{Read}
 use Rattle.ipc_model.specs.declared.limits.Limits.{Limits}
 use Rattle.ipc_device.specs.Reports.{Report}
@@ -9,7 +9,7 @@ use Rattle.job_rewrite.specs.declared.stop.RewriteStop.TheVariants as stop
 
 -- what a result states about the reports: at Ok, and where reading broke off, each batch that was
 -- read was reported, in order. Where writing failed or a total stopped it, the last one that was
--- read may have no report
+-- read may have no report. At another schema than the one that is expected none was read
 abbrev pub ReportsSentBatches : Limits → Option (List ℕ) → Option (List ℕ) → Option (List Report)
     → Option (List Report) → Result ℕ RewriteStop → Type 0
 ReportsSentBatches limits old new reports_old reports_new (Ok done) =
@@ -24,3 +24,5 @@ ReportsSentBatches limits old new reports_old reports_new (Err stop.NoRoom) =
     ReportsSome limits old new reports_old reports_new
 ReportsSentBatches limits old new reports_old reports_new (Err (stop.Held message)) =
     ReportsBefore limits old new reports_old reports_new Read
+ReportsSentBatches limits old new reports_old reports_new (Err (stop.OtherSchema path)) =
+    reports_new ≡ reports_old

@@ -1,6 +1,6 @@
 -- What is taken from a source and sent to a sink when a stream is rewritten.
 use Rattle.std.specs.Prelude.{◌≡◌, ◌≢◌, ◌+◌, ℕ, List, [], ◌∷◌, ◌++◌, map, Option, Some, length}
-use Rattle.std.specs.Prelude.{None, Result, Ok, Err, IsTrue, ⊤}
+use Rattle.std.specs.Prelude.{None, Result, Ok, Err, IsTrue, ⊤, ◌⊎◌}
 use Rattle.std.specs.Io.KnownBytes.{Consumes, IsAtEnd}
 use Rattle.std.specs.List.{AllByRecursion}
 use Rattle.ipc_model.specs.declared.fault.Fault.{Fault}
@@ -16,7 +16,7 @@ use Rattle.ipc_stream_read.specs.declared.end.End.TheVariants.{Closed, Mark}
 use Rattle.ipc_frame.specs.Failures.{CountsFault, CountsSinkFault}
 use Rattle.ipc_stream_read.specs.Ends.{as_required}
 use Rattle.ipc_stream_read.specs.Reader.{Reader, in_force_of}
-use Rattle.ipc_stream_read.specs.Reasons.{Reads}
+use Rattle.ipc_stream_read.specs.Reasons.{IsOutside, Reads}
 use Rattle.ipc_stream_read.specs.declared.read_stop.ReadStop.{ReadStop}
 use Rattle.ipc_stream_read.specs.declared.read_stop.ReadStop.TheVariants as read_stop
 use Rattle.ipc_stream_read.specs.Stream.{batch, initial_state, Run, Denotes, DenotesClosed}
@@ -28,6 +28,7 @@ use Rattle.ipc_stream.specs.Writing.{AcceptsBatch, AcceptsSchema, AcceptsTable, 
 use Rattle.ipc_stream_read.specs.Stream.{EndsStream, IsTableOf, OpensStream}
 use Rattle.ipc_stream.specs.Writing.{NotSentWhole}
 use Rattle.ipc_stream.specs.Writing.{RefusesBatch, RefusesSchema, Sent}
+use Rattle.job_expect.specs.Differences.{IsExpected, IsOther}
 use Rattle.job_rewrite.specs.declared.options.RewriteOptions.{RewriteOptions}
 use Rattle.job_rewrite.specs.declared.options.Total.{Total}
 use Rattle.job_rewrite.specs.declared.options.Total.TheVariants.{Bytes}
@@ -175,6 +176,34 @@ pub record BreaksAtSchema (options : RewriteOptions) (limits : Limits)
   pub stops : StopsAtSchema options.max_bytes (sent_limits options limits) s written_old written_new
       failures_old failures_new
 
+-- the message of a schema alone was taken, and the sink was not called
+pub record ReadsSchemaAlone (limits : Limits) (old new written_old written_new : Option (List ℕ))
+    (failures_old failures_new : ℕ) : Type 0 where
+  pub x : List ℕ
+  pub schema : Schema
+  pub bytes : Consumes old new x
+  pub opens : OpensStream limits schema x
+  pub same_written : written_new ≡ written_old
+  pub same_failures : failures_new ≡ failures_old
+
+-- the result if the source begins with the message of this schema, where a schema may be expected.
+-- Another one is refused before anything is sent, unless the source fails, memory runs out or more
+-- would be held
+abbrev pub AnswersExpected : Option Schema → Schema → Option (List ℕ) → Option (List ℕ)
+    → Result ℕ RewriteStop → Type 0
+AnswersExpected expected s written_old written_new (Ok done) = IsExpected expected s
+AnswersExpected expected s written_old written_new (Err (stop.Read fault message)) =
+    IsExpected expected s ⊎ (IsOutside fault × (written_new ≡ written_old))
+AnswersExpected expected s written_old written_new (Err (stop.Write fault)) =
+    IsExpected expected s ⊎ ((fault ≡ w.OutOfMemory) × (written_new ≡ written_old))
+AnswersExpected expected s written_old written_new (Err (stop.Above total number)) =
+    IsExpected expected s
+AnswersExpected expected s written_old written_new (Err stop.NoRoom) = IsExpected expected s
+AnswersExpected expected s written_old written_new (Err (stop.Held message)) =
+    IsExpected expected s ⊎ (written_new ≡ written_old)
+AnswersExpected expected s written_old written_new (Err (stop.OtherSchema path)) =
+    IsOther expected s path.items
+
 -- why reading stopped, at the message with this number
 abbrev pub stop_of_reading : ReadStop → ℕ → RewriteStop
 stop_of_reading (read_stop.Refused fault) message = stop.Read fault message
@@ -187,7 +216,8 @@ IsHeld r = ⊥
 
 -- what a result states about a stream that is read under these limits and written under those that
 -- the options give. At Ok the number counts the messages that were read. At the maximum of held
--- bytes reading broke off as where a source fails
+-- bytes reading broke off as where a source fails. At another schema than the one that is expected,
+-- the schema alone was read
 abbrev pub Rewrites : RewriteOptions → Limits → Option (List ℕ) → Option (List ℕ) → Option (List ℕ)
     → Option (List ℕ) → ℕ → ℕ → Result ℕ RewriteStop → Type 0
 Rewrites options limits old new written_old written_new failures_old failures_new (Ok messages) =
@@ -211,10 +241,14 @@ Rewrites options limits old new written_old written_new failures_old failures_ne
     (Err (stop.Held message)) =
     BreaksReading options limits old new written_old written_new failures_old failures_new Read
     message
+Rewrites options limits old new written_old written_new failures_old failures_new
+    (Err (stop.OtherSchema path)) =
+    ReadsSchemaAlone limits old new written_old written_new failures_old failures_new
 
 -- the result if the source contains this table: it was sent with the end mark and is within the
 -- totals, or memory ran out in reading it, or writing it broke off, or it stopped before the first
--- batch that would exceed a total, at a schema without room, or at a maximum of held bytes
+-- batch that would exceed a total, at a schema without room, or at a maximum of held bytes, or
+-- another schema is expected, as `AnswersExpected` states
 abbrev pub AnswersRewrittenTable : RewriteOptions → Limits → Table → Option (List ℕ)
     → Option (List ℕ) → ℕ → ℕ → Result ℕ RewriteStop → Type 0
 AnswersRewrittenTable options limits t written_old written_new failures_old failures_new (Ok done) =
@@ -237,11 +271,14 @@ AnswersRewrittenTable options limits t written_old written_new failures_old fail
     failures_new
 AnswersRewrittenTable options limits t written_old written_new failures_old failures_new
     (Err (stop.Held message)) = options.max_held ≢ None
+AnswersRewrittenTable options limits t written_old written_new failures_old failures_new
+    (Err (stop.OtherSchema path)) = ⊤
 
 -- how a result changes the counts of failures of the source and the sink. Success and a stop at a
 -- total need 0 before and after; at a schema without room the sink was not called. If reading is
 -- refused, the sink did not fail in the call; if writing is refused, the source never failed. At
--- the maximum of held bytes neither failed in the call
+-- the maximum of held bytes neither failed in the call. At another schema than the one that is
+-- expected the counts are as at a schema without room
 abbrev pub CountsRewriteFailures : ℕ → ℕ → ℕ → ℕ → Result ℕ RewriteStop → Type 0
 CountsRewriteFailures source_old source_new sink_old sink_new (Ok done) =
     (source_old ≡ 0) × (source_new ≡ 0) × (sink_old ≡ 0) × (sink_new ≡ 0)
@@ -255,6 +292,19 @@ CountsRewriteFailures source_old source_new sink_old sink_new (Err stop.NoRoom) 
     (source_old ≡ 0) × (source_new ≡ 0) × (sink_new ≡ sink_old)
 CountsRewriteFailures source_old source_new sink_old sink_new (Err (stop.Held message)) =
     (source_new ≡ source_old) × (sink_new ≡ sink_old)
+CountsRewriteFailures source_old source_new sink_old sink_new (Err (stop.OtherSchema path)) =
+    (source_old ≡ 0) × (source_new ≡ 0) × (sink_new ≡ sink_old)
+
+-- why a stream is not rewritten whose schema may be another than the one that is expected
+abbrev pub RefusesOther : Option Schema → Schema → RewriteStop → Type 0
+RefusesOther expected s (stop.OtherSchema path) = IsOther expected s path.items
+RefusesOther expected s (stop.Write fault) = fault ≡ w.OutOfMemory
+RefusesOther expected s why = ⊥
+
+-- the result is not that the schema is another than the one that is expected
+abbrev pub IsNoOther : Result ℕ RewriteStop → Type 0
+IsNoOther (Err (stop.OtherSchema path)) = ⊥
+IsNoOther r = ⊤
 
 -- ---- the batches after the schema
 
@@ -334,6 +384,7 @@ CopiesBatches options room old new before after (Err (stop.Write fault)) =
 CopiesBatches options room old new before after (Err (stop.Above total number)) =
     StopsAtLast options room old new before after total number
 CopiesBatches options room old new before after (Err stop.NoRoom) = ⊥
+CopiesBatches options room old new before after (Err (stop.OtherSchema path)) = ⊥
 CopiesBatches options room old new before after (Err (stop.Held message)) =
     (answer : Result End Fault) × CopiesRest options old new before after answer
     × (as_required options.require_mark answer ≡ Err Read) × (message ≡ new.messages)

@@ -1,17 +1,21 @@
 //! Reads a stream batch by batch, and writes each batch as soon as it is read.
-ghost use Rattle.std.specs.Prelude.{◌≡◌, ◌++◌, ℕ, List, [], OnOk, Option, Some, false};
+ghost use Rattle.std.specs.Prelude.{◌≡◌, ◌++◌, ℕ, List, [], IfErr, OnOk, Option, Some, false};
+ghost use Rattle.std.specs.Prelude.{option_copied};
 ghost use Rattle.ipc_model.specs.declared.limits.Limits.{Limits};
+ghost use Rattle.ipc_model.specs.declared.schema.Schema.{Schema};
 ghost use Rattle.ipc_model.specs.declared.table.Table.{Table};
 ghost use Rattle.ipc_stream_read.specs.declared.end.End.TheVariants.{Closed, Mark};
 ghost use Rattle.ipc_stream_read.specs.Held.{HeldInAll, HeldSoFar};
 ghost use Rattle.ipc_stream_read.specs.Reader.{Reading};
 ghost use Rattle.ipc_stream_read.specs.Reader.{Opens};
-ghost use Rattle.ipc_stream_read.specs.Stream.{Denotes};
+ghost use Rattle.ipc_stream_read.specs.Stream.{Denotes, OpensStream};
+ghost use Rattle.job_expect.specs.Differences.{IsExpected};
 ghost use Rattle.job_rewrite.specs.Outputs.{AppendsWithin, StartsOutput};
 ghost use Rattle.job_rewrite.specs.RewriteLimits.{sent_limits};
 ghost use Rattle.job_rewrite.specs.Reporting.{ReportsSentBatches};
-ghost use Rattle.job_rewrite.specs.Rewriting.{AnswersRewrittenTable, CopiesBatches, Rewrites};
-ghost use Rattle.job_rewrite.specs.Rewriting.{CountsRewriteFailures, IsHeld};
+ghost use Rattle.job_rewrite.specs.Rewriting.{AnswersExpected, AnswersRewrittenTable};
+ghost use Rattle.job_rewrite.specs.Rewriting.{CopiesBatches, CountsRewriteFailures, IsHeld};
+ghost use Rattle.job_rewrite.specs.Rewriting.{IsNoOther, RefusesOther, Rewrites};
 
 use crate::bounded::Bounded;
 use crate::limits::sent_limits;
@@ -19,8 +23,9 @@ use crate::options::{RewriteOptions, Total};
 use crate::output::{Output, Written};
 use crate::stop::RewriteStop;
 use ipc_device::{Progress, Sink, Source};
-use ipc_model::{Limits, Schema};
+use ipc_model::{Limits, Schema, WriteFault};
 use ipc_stream::{Seed, StreamReader, StreamWriter};
+use job_expect::first_difference;
 use std::alloc::Global;
 
 // Writes each batch that is read, and reports it then, up to the first one that would exceed a
@@ -41,6 +46,7 @@ fn copy_batches<R: Source, W: Sink, O: Output<W>, P: Progress>(
     ensures copies { CopiesBatches options (O.room output.old) stream.old stream.new
         (O.writer output.old) (O.writer output.new) result }
     ensures works { OnOk result ((O.writer output.new).failed ≡ false) }
+    ensures same { IsNoOther result }
     ensures devices { CountsRewriteFailures stream.old.failures stream.new.failures
         (O.writer output.old).failures (O.writer output.new).failures result }
     ensures within { AppendsWithin (O.room output.old) (O.writer output.old).written
@@ -98,6 +104,7 @@ fn copy_stream<R: Source, W: Sink, O: Output<W>, P: Progress>(
         → Rewrites options limits start stream.new.remaining written (W.written result.1) failures
         (W.failures result.1) result.0 }
     ensures handed_on { OnOk result.0 (W.held_back result.1 ≡ Some []) }
+    ensures same { IsNoOther result.0 }
     ensures devices { CountsRewriteFailures stream.old.failures stream.new.failures
         (O.writer output).failures (W.failures result.1) result.0 }
     ensures within { (written : Option (List ℕ)) (failures : ℕ)
@@ -121,8 +128,25 @@ fn copy_stream<R: Source, W: Sink, O: Output<W>, P: Progress>(
     }
 }
 
-// Writes a stream whose schema was read, and gives the sink back.
-fn rewrite_open<R: Source, W: Sink, P: Progress>(
+// Checks that the schema of a stream is the one that is expected, if there is one.
+fn check_expected(
+    alloc: Global,
+    expected: Option<&Schema>,
+    schema: &Schema,
+) -> Result<(), RewriteStop>
+    ensures same { OnOk result (IsExpected (option_copied expected.entry) schema.now) }
+    ensures other { IfErr result (RefusesOther (option_copied expected.entry) schema.now) }
+{
+    match first_difference(alloc, expected, schema) {
+        Ok(None) => Ok(()),
+        Ok(Some(path)) => Err(RewriteStop::OtherSchema(path)),
+        Err(_) => Err(RewriteStop::Write(WriteFault::OutOfMemory)),
+    }
+}
+
+// Writes a stream whose schema was read, and is the one that is expected, if there is one. Gives
+// the sink back.
+fn rewrite_expected<R: Source, W: Sink, P: Progress>(
     alloc: Global,
     seed: Seed,
     options: RewriteOptions,
@@ -136,6 +160,7 @@ fn rewrite_open<R: Source, W: Sink, P: Progress>(
         → Rewrites options limits start stream.new.remaining (W.written sink)
         (W.written result.1) (W.failures sink) (W.failures result.1) result.0 }
     ensures handed_on { OnOk result.0 (W.held_back result.1 ≡ Some []) }
+    ensures same { IsNoOther result.0 }
     ensures devices { CountsRewriteFailures stream.old.failures stream.new.failures
         (W.failures sink)
         (W.failures result.1) result.0 }
@@ -158,6 +183,41 @@ fn rewrite_open<R: Source, W: Sink, P: Progress>(
         Ok(output) => copy_stream(options, stream, output, progress),
         Err((stop, sink)) => (Err(stop), sink),
     }
+}
+
+// Writes a stream whose schema was read, and gives the sink back.
+fn rewrite_open<R: Source, W: Sink, P: Progress>(
+    alloc: Global,
+    seed: Seed,
+    options: RewriteOptions,
+    expected: Option<&Schema>,
+    stream: &mut StreamReader<R>,
+    sink: W,
+    progress: &mut P,
+) -> (Result<u64, RewriteStop>, W)
+    requires reading { stream.old.phase ≡ Reading }
+    requires source { stream.old.failures ≡ 0 }
+    ensures rewrites { (limits : Limits) (start : Option (List ℕ)) → Opens limits start stream.old
+        → Rewrites options limits start stream.new.remaining (W.written sink)
+        (W.written result.1) (W.failures sink) (W.failures result.1) result.0 }
+    ensures handed_on { OnOk result.0 (W.held_back result.1 ≡ Some []) }
+    ensures expected { AnswersExpected (option_copied expected.entry) stream.old.schema
+        (W.written sink) (W.written result.1) result.0 }
+    ensures devices { CountsRewriteFailures stream.old.failures stream.new.failures
+        (W.failures sink)
+        (W.failures result.1) result.0 }
+    ensures within { AppendsWithin options.max_bytes (W.written sink) (W.written result.1) }
+    ensures reports { (limits : Limits) (start : Option (List ℕ)) → Opens limits start stream.old
+        → ReportsSentBatches limits start stream.new.remaining (P.reports progress.old)
+        (P.reports progress.new) result.0 }
+    ensures held { (limits : Limits) (start : Option (List ℕ))
+        → HeldSoFar limits options.max_held start stream.old
+        → HeldInAll limits options.max_held start stream.new.remaining (IsHeld result.0) }
+{
+    if let Err(why) = check_expected(alloc, expected, stream.schema()) {
+        return (Err(why), sink);
+    }
+    rewrite_expected(alloc, seed, options, stream, sink, progress)
 }
 
 /// Reads a stream from `source` and writes it to `sink` in canonical layout, with its schema, its
@@ -193,11 +253,15 @@ fn rewrite_open<R: Source, W: Sink, P: Progress>(
 /// - `RewriteStop::Held`: the bytes that came of the message with this number and the bodies of the
 ///   dictionaries in force, with the next part of the message, would exceed `options.max_held`.
 ///   Nothing more is taken from the source. All batches before were sent, and no mark.
+/// - `RewriteStop::OtherSchema`: a schema is expected, and the stream has another one, as
+///   `first_difference` compares them. Nothing was sent, and nothing after the schema's message was
+///   read.
 pub fn rewrite<R: Source, W: Sink, P: Progress>(
     alloc: Global,
     seed: Seed,
     options: RewriteOptions,
     limits: Limits,
+    expected: Option<&Schema>,
     source: R,
     sink: W,
     progress: &mut P,
@@ -227,6 +291,11 @@ pub fn rewrite<R: Source, W: Sink, P: Progress>(
         → R.remaining source ≡ Some x → Denotes limits x t Closed → R.failures result.1 ≡ 0
         → AnswersRewrittenTable options (sent_limits options limits) t (W.written sink)
         (W.written result.2) (W.failures sink) (W.failures result.2) result.0 }
+    // If a schema is expected and the source begins with the message of another one, nothing is
+    // sent, whatever follows it. `OtherSchema` has the path of the first difference.
+    ensures expected { (x rest : List ℕ) (s : Schema) → R.remaining source ≡ Some (x ++ rest)
+        → OpensStream limits s x → AnswersExpected (option_copied expected.entry) s
+        (W.written sink) (W.written result.2) result.0 }
     // What was sent has at most `options.max_bytes` bytes, whatever the result: the messages of the
     // schema, of dictionaries and of batches, and the end mark.
     ensures within { AppendsWithin options.max_bytes (W.written sink) (W.written result.2) }
@@ -243,7 +312,15 @@ pub fn rewrite<R: Source, W: Sink, P: Progress>(
     match StreamReader::open_within(alloc, limits, options.max_held, source) {
         Ok(stream) => {
             let mut stream = stream;
-            let (result, sink) = rewrite_open(alloc, seed, options, &mut stream, sink, progress);
+            let (result, sink) = rewrite_open(
+                alloc,
+                seed,
+                options,
+                expected,
+                &mut stream,
+                sink,
+                progress,
+            );
             (result, stream.into_inner(), sink)
         }
         Err((why, source)) => (Err(RewriteStop::of_reading(why, 0)), source, sink),

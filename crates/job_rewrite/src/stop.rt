@@ -20,6 +20,9 @@ pub enum RewriteStop {
     /// With the next part of the message with this number, counted from 0, more bytes would be held
     /// of what is read than the options allow.
     Held(u64),
+    /// The schema is another than the one that is expected: the path of the first field that
+    /// differs.
+    OtherSchema(Vec<u64>),
 }
 
 impl RewriteStop {

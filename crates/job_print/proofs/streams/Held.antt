@@ -41,6 +41,7 @@ TellsRead options old new (Err (stop.Read fault message)) = CountsFault old new 
 TellsRead options old new (Err (stop.Write fault)) = ⊤
 TellsRead options old new (Err (stop.Text fault)) = ⊤
 TellsRead options old new (Err (stop.Held message)) = options.max_held ≢ None
+TellsRead options old new (Err (stop.OtherSchema path)) = ⊤
 
 -- why reading broke off, as what was taken: a fault, or an end without the mark that is required
 broken_taken : {limits : Limits} → (options : PrintOptions) (old new w0 w1 : Option (List ℕ)) (fault : Fault) (n : ℕ)
@@ -154,6 +155,7 @@ module _ {limits : Limits} (options : PrintOptions) (old new w0 w1 : Option (Lis
       (subst (λ (o : Option (List ℕ)). StopsPrinting options limits o new w0 w1 fault) is p)
   printed_marked (Err (stop.Write fault)) tells p x rest t is d = p.0
   printed_marked (Err (stop.Held n)) tells p x rest t is d = tells
+  printed_marked (Err (stop.OtherSchema path)) tells p x rest t is d = tt
 
   -- where all bytes of the source denote a table, and no mark is required, so is that one
   pub printed_closed : (r : Result (Option ℕ) PrintStop) → TellsRead options g0 g1 r → Prints options limits old new w0 w1 r
@@ -176,6 +178,7 @@ module _ {limits : Limits} (options : PrintOptions) (old new w0 w1 : Option (Lis
       (subst (λ (o : Option (List ℕ)). StopsPrinting options limits o new w0 w1 fault) is p)
   printed_closed (Err (stop.Write fault)) tells p x t free is d = p.0
   printed_closed (Err (stop.Held n)) tells p x t free is d = tells
+  printed_closed (Err (stop.OtherSchema path)) tells p x t free is d = tt
 
 -- what the answer to a stream whose schema was read says of how reading went
 pub stream_tells : (options : PrintOptions) (s t : Reader) (before after : Output) (r : Result (Option ℕ) PrintStop)
@@ -185,3 +188,4 @@ stream_tells options s t before after (Err (stop.Read fault n)) held p = p.3
 stream_tells options s t before after (Err (stop.Write fault)) held p = tt
 stream_tells options s t before after (Err (stop.Text fault)) held p = tt
 stream_tells options s t before after (Err (stop.Held n)) held p = held tt
+stream_tells options s t before after (Err (stop.OtherSchema path)) held p = tt

@@ -223,3 +223,4 @@ printed_first {limits} options old new w0 w1 g0 g1 none r tells p x rest t is h 
     by_result (Err (stop.Text fault)) says q = stops_text options x rest t h new w0 w1 fault q
     by_result (Err (stop.Write fault)) says q = q.0
     by_result (Err (stop.Held n)) says q = says
+    by_result (Err (stop.OtherSchema path)) says q = tt

@@ -74,7 +74,7 @@ no_refusal p.Write is = absurd (omega (arith, is))
 no_refusal p.OutOfMemory is = absurd (omega (arith, is))
 
 -- the message that a reader was opened with is a schema's
-schema_opened : {limits : Limits} → (old : Option (List ℕ)) (s : Reader) (o : Opens limits old s) → OpensStream limits s.schema o.x
+pub schema_opened : {limits : Limits} → (old : Option (List ℕ)) (s : Reader) (o : Opens limits old s) → OpensStream limits s.schema o.x
 schema_opened {limits} old s o =
     let begun_here : in_force_of s ≡ initial_state s.schema = ap (λ d. record { schema = s.schema; dictionaries = d }) o.no_dictionary in
     subst (λ i. Run limits None o.x (schema s.schema ∷ []) (Some i)) begun_here o.run
@@ -193,6 +193,13 @@ module _ {limits : Limits} (options : PrintOptions) (old : Option (List ℕ)) (s
       let taken : Consumes old t.remaining o.x = subst (λ (z : Reader). Consumes old z.remaining o.x) (sym other.same) o.bytes in
       let silent : Keeps w0 w1 = subst (λ (z : Output). Keeps w0 z.written) (sym other.silent) (Keeps-refl w0) in
       unfit o.x s.schema (Some (in_force_of s)) taken o.run other.unfit silent
+  prints_rows (Err (stop.OtherSchema path)) (same, silent) = record {
+    x = o.x;
+    schema = s.schema;
+    bytes = subst (λ (z : Reader). Consumes old z.remaining o.x) (sym same) o.bytes;
+    opens = opened;
+    silent = subst (λ (z : Output). Keeps w0 z.written) (sym silent) (Keeps-refl w0);
+  }
   prints_rows (Err (stop.Text fault)) (inr r) = rows_refused fault r
   prints_rows (Err (stop.Write fault)) (why, is, r) =
       (subst (λ (f : WriteFault). write_fault_status f ≢ 1) (sym is) (no_refusal why), part why r)
@@ -298,6 +305,8 @@ part_of options old new w0 w1 (Ok (Some n)) h = table_part options old new w0 w1
 part_of options old new w0 w1 (Ok None) h = first_part options old new w0 w1 h
 part_of options old new w0 w1 (Err (stop.Read fault n)) h = broken_part options old new w0 w1 fault n h
 part_of options old new w0 w1 (Err (stop.Held n)) h = broken_part options old new w0 w1 Read n h
+part_of options old new w0 w1 (Err (stop.OtherSchema path)) h =
+    alone h.x h.schema (Some (initial_state h.schema)) h.bytes h.opens h.silent
 part_of options old new w0 w1 (Err (stop.Text fault)) h = stopped_part options old new w0 w1 fault h
 part_of options old new w0 w1 (Err (stop.Write fault)) h = h.1
 

@@ -1,5 +1,6 @@
 use Rattle.std.proofs.Common.{◌∙◌, sym, ℕ, Option, None, Err}
 use Rattle.ipc_stream_read.proofs.Readers.{has_maximum}
+use Rattle.job_print.proofs.streams.Expected.{unopened_expected}
 use Rattle.job_print.proofs.streams.Held.{printed_closed, printed_marked, stream_tells}
 use Rattle.job_print.proofs.streams.Limited.{printed_first}
 use Rattle.job_print.proofs.streams.Streams.{part_of, prints_all}
@@ -73,6 +74,10 @@ returns-in-Err-clause-limited g c = λ x rest t is h none.
     rw c.of_reading.ensures (printed_first c.args.options _ _ None None _ _ none (Err (stop_of_reading c.in-Err.why 0))
     (unopened_tells _ _ c.args.options _ _ c.in-Err.why c.in-Err.ensures.failures c.in-Err.ensures.held)
     (unopened_prints _ _ c.args.options None c.in-Err.why c.in-Err.ensures.refused) x rest t is h)
+
+pub returns-in-Err-clause-expected : goal.returns-in-Err-clause-expected
+returns-in-Err-clause-expected g c = λ x rest s is opens.
+    rw c.of_reading.ensures (unopened_expected (Option ℕ) _ s _ c.in-Err.why (c.in-Err.ensures.schema x rest s is opens))
 
 pub returns-in-Err-clause-devices : goal.returns-in-Err-clause-devices
 returns-in-Err-clause-devices g c = rw c.of_reading.ensures (unopened_counts (Option ℕ) _ _ _ c.in-Err.why c.in-Err.ensures.failures)

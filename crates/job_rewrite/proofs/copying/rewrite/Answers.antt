@@ -4,6 +4,7 @@ use Rattle.ipc_stream_read.proofs.Readers.{has_maximum}
 use Rattle.ipc_stream_read.proofs.Reporting.{unopened_to}
 use Rattle.job_rewrite.proofs.Bytes.{within_same}
 use Rattle.job_rewrite.proofs.Complete.{answered_marked, answered_closed}
+use Rattle.job_rewrite.proofs.Expected.{unopened_expected}
 use Rattle.job_rewrite.proofs.Stopped.{held_why, stopped_counts, stopped_held, stopped_reports, stopped_unopened}
 use Rattle.job_rewrite.specs.Rewriting.{stop_of_reading}
 use Rattle.job_rewrite.proofs.copying.rewrite.Goals as goal
@@ -47,6 +48,10 @@ returns-in-Err-clause-closed g c = λ x t free is d none.
     (λ held. has_maximum _ _ _ _ c.in-Err.ensures.held (held_why c.in-Err.why 0 held))
     (stopped_counts _ _ _ _ c.in-Err.why 0 c.in-Err.ensures.failures refl)
     (stopped_unopened c.args.options _ _ _ _ c.in-Err.why c.in-Err.ensures.refused) none x t free is d)
+
+pub returns-in-Err-clause-expected : goal.returns-in-Err-clause-expected
+returns-in-Err-clause-expected g c = λ x rest s is opens.
+    rw c.of_reading.ensures (unopened_expected _ s _ c.in-Err.why (c.in-Err.ensures.schema x rest s is opens))
 
 pub returns-in-Err-clause-devices : goal.returns-in-Err-clause-devices
 returns-in-Err-clause-devices g c =
