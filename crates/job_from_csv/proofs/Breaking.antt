@@ -1,6 +1,7 @@
 -- Where a conversion breaks off.
-use Rattle.std.proofs.Common.{◌≡◌, ◌⊎◌, ◌∙◌, refl, sym, ap, subst, ℕ, ◌+◌, ◌<◌, ◌≤◌, inl, inr, List, [], ◌∷◌, ◌++◌, length}
-use Rattle.std.proofs.Common.{Option, Some, Err, false, arith}
+use Rattle.std.proofs.Common.{◌≡◌, ◌⊎◌, ◌∙◌, refl, sym, ap, subst, ℕ, suc, ◌+◌, ◌<◌, ◌≤◌, inl, inr, List, [], ◌∷◌, ◌++◌, length}
+use Rattle.std.proofs.Common.{Option, Some, Err, false, append_assoc, arith, get_or, length-append, take}
+use Rattle.std.specs.Prelude.{IsSome, flat_map}
 use Rattle.std.specs.List.{AllByRecursion}
 use Rattle.std.proofs.Math.Nat.{eq-or-lt_of_le}
 use Rattle.std.proofs.Math.Seq.{get_or-append_seam, take-append_seam}
@@ -22,7 +23,7 @@ use Rattle.ipc_stream.proofs.Chains.{table_tells}
 use Rattle.ipc_stream.proofs.FirstRows.{refused_at_first}
 use Rattle.ipc_stream.proofs.TablesWritten as tables
 use Rattle.ipc_text_csv.specs.RowCsv.{names}
-use Rattle.job_from_csv.specs.Batches.{batch_of, last_batch}
+use Rattle.job_from_csv.specs.Batches.{IsFull, batch_of, in_rows, last_batch}
 use Rattle.job_from_csv.specs.Conversion.{AreAccepted, IsOfLengths, SendsFull, StopsBehind, StopsFor, StopsWriting, table_of_batches}
 use Rattle.job_from_csv.specs.Conversion.{as_row, exhausted_behind, behind}
 use Rattle.ipc_text_csv.specs.Records.{AreRecordsOf}
@@ -33,7 +34,8 @@ use Rattle.job_from_csv.specs.Stops.{stop_of}
 use Rattle.ipc_text_csv.specs.declared.record_fault.RecordFault.{RecordFault}
 use Rattle.ipc_text_csv.specs.declared.record_fault.RecordFault.TheVariants as none
 use Rattle.ipc_text_csv.proofs.Reading.{are_first}
-use Rattle.job_from_csv.proofs.Sending.{all_accepted, as_out, came_before, came_fill, came_filled}
+use Rattle.job_from_csv.proofs.Sending.{all_accepted, as_out, came_before, came_fill, came_filled, last_is}
+use Rattle.job_from_csv.specs.declared.batch_size.BatchSize.{BatchSize}
 use Rattle.ipc_text_csv.specs.declared.dialect.Dialect.{Dialect}
 
 -- ---- what isn't sent of a batch that is refused
@@ -109,10 +111,10 @@ accepted_other limits s b w.OutOfMemory accepts refuses = λ is. is
 -- ---- the table with the batch that is refused
 
 -- the messages that are out are the first ones of a table with more batches
-pub first_out : (s : Schema) (batches more : List BatchRows) (old : Option (List ℕ)) (failures : ℕ) (writer : Writer)
-    → IsOut s batches old failures writer
+pub first_out : (size : BatchSize) (s : Schema) (batches more : List BatchRows) (old : Option (List ℕ)) (failures : ℕ) (writer : Writer)
+    → IsOut size s batches old failures writer
     → tables.IsOut writer.limits (table_of_batches s (batches ++ more)) old writer.written failures writer.failures (length batches)
-first_out s batches more old failures writer out = record {
+first_out size s batches more old failures writer out = record {
   bytes = out.sent.x;
   sent = subst (λ bs. SendsTable writer.limits (table_of_batches s bs) out.sent.x) (sym (take-append_seam batches more)) out.sent.whole;
   appended = out.sent.bytes;
@@ -122,37 +124,47 @@ first_out s batches more old failures writer out = record {
   accepts = subst (AllByRecursion (AcceptsBatch writer.limits s)) (sym (take-append_seam batches more)) out.accepts;
 }
 
--- where the batch behind those that are out is refused, writing the table with it broke off before it
-pub batch_breaks : (d : Dialect) (s : Schema) (batches : List BatchRows) (old : Option (List ℕ)) (failures : ℕ) (writer new : Writer) (b :
-    BatchRows)
-    (fault : WriteFault) → IsOut s batches old failures writer → RefusesBatch writer.limits s b fault
+-- where the batch behind those that are out is refused, writing a table with it broke off before it
+batch_breaks : (size : BatchSize) (s : Schema) (batches : List BatchRows) (old : Option (List ℕ)) (failures : ℕ) (writer new : Writer)
+    (b : BatchRows) (after all : List BatchRows) (fault : WriteFault) → all ≡ batches ++ b ∷ after
+    → IsOut size s batches old failures writer
+    → RefusesBatch writer.limits s b fault
     → NotSentWhole (SendsBatch writer.limits s (kept_after s.fields (kept_at_start s) batches) b) writer.written new.written writer.failures
-    new.failures fault → BreaksOff writer.limits (table_of_batches s (batches ++ b ∷ [])) old new.written failures new.failures fault
-batch_breaks d s batches old failures writer new b fault out refuses unsent =
-    let long = length_push batches b in
-    tables.batch_breaks (table_of_batches s (batches ++ b ∷ [])) old writer.written new.written failures writer.failures new.failures
-    (length batches) (first_out s batches (b ∷ []) old failures writer out) b (omega (arith, long))
-    (sym (get_or-append_seam batches b [] b)) fault refuses
+    new.failures fault → BreaksOff writer.limits (table_of_batches s all) old new.written failures new.failures fault
+batch_breaks size s batches old failures writer new b after all fault is out refuses unsent =
+    let long = length-append batches (b ∷ after) in
+    let whole = ap length is in
+    let first : take (length batches) all ≡ batches = ap (take (length batches)) is ∙ take-append_seam batches (b ∷ after) in
+    tables.batch_breaks (table_of_batches s all) old writer.written new.written failures writer.failures new.failures (length batches)
+    (subst (λ bs. tables.IsOut writer.limits (table_of_batches s bs) old writer.written failures writer.failures (length batches)) (sym is)
+    (first_out size s batches (b ∷ after) old failures writer out)) b (omega (arith, long, whole))
+    (sym (ap (λ bs. get_or bs (length batches) b) is ∙ get_or-append_seam batches b after b)) fault refuses
     (subst (λ bs. NotSentWhole (SendsBatch writer.limits s (kept_after s.fields (kept_at_start s) bs) b) writer.written new.written
-    writer.failures new.failures fault) (sym (take-append_seam batches (b ∷ []))) unsent)
+    writer.failures new.failures fault) (sym first) unsent)
 
--- where rows are left over they are the last batch
-pub last_is : (left : List (List Value)) → 0 < length left → last_batch left ≡ batch_of left ∷ []
-last_is [] some = absurd (omega (arith, some))
-last_is (r ∷ left) some = refl
+-- two lists with one last element each have the same one
+last_same : {X : Type 0} (xs ys : List X) (x y : X) → xs ++ x ∷ [] ≡ ys ++ y ∷ [] → x ≡ y
+last_same xs ys x y is =
+    let many : length xs ≡ length ys =
+    let all = ap length is in
+    let left = length_push xs x in
+    let right = length_push ys y in
+    omega (arith, all, left, right) in
+    sym (get_or-append_seam xs x [] x) ∙ (ap (λ zs. get_or zs (length xs) x) is
+    ∙ (ap (λ n. get_or (ys ++ y ∷ []) n x) many ∙ get_or-append_seam ys y [] x))
 
-module _ (d : Dialect) {R : Type 0} (remaining : R → Option (List ℕ)) (input : Option (List ℕ)) (s : Schema) (size : ℕ) (old : Option (List
-    ℕ))
+module _ (d : Dialect) {R : Type 0} (remaining : R → Option (List ℕ)) (input : Option (List ℕ)) (s : Schema) (size : BatchSize) (old :
+    Option (List ℕ))
     (failures : ℕ) (now : RowReader R) (writer : Writer) where
   module _ (left : List (List Value)) (came : Came d remaining input s size old failures now writer left)
-      (accepts : 0 < length left → AcceptsBatch writer.limits s (batch_of left)) (few : length left < size) where
+      (accepts : 0 < length left → AcceptsBatch writer.limits s (batch_of left)) (few : length left < size.rows) where
     -- ---- the next record isn't read as a row
 
     -- the full batches are out
     full_sent : SendsFull d s size came.records old writer.written failures writer.failures
     full_sent = record {
       limits = writer.limits;
-      standard = came.out.standard;
+      within = came.out.within;
       batches = came.batches;
       left = left;
       batched = came_fill d remaining input s size old failures now writer left came few;
@@ -194,124 +206,172 @@ module _ (d : Dialect) {R : Type 0} (remaining : R → Option (List ℕ)) (input
 
   module _ (left : List (List Value)) (came : Came d remaining input s size old failures now writer left) (new : Writer) (fault :
       WriteFault)
+      (first : IsOfLengths fault → (before : List (List (List ℕ))) (texts : List (List ℕ)) → came.records ≡ before ++ texts ∷ []
+      → AreAccepted d writer.limits s size before)
+      (alone : IsSome size.bytes → fault ≡ w.TooLong → (before : List (List Value)) (row : List Value) → came.rows ≡ before ++ row ∷ []
+      → RefusesBatch writer.limits s (batch_of (row ∷ [])) w.TooLong)
+      (rows next : List (List Value)) (is : left ≡ rows ++ next) (refuses : RefusesBatch writer.limits s (batch_of rows) fault)
+      (unsent : NotSentWhole (SendsBatch writer.limits s (kept_after s.fields (kept_at_start s) came.batches) (batch_of rows))
+      writer.written
+      new.written writer.failures new.failures fault) where
+    -- a conversion stops where a full batch is refused
+    pub full_stops : IsFull writer.limits s size rows next → length next < size.rows
+        → StopsWriting d input s size old new.written failures new.failures fault
+    unfolding came_filled
+    full_stops full few = record {
+      limits = writer.limits;
+      within = came.out.within;
+      records = came.records;
+      there = are_first d remaining input (names s.fields ∷ came.records) now.reader came.read.stands;
+      batches = came.batches ++ batch_of rows ∷ [];
+      left = next;
+      batched = came_filled d remaining input s size old failures now writer left came rows next is full few;
+      breaks = batch_breaks size s came.batches old failures writer new (batch_of rows) (last_batch next)
+          ((came.batches ++ batch_of rows ∷ []) ++ last_batch next) fault
+          (append_assoc came.batches (batch_of rows ∷ []) (last_batch next)) came.out refuses unsent;
+      all = λ _. inr (batch_breaks size s came.batches old failures writer new (batch_of rows) [] (came.batches ++ batch_of rows ∷ [])
+          fault refl came.out refuses unsent);
+      first = first;
+      alone = alone;
+    }
+
+  module _ (left : List (List Value)) (came : Came d remaining input s size old failures now writer left) (new : Writer) (fault :
+      WriteFault)
       (refuses : RefusesBatch writer.limits s (batch_of left) fault)
       (unsent : NotSentWhole (SendsBatch writer.limits s (kept_after s.fields (kept_at_start s) came.batches) (batch_of left))
       writer.written
       new.written writer.failures new.failures fault)
       (first : IsOfLengths fault → (before : List (List (List ℕ))) (texts : List (List ℕ)) → came.records ≡ before ++ texts ∷ []
-      → AreAccepted d writer.limits s size before) where
-    breaks_here : BreaksOff writer.limits (table_of_batches s (came.batches ++ batch_of left ∷ [])) old new.written failures new.failures
-        fault
-    breaks_here = batch_breaks d s came.batches old failures writer new (batch_of left) fault came.out refuses unsent
-
-    -- a conversion stops where a full batch is refused
-    pub full_stops : 0 < size → length left ≡ size → StopsWriting d input s size old new.written failures new.failures fault
-    full_stops some full = record {
-      limits = writer.limits;
-      standard = came.out.standard;
-      records = came.records;
-      there = are_first d remaining input (names s.fields ∷ came.records) now.reader came.read.stands;
-      batches = came.batches ++ batch_of left ∷ [];
-      left = [];
-      batched = came_filled d remaining input s size old failures now writer left came some full;
-      breaks = subst (λ bs. BreaksOff writer.limits (table_of_batches s bs) old new.written failures new.failures fault)
-          (sym (append-nil (came.batches ++ batch_of left ∷ []))) breaks_here;
-      all = λ _ some_left. absurd (some_left refl);
-      first = first;
-    }
-
-    -- and where one with fewer rows is
-    pub few_stops : 0 < length left → length left < size
+      → AreAccepted d writer.limits s size before)
+      (alone : IsSome size.bytes → fault ≡ w.TooLong → (before : List (List Value)) (row : List Value) → came.rows ≡ before ++ row ∷ []
+      → RefusesBatch writer.limits s (batch_of (row ∷ [])) w.TooLong) where
+    -- and where the last one with fewer rows is
+    pub few_stops : 0 < length left → length left < size.rows
         → (fault ≡ w.Write → AreRecordsOf d input (names s.fields ∷ came.records))
         → StopsWriting d input s size old new.written failures new.failures fault
+    unfolding came_fill
     few_stops some few all = record {
       limits = writer.limits;
-      standard = came.out.standard;
+      within = came.out.within;
       records = came.records;
       there = are_first d remaining input (names s.fields ∷ came.records) now.reader came.read.stands;
       batches = came.batches;
       left = left;
       batched = came_fill d remaining input s size old failures now writer left came few;
-      breaks = subst (λ bs. BreaksOff writer.limits (table_of_batches s (came.batches ++ bs)) old new.written failures new.failures fault)
-          (sym (last_is left some)) breaks_here;
-      all = λ written _. all written;
+      breaks = batch_breaks size s came.batches old failures writer new (batch_of left) [] (came.batches ++ last_batch left) fault
+          (ap (λ bs. came.batches ++ bs) (last_is left some)) came.out refuses unsent;
+      all = λ written. inl (all written);
       first = first;
+      alone = alone;
     }
 
   module _ (left : List (List Value)) (row : List Value) (came : Came d remaining input s size old failures now writer (left ++ row ∷ []))
-      (accepts : 0 < length left → AcceptsBatch writer.limits s (batch_of left)) (room : length left < size) where
+      (accepts : 0 < length left → AcceptsBatch writer.limits s (batch_of left)) (room : length left < size.rows) where
     -- without the last record the table is accepted
     accepts_before : (before : List (List (List ℕ))) (texts : List (List ℕ)) → came.records ≡ before ++ texts ∷ []
         → AreAccepted d writer.limits s size before
-    accepts_before before texts is = record {
-      batches = came.batches;
-      left = left;
-      batched = came_before d remaining input s size old failures now writer left row came room before texts is;
-      accepts = record {
-        schema = came.out.accepts_schema;
-        batches = all_accepted (AcceptsBatch writer.limits s) came.batches left came.out.accepts accepts;
-      };
-    }
+    accepts_before before texts is =
+        let (fewer, rest, batched, same) = came_before d remaining input s size old failures now writer (omega (arith, room)) left row came
+        room before texts is in
+        record {
+          batches = fewer;
+          left = rest;
+          batched = batched;
+          accepts = record {
+            schema = came.out.accepts_schema;
+            batches = subst (AllByRecursion (AcceptsBatch writer.limits s)) (sym same)
+                (all_accepted (AcceptsBatch writer.limits s) came.batches left came.out.accepts accepts);
+          };
+        }
 
-    row_refused : (new : Writer) (fault : WriteFault) → RefusesBatch writer.limits s (batch_of (left ++ row ∷ [])) fault
-        → NotSentWhole (SendsBatch writer.limits s (kept_after s.fields (kept_at_start s) came.batches) (batch_of (left ++ row ∷ [])))
-        writer.written new.written writer.failures new.failures fault → ¬ (fault ≡ w.Write)
-        → (length left + 1 ≡ size) ⊎ (length left + 1 < size) → StopsWriting d input s size old new.written failures new.failures fault
-    row_refused new fault refuses unsent other (inl full) =
-        let longer = length_push left row in
-        full_stops (left ++ row ∷ []) came new fault refuses unsent (λ _. accepts_before) (omega (arith, full))
-        (omega (arith, full, longer))
-    row_refused new fault refuses unsent other (inr few) =
-        let longer = length_push left row in
-        few_stops (left ++ row ∷ []) came new fault refuses unsent (λ _. accepts_before) (omega (arith, longer))
-        (omega (arith, few, longer)) (λ is. absurd (other is))
+    -- the last row is this one
+    last_row : (before : List (List Value)) (other : List Value) → came.rows ≡ before ++ other ∷ [] → row ≡ other
+    last_row before other is = last_same (flat_map (λ b. b.rows) came.batches ++ left) before row other
+        (append_assoc (flat_map (λ b. b.rows) came.batches) left (row ∷ []) ∙ (came.joined ∙ is))
 
-    at_size : (length left + 1 ≡ size) ⊎ (length left + 1 < size)
-    at_size =
-        let more : length left + 1 ≤ size = omega (arith, room) in
-        eq-or-lt_of_le more
+    module _ (new : Writer) (fault : WriteFault)
+        (single : IsSome size.bytes → fault ≡ w.TooLong → RefusesBatch writer.limits s (batch_of (row ∷ [])) w.TooLong) where
+      only_row : IsSome size.bytes → fault ≡ w.TooLong → (before : List (List Value)) (other : List Value)
+          → came.rows ≡ before ++ other ∷ [] → RefusesBatch writer.limits s (batch_of (other ∷ [])) w.TooLong
+      only_row bytes is before other rows =
+          subst (λ z. RefusesBatch writer.limits s (batch_of (z ∷ [])) w.TooLong) (last_row before other rows) (single bytes is)
 
-    -- a conversion stops where the last row isn't taken
-    pub row_stops : (new : Writer) (fault : WriteFault) → RefusesPending writer.limits writer.schema (batch_of (left ++ row ∷ []))
-        writer.failed fault → StaysAt writer new fault → StopsWriting d input s size old new.written failures new.failures fault
-    row_stops new fault refuses stays =
-        let same = subst (λ z. RefusesPending writer.limits z (batch_of (left ++ row ∷ [])) writer.failed fault) came.out.same_schema
-        refuses in
-        row_refused new fault (held_refused writer.limits s (left ++ row ∷ []) fault
-        (subst (λ f. RefusesPending writer.limits s (batch_of (left ++ row ∷ [])) f fault) came.out.works same))
-        (held_unsent _ writer.limits s (batch_of (left ++ row ∷ [])) writer new fault same stays)
-        (held_unwritten writer.limits s (batch_of (left ++ row ∷ [])) writer.failed fault same) at_size
+      row_refused : RefusesBatch writer.limits s (batch_of (left ++ row ∷ [])) fault
+          → NotSentWhole (SendsBatch writer.limits s (kept_after s.fields (kept_at_start s) came.batches) (batch_of (left ++ row ∷ [])))
+          writer.written new.written writer.failures new.failures fault → ¬ (fault ≡ w.Write)
+          → (length left + 1 ≡ size.rows) ⊎ (length left + 1 < size.rows)
+          → StopsWriting d input s size old new.written failures new.failures fault
+      row_refused refuses unsent other (inl full) =
+          let longer = length_push left row in
+          full_stops (left ++ row ∷ []) came new fault (λ _. accepts_before) only_row (left ++ row ∷ []) []
+          (sym (append-nil (left ++ row ∷ []))) refuses unsent (in_rows (omega (arith, full, longer))) (omega (arith, full))
+      row_refused refuses unsent other (inr few) =
+          let longer = length_push left row in
+          few_stops (left ++ row ∷ []) came new fault refuses unsent (λ _. accepts_before) only_row (omega (arith, longer))
+          (omega (arith, few, longer)) (λ is. absurd (other is))
+
+      at_size : (length left + 1 ≡ size.rows) ⊎ (length left + 1 < size.rows)
+      at_size =
+          let more : length left + 1 ≤ size.rows = omega (arith, room) in
+          eq-or-lt_of_le more
+
+      -- a conversion stops where the last row isn't taken
+      pub row_stops : RefusesPending writer.limits writer.schema (batch_of (left ++ row ∷ [])) writer.failed fault
+          → StaysAt writer new fault → StopsWriting d input s size old new.written failures new.failures fault
+      row_stops refuses stays =
+          let same = subst (λ z. RefusesPending writer.limits z (batch_of (left ++ row ∷ [])) writer.failed fault) came.out.same_schema
+          refuses in
+          row_refused (held_refused writer.limits s (left ++ row ∷ []) fault
+          (subst (λ f. RefusesPending writer.limits s (batch_of (left ++ row ∷ [])) f fault) came.out.works same))
+          (held_unsent _ writer.limits s (batch_of (left ++ row ∷ [])) writer new fault same stays)
+          (held_unwritten writer.limits s (batch_of (left ++ row ∷ [])) writer.failed fault same) at_size
 
   -- a conversion stops where no batch is begun for the first row
-  pub begin_stops : (row : List Value) → Came d remaining input s size old failures now writer (row ∷ []) → 0 < size → (new : Writer)
+  pub begin_stops : (row : List Value) → Came d remaining input s size old failures now writer (row ∷ []) → 0 < size.rows → (new : Writer)
       (fault : WriteFault) → RefusesPending writer.limits writer.schema (no_rows []) writer.failed fault → StaysAt writer new fault
       → StopsWriting d input s size old new.written failures new.failures fault
   begin_stops row came some new fault refuses stays =
       let same = subst (λ z. RefusesPending writer.limits z (no_rows []) writer.failed fault) came.out.same_schema refuses in
+      let at_row = refused_at_first writer.limits s [] (row ∷ []) 0 fault
+      (subst (λ f. RefusesPending writer.limits s (no_rows []) f fault) came.out.works same) in
       row_refused [] row came (λ none. absurd (omega (arith, none))) some new fault
-      (refused_at_first writer.limits s [] (row ∷ []) 0 fault
-      (subst (λ f. RefusesPending writer.limits s (no_rows []) f fault) came.out.works same))
+      (λ _ is. subst (RefusesBatch writer.limits s (batch_of (row ∷ []))) is at_row) at_row
       (held_unsent _ writer.limits s (no_rows []) writer new fault same stays)
       (held_unwritten writer.limits s (no_rows []) writer.failed fault same) (eq-or-lt_of_le (omega (arith, some)))
 
-  -- a conversion stops where an accepted batch isn't sent
-  pub send_stops : (left : List (List Value)) (came : Came d remaining input s size old failures now writer left) (new : Writer)
-      (fault : WriteFault) → 0 < size → AcceptsBatch writer.limits s (batch_of left)
+  -- a conversion stops where an accepted batch isn't sent: a full one, or the last one behind all records
+  module _ (left : List (List Value)) (came : Came d remaining input s size old failures now writer left) (rows next : List (List Value))
+      (is : left ≡ rows ++ next) (accepts : AcceptsBatch writer.limits s (batch_of rows)) (new : Writer) (fault : WriteFault)
+      (leaves : LeavesBatch writer (batch_of rows) new (Err fault))
+      (judged : ¬ (fault ≡ w.Failed) → RefusesBatch writer.limits writer.schema (batch_of rows) fault) where
+    send_refuses : RefusesBatch writer.limits s (batch_of rows) fault
+    send_refuses = subst (λ z. RefusesBatch writer.limits z (batch_of rows) fault) came.out.same_schema
+        (judged (not_failed d _ (kept_after writer.schema.fields writer.kept (batch_of rows ∷ [])) writer new fault came.out.works leaves))
+
+    send_unsent : NotSentWhole (SendsBatch writer.limits s (kept_after s.fields (kept_at_start s) came.batches) (batch_of rows))
+        writer.written new.written writer.failures new.failures fault
+    send_unsent = as_out size s came.batches old failures writer new came.out (batch_of rows)
+        (λ z. NotSentWhole (SendsBatch z.limits z.schema z.kept (batch_of rows)) writer.written new.written writer.failures new.failures
+        fault)
+        (leaves_unsent d _ (kept_after writer.schema.fields writer.kept (batch_of rows ∷ [])) writer new fault came.out.works leaves)
+
+    send_other : ¬ IsOfLengths fault
+    send_other = accepted_other writer.limits s (batch_of rows) fault accepts send_refuses
+
+    pub send_full_stops : IsFull writer.limits s size rows next → length next < size.rows
+        → StopsWriting d input s size old new.written failures new.failures fault
+    send_full_stops = full_stops left came new fault (λ lengths. absurd (send_other lengths))
+        (λ _ long. absurd (send_other (subst IsOfLengths (sym long) tt))) rows next is send_refuses send_unsent
+
+  pub send_last_stops : (left : List (List Value)) (came : Came d remaining input s size old failures now writer left)
+      → AcceptsBatch writer.limits s (batch_of left) → (new : Writer) (fault : WriteFault)
       → LeavesBatch writer (batch_of left) new (Err fault)
-      → (¬ (fault ≡ w.Failed) → RefusesBatch writer.limits writer.schema (batch_of left) fault)
-      → (length left ≡ size)
-      ⊎ ((0 < length left) × (length left < size) × AreRecordsOf d input (names s.fields ∷ came.records))
-      → StopsWriting d input s size old new.written failures new.failures fault
-  send_stops left came new fault some accepts leaves judged whole =
-      let sent = kept_after writer.schema.fields writer.kept (batch_of left ∷ []) in
-      let refuses = subst (λ z. RefusesBatch writer.limits z (batch_of left) fault) came.out.same_schema
-      (judged (not_failed d _ sent writer new fault came.out.works leaves)) in
-      let unsent = as_out s came.batches old failures writer new came.out (batch_of left)
-      (λ z. NotSentWhole (SendsBatch z.limits z.schema z.kept (batch_of left)) writer.written new.written writer.failures new.failures
-      fault)
-      (leaves_unsent d _ sent writer new fault came.out.works leaves) in
-      let other = accepted_other writer.limits s (batch_of left) fault accepts refuses in
-      elim whole [
-        | inl full ↦ full_stops left came new fault refuses unsent (λ is. absurd (other is)) some full
-        | inr last ↦ few_stops left came new fault refuses unsent (λ is. absurd (other is)) last.0 last.1 (λ _. last.2)
-      ]
+      → (¬ (fault ≡ w.Failed) → RefusesBatch writer.limits writer.schema (batch_of left) fault) → 0 < length left → length left < size.rows
+      → AreRecordsOf d input (names s.fields ∷ came.records) → StopsWriting d input s size old new.written failures new.failures fault
+  send_last_stops left came accepts new fault leaves judged some few all =
+      let same = sym (append-nil left) in
+      few_stops left came new fault (send_refuses left came left [] same accepts new fault leaves judged)
+      (send_unsent left came left [] same accepts new fault leaves judged)
+      (λ lengths. absurd (send_other left came left [] same accepts new fault leaves judged lengths))
+      (λ _ long. absurd (send_other left came left [] same accepts new fault leaves judged (subst IsOfLengths (sym long) tt)))
+      some few (λ _. all)

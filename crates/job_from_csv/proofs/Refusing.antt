@@ -14,9 +14,10 @@ use Rattle.ipc_model.specs.declared.value.Value.{Value}
 use Rattle.ipc_stream.specs.Writing.{AreMismatches, RefusesBatch, RefusesFirst, RefusesNext, RefusesSchema, many_slots, many_values}
 use Rattle.ipc_stream.proofs.OverLimit.{none_full, none_over}
 use Rattle.ipc_text_csv.specs.CsvRows.{EachReadsAs}
-use Rattle.job_from_csv.specs.Batches.{IsFullBatch, last_batch}
+use Rattle.job_from_csv.specs.Batches.{AreFull, IsFull, in_bytes, in_rows, last_batch}
 use Rattle.job_from_csv.specs.Conversion.{AnswersConversion, IsLeftToRefuse, StopsFor, StopsWriting, table_of_batches}
 use Rattle.ipc_text_csv.specs.Records.{EachRecordReadsAs}
+use Rattle.job_from_csv.specs.declared.batch_size.BatchSize.{BatchSize}
 use Rattle.job_from_csv.specs.declared.stop.FromCsvStop.{FromCsvStop}
 use Rattle.job_from_csv.specs.declared.stop.FromCsvStop.TheVariants as stop
 use Rattle.job_from_csv.proofs.FlatNodes.{AreFlat, are_flat, flat_rows}
@@ -78,15 +79,21 @@ record IsGood (fields : List Field) (size : ℕ) (b : BatchRows) : Type 0 where
   fit : AllByRecursion (RowFits fields) b.rows
   few : length b.rows ≤ size
 
-good_batches : (fields : List Field) (size : ℕ) (batches : List BatchRows) (left : List (List Value)) → length left ≤ size
-    → AllByRecursion (IsFullBatch size) batches → AllByRecursion (RowFits fields) (flat_map (λ b. b.rows) batches ++ left)
-    → AllByRecursion (IsGood fields size) (batches ++ last_batch left)
-good_batches fields size [] [] few full fit = tt
-good_batches fields size [] (row ∷ left) few full fit = (record { fit = fit; few = few }, tt)
-good_batches fields size (b ∷ batches) left few full fit =
-    let here = subst (AllByRecursion (RowFits fields)) (append_assoc b.rows (flat_map (λ b. b.rows) batches) left) fit in (
-      record { fit = all_front (RowFits fields) b.rows _ here; few = omega (arith, full.0.rows) },
-      good_batches fields size batches left few full.1 (all_back (RowFits fields) b.rows _ here),
+few_full : (limits : Limits) (s : Schema) (size : BatchSize) (rows next : List (List Value)) → IsFull limits s size rows next
+    → length rows ≤ size.rows
+few_full limits s size rows next (in_rows full) = omega (arith, full)
+few_full limits s size rows next (in_bytes bytes some few row rest is long) = omega (arith, few)
+
+good_batches : (limits : Limits) (s : Schema) (size : BatchSize) (batches : List BatchRows) (left : List (List Value))
+    → length left ≤ size.rows → AreFull limits s size batches left
+    → AllByRecursion (RowFits s.fields) (flat_map (λ b. b.rows) batches ++ left)
+    → AllByRecursion (IsGood s.fields size.rows) (batches ++ last_batch left)
+good_batches limits s size [] [] few full fit = tt
+good_batches limits s size [] (row ∷ left) few full fit = (record { fit = fit; few = few }, tt)
+good_batches limits s size (b ∷ batches) left few full fit =
+    let here = subst (AllByRecursion (RowFits s.fields)) (append_assoc b.rows (flat_map (λ b. b.rows) batches) left) fit in (
+      record { fit = all_front (RowFits s.fields) b.rows _ here; few = few_full limits s size b.rows _ full.1 },
+      good_batches limits s size batches left few full.2 (all_back (RowFits s.fields) b.rows _ here),
     )
 
 -- ---- what is left
@@ -131,21 +138,22 @@ next_left d limits s size flat within batches good (suc count) fault r =
     first_left limits s size flat within (drop count batches) (all_drop (IsGood s.fields size) batches count good) fault r
 
 -- of the rows of records the writer refuses only what is left
-pub left_to_refuse : (d : Dialect) (input : Option (List ℕ)) (s : Schema) (size : ℕ) (old new : Option (List ℕ)) (f0 f1 : ℕ) (fault :
-    WriteFault)
-    → size ≤ 2 ^ 31 - 1 → StopsWriting d input s size old new f0 f1 fault → IsLeftToRefuse s fault
+pub left_to_refuse : (d : Dialect) (input : Option (List ℕ)) (s : Schema) (size : BatchSize) (old new : Option (List ℕ)) (f0 f1 : ℕ) (fault
+    : WriteFault)
+    → size.rows ≤ 2 ^ 31 - 1 → StopsWriting d input s size old new f0 f1 fault → IsLeftToRefuse s fault
 left_to_refuse d input s size old new f0 f1 fault within stops =
     let fill = stops.batched.fill in
     let fit = rows_fit d s.fields stops.records stops.batched.rows stops.batched.read in
-    let good = good_batches s.fields size stops.batches stops.left (omega (arith, fill.few)) fill.full
+    let good = good_batches stops.limits s size stops.batches stops.left (omega (arith, fill.few)) fill.full
     (subst (AllByRecursion (RowFits s.fields)) (sym fill.joined) fit) in
-    next_left d stops.limits s size (are_flat s.fields stops.batched.flat) (omega (arith, within, stops.standard.slots))
+    next_left d stops.limits s size.rows (are_flat s.fields stops.batched.flat)
+    (omega (arith, within, stops.within.standard.slots, stops.within.values.slots_is))
     (stops.batches ++ last_batch stops.left) good stops.breaks.count fault stops.breaks.refuses
 
 -- the same of an answer
-pub answers_left : (d : Dialect) (input : Option (List ℕ)) (s : Schema) (size : ℕ) (old new : Option (List ℕ)) (f0 f1 : ℕ) (r : Result Unit
-    FromCsvStop)
-    → size ≤ 2 ^ 31 - 1 → AnswersConversion d input s size old new f0 f1 r
+pub answers_left : (d : Dialect) (input : Option (List ℕ)) (s : Schema) (size : BatchSize) (old new : Option (List ℕ)) (f0 f1 : ℕ)
+    (r : Result Unit FromCsvStop)
+    → size.rows ≤ 2 ^ 31 - 1 → AnswersConversion d input s size old new f0 f1 r
     → IfErr r (λ why. (fault : WriteFault) → why ≡ stop.Write fault → IsLeftToRefuse s fault)
 answers_left d input s size old new f0 f1 (Ok x) within answers = tt
 answers_left d input s size old new f0 f1 (Err why) within answers = λ fault is.

@@ -18,27 +18,27 @@ returns-then-not-has_header-clause-converts g c = λ input stands.
 pub returns-in-Err-started-clause-converts : goal.returns-in-Err-started-clause-converts
 returns-in-Err-started-clause-converts g c = λ input stands.
     let has = rw c.if-not-has_header.false at (c.in-Ok.ensures.finds c.args.dialect input c.requires.set_up stands c.requires.first) in
-    start_stops c.args.dialect g.R.Read.remaining input _ _ _ _ _ _ c.read_header.new.self.reader _ _ c.standard.ensures c.requires.some
+    start_stops c.args.dialect g.R.Read.remaining input _ _ _ _ _ _ c.read_header.new.self.reader _ _ c.limits.ensures c.requires.some
     has.flat has.stands c.in-Err-started.ensures.refused
 
 pub returns-in-Ok-finish-clause-converts : goal.returns-in-Ok-finish-clause-converts
 returns-in-Ok-finish-clause-converts g c = λ input stands.
     let has = rw c.if-not-has_header.false at (c.in-Ok.ensures.finds c.args.dialect input c.requires.set_up stands c.requires.first) in
-    let out = starts_out _ _ _ c.in-Ok-started.stream c.standard.ensures c.in-Ok-started.ensures.started in
+    let out = starts_out _ _ _ _ c.in-Ok-started.stream c.limits.ensures c.in-Ok-started.ensures.started in
     all_converts c.args.dialect _ _ _ _ _ c.send_records.new.stream (c.in-Ok-send_records.ensures.sends input _ _ (has, out)) _ _ _
     c.in-Ok-finish.ensures.finished
 
 pub returns-in-Err-finish-clause-converts : goal.returns-in-Err-finish-clause-converts
 returns-in-Err-finish-clause-converts g c = λ input stands.
     let has = rw c.if-not-has_header.false at (c.in-Ok.ensures.finds c.args.dialect input c.requires.set_up stands c.requires.first) in
-    let out = starts_out _ _ _ c.in-Ok-started.stream c.standard.ensures c.in-Ok-started.ensures.started in
+    let out = starts_out _ _ _ _ c.in-Ok-started.stream c.limits.ensures c.in-Ok-started.ensures.started in
     end_stops c.args.dialect _ _ _ _ _ c.send_records.new.stream (c.in-Ok-send_records.ensures.sends input _ _ (has, out)) _ _ _
     c.in-Err-finish.ensures.refused
 
 pub returns-in-Err-send_records-clause-converts : goal.returns-in-Err-send_records-clause-converts
 returns-in-Err-send_records-clause-converts g c = λ input stands.
     let has = rw c.if-not-has_header.false at (c.in-Ok.ensures.finds c.args.dialect input c.requires.set_up stands c.requires.first) in
-    let out = starts_out _ _ _ c.in-Ok-started.stream c.standard.ensures c.in-Ok-started.ensures.started in
+    let out = starts_out _ _ _ _ c.in-Ok-started.stream c.limits.ensures c.in-Ok-started.ensures.started in
     rw (c.into_inner.ensures.written, c.into_inner.ensures.failures) (c.in-Err-send_records.ensures.sends input _ _ (has, out))
 
 pub send_records-requires-clause-set_up : goal.send_records-requires-clause-set_up
