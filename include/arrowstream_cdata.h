@@ -13,8 +13,8 @@
  *   - `out` may be written. What is exported there is released once, by its `release`;
  *   - a schema, array or stream that is imported is as the interface demands. Its buffers are as
  *     long as its lengths and offsets state;
- *   - an exporter and a stream are used on the thread that made them, by one call at a time.
- *     Schemas and arrays may be used, moved and released by any thread.
+ *   - an exporter and a stream are used by one call at a time. Any thread may use, move and release
+ *     them, schemas and arrays.
  *
  * Each call returns 0, or an error of errno.h: EINVAL, ENOMEM, ENOTSUP for a type that is not
  * supported, or what a callback returned. Then `out` is released or was not set, and `message` has

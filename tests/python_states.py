@@ -38,12 +38,19 @@ def rows_of(arrowstream, stream):
     return [list(batch.rows()) for batch in arrowstream.read(stream)]
 
 
+def on_threads(calls):
+    """Makes each call on a thread of its own, at the same time."""
+    threads = [threading.Thread(target=call) for call in calls]
+    for thread in threads:
+        thread.start()
+    for thread in threads:
+        thread.join()
+
+
 def on_another_thread(call):
     """The result of a call on another thread."""
     found = []
-    thread = threading.Thread(target=lambda: found.append(call()))
-    thread.start()
-    thread.join()
+    on_threads([lambda: found.append(call())])
     return found[0]
 
 
@@ -123,44 +130,71 @@ def a_decoder_takes_pieces(arrowstream):
     raised(arrowstream.ArrowError, arrowstream.Decoder().close)
 
 
-def readers_and_writers_stay_on_their_thread(arrowstream):
+def readers_and_writers_change_threads(arrowstream):
     reader = arrowstream.read(INT32)
-    batch = next(reader)
-    writer = arrowstream.Writer(io.BytesIO(), reader.schema)
-    for call in (lambda: next(reader), lambda: writer.write_row((1,)), writer.close):
-        on_another_thread(lambda call=call: raised(RuntimeError, call))
-    assert on_another_thread(lambda: list(batch.rows())) == ROWS
+    batch = on_another_thread(lambda: next(reader))
+    assert list(batch.rows()) == ROWS
+    file = io.BytesIO()
+    writer = arrowstream.Writer(file, reader.schema)
+    on_another_thread(lambda: writer.write_row((1,)))
+    writer.write_row((2,))
+    on_another_thread(writer.close)
+    assert rows_of(arrowstream, file.getvalue()) == [[(1,), (2,)]]
 
 
-def handles_are_freed_on_their_thread(arrowstream):
-    freed = []
+def threads_take_turns_at_a_reader(arrowstream):
+    schema, count = schema_of(arrowstream, ("int", 32)), 500
+    stream = written(arrowstream, schema, [[(number,)] for number in range(count)])
+    reader, found = arrowstream.read(stream), [[] for _ in range(4)]
 
-    def free(handle):
-        freed.append(threading.get_ident())
-        own(handle)
+    def take(own):
+        for batch in reader:
+            own.extend(batch.rows())
 
-    with Replaced("arrowstream_reader_free", free) as own:
-        held = [arrowstream.Decoder()]
-        on_another_thread(held.clear)
-        assert not freed
-        held.append(arrowstream.Decoder())
-        assert freed == [threading.get_ident()]
-        held.clear()
-    assert freed == [threading.get_ident()] * 2
+    on_threads(lambda own=own: take(own) for own in found)
+    assert sorted(row for own in found for row in own) == [(number,) for number in range(count)]
+
+
+def threads_take_turns_at_a_writer(arrowstream):
+    schema, file = schema_of(arrowstream, ("int", 32)), io.BytesIO()
+
+    def add(first):
+        for number in range(first, first + 250):
+            writer.write_row((number,))
+            if number % 10 == 0:
+                writer.send()
+
+    with arrowstream.Writer(file, schema) as writer:
+        on_threads(lambda first=first: add(first) for first in range(0, 1000, 250))
+    rows = [row for batch in rows_of(arrowstream, file.getvalue()) for row in batch]
+    assert sorted(rows) == [(number,) for number in range(1000)]
+
+
+class HandedOn:
+    """A batch as another library hands it on."""
+
+    def __init__(self, batch):
+        self.__arrow_c_array__ = batch.__arrow_c_array__
+
+
+def arrays_are_taken_by_their_values(arrowstream):
+    rows = [(1,), (-2,), (2**20,)]
+    wide = schema_of(arrowstream, ("int", 64))
+    (batch,) = arrowstream.read(written(arrowstream, schema_of(arrowstream, ("int", 32)), [rows]))
+    file = io.BytesIO()
+    with arrowstream.Writer(file, wide) as writer:
+        writer.write_batch(HandedOn(batch))
+    assert rows_of(arrowstream, file.getvalue()) == [rows]
+    writer = arrowstream.Writer(io.BytesIO(), schema_of(arrowstream, ("int", 8)))
+    error = raised(arrowstream.ArrowError, lambda: writer.write_batch(HandedOn(batch)))
+    assert str(error) == "W4 OutOfRange at row 2 path 0"
 
 
 def threads_share_a_batch(arrowstream):
     schema = schema_of(arrowstream, ("int", 32))
     batch = next(arrowstream.read(written(arrowstream, schema, [[(1,)] * 1000])))
     found = []
-    threads = [
-        threading.Thread(target=lambda: found.append(sum(batch.column(0).to_list())))
-        for _ in range(8)
-    ]
-    for thread in threads:
-        thread.start()
-    for thread in threads:
-        thread.join()
+    on_threads([lambda: found.append(sum(batch.column(0).to_list()))] * 8)
     assert found == [1000] * 8
 
 
@@ -261,8 +295,10 @@ STATES = [
     no_byte_after_the_mark_is_read,
     a_path_and_bytes_are_read,
     a_decoder_takes_pieces,
-    readers_and_writers_stay_on_their_thread,
-    handles_are_freed_on_their_thread,
+    readers_and_writers_change_threads,
+    threads_take_turns_at_a_reader,
+    threads_take_turns_at_a_writer,
+    arrays_are_taken_by_their_values,
     threads_share_a_batch,
     a_batch_stays_when_others_are_given_back,
     want_of_memory_is_no_refusal,

@@ -2,11 +2,9 @@
 
 from __future__ import annotations
 
-import collections
 import ctypes
 import os
 import pathlib
-import threading
 import types
 from typing import Any, Callable
 
@@ -160,8 +158,8 @@ _CALLS: dict[str, tuple[Any, list[Any]]] = {
 }
 
 
-# Calls that may take long: Python goes on in other threads meanwhile. A reader and a writer stay on
-# their thread, and a batch has a lock.
+# Calls that may take long: Python goes on in other threads meanwhile. Each reader, writer and batch
+# has a lock.
 _LONG = (
     "arrowstream_reader_feed",
     "arrowstream_batch_buffer",
@@ -190,43 +188,6 @@ def _load() -> types.SimpleNamespace:
 
 
 library = _load()
-
-
-class _Left(threading.local):
-    """The handles of this thread that another one dropped, with the calls that free them."""
-
-    def __init__(self) -> None:
-        self.handles: collections.deque[tuple[Any, Any]] = collections.deque()
-
-
-_left = _Left()
-
-
-class Home:
-    """The thread that made a reader or a writer of the library, which alone may use and free it."""
-
-    def __init__(self) -> None:
-        self._handles = _left.handles
-        while self._handles:
-            call, handle = self._handles.popleft()
-            call(handle)
-
-    def is_here(self) -> bool:
-        """Whether this is that thread."""
-        return _left.handles is self._handles
-
-    def check(self, name: str) -> None:
-        """Raises RuntimeError on another thread."""
-        if not self.is_here():
-            raise RuntimeError(f"a {name} stays on the thread that made it")
-
-    def free(self, call: Any, handle: ctypes.c_void_p) -> None:
-        """Frees a handle. On another thread this is left to the home, which does it when it next
-        makes a reader or a writer."""
-        if self.is_here():
-            call(handle)
-        else:
-            self._handles.append((call, handle))
 
 
 def text_of(call: Callable[..., int], handle: ctypes.c_void_p) -> str | None:

@@ -116,7 +116,7 @@ def _check(error: int, message: c.Message) -> None:
 
 
 class _Exporter:
-    """An exporter of batches of a schema, for one call: it stays on the thread that made it."""
+    """An exporter of batches of a schema, for one call."""
 
     def __init__(self, schema: Schema):
         self.handle, self.message = ctypes.c_void_p(), c.Message()

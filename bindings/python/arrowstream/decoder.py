@@ -3,6 +3,7 @@
 from __future__ import annotations
 
 import ctypes
+import threading
 import weakref
 from typing import Any
 
@@ -21,8 +22,7 @@ class Decoder:
                 print(batch)
         decoder.close()
 
-    Use a decoder on the thread that made it: any other thread gets a RuntimeError. Its batches may
-    be used by any thread.
+    Any thread may use a decoder and its batches. Calls from several threads take turns.
     """
 
     def __init__(
@@ -42,7 +42,7 @@ class Decoder:
         return decoder
 
     def _begin(self, limits: c.Limits) -> None:
-        self._home = c.Home()
+        self._lock = threading.RLock()
         self._schema: Schema | None = None
         self._end: str | None = None
         self._unused = b""
@@ -57,7 +57,7 @@ class Decoder:
 
     def __del__(self) -> None:
         if getattr(self, "_handle", None):
-            self._home.free(c.library.arrowstream_reader_free, self._handle)
+            c.library.arrowstream_reader_free(self._handle)
 
     @property
     def schema(self) -> Schema | None:
@@ -87,7 +87,11 @@ class Decoder:
         Raises ArrowError if the stream is refused, and MemoryError if memory runs out. If batches
         came before that in these bytes, they are returned, and the next call raises.
         """
-        piece, taken = bytes(data), 0
+        with self._lock:
+            return self._feed_all(bytes(data))
+
+    def _feed_all(self, piece: bytes) -> list[Batch]:
+        taken = 0
         batches: list[Batch] = []
         start = ctypes.cast(ctypes.c_char_p(piece), ctypes.c_void_p).value or 0
         while taken < len(piece) and self._end is None:
@@ -113,15 +117,14 @@ class Decoder:
 
         Raises ArrowError if the stream may not end here, or was refused.
         """
-        self._home.check("reader")
-        if self._end is None:
-            self._raise(c.library.arrowstream_reader_close(self._handle, self._progress))
-            self._end = "mark" if self._progress.event == c.END else "closed"
-        return self._end
+        with self._lock:
+            if self._end is None:
+                self._raise(c.library.arrowstream_reader_close(self._handle, self._progress))
+                self._end = "mark" if self._progress.event == c.END else "closed"
+            return self._end
 
     def _step(self, start: Any, size: int) -> Batch | None:
         """Takes bytes up to the next event, and returns the batch if one came."""
-        self._home.check("reader")
         self._raise(c.library.arrowstream_reader_feed(self._handle, start, size, self._progress))
         event = self._progress.event
         if event == c.SCHEMA:
@@ -144,11 +147,14 @@ class Decoder:
         return Batch(handle, self._schema, self._decoded, take_back)
 
     def _reuse(self, batch: ctypes.c_void_p) -> bool:
-        """Reads the next body into the memory of a batch. Returns whether this is the thread for
-        it."""
-        if not self._home.is_here():
+        """Takes a batch back, so that the next body is read into its memory. Returns false, and takes
+        none, while another thread uses the decoder."""
+        if not self._lock.acquire(blocking=False):
             return False
-        c.library.arrowstream_reader_reuse(self._handle, batch)
+        try:
+            c.library.arrowstream_reader_reuse(self._handle, batch)
+        finally:
+            self._lock.release()
         return True
 
     def _raise(self, status: int) -> None:

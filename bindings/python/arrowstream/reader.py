@@ -29,9 +29,9 @@ Source = Union[str, "os.PathLike[str]", bytes, bytearray, memoryview, Readable]
 class Reader:
     """A stream that is read. Iterate over it to get its batches.
 
-    Use a reader on the thread that made it: any other thread gets a RuntimeError. Its batches may
-    be used by any thread. At the end of `with` the reader is closed, and so is the file if the
-    reader opened it.
+    Any thread may use a reader and its batches. Calls from several threads take turns, so that
+    each batch is given to one of them. At the end of `with` the reader is closed, and so is the
+    file if the reader opened it.
     """
 
     def __init__(self, file: Readable, decoder: Decoder, *, owns: Any = None):
@@ -75,8 +75,8 @@ class Reader:
 
     def __arrow_c_stream__(self, requested_schema: Any = None) -> Any:
         """The batches that were not read yet, for other libraries: a capsule of the Arrow C stream
-        interface. It reads as the consumer asks for batches, which has to be on this thread. Its
-        schema is that of the reader, whatever is requested."""
+        interface. It reads as the consumer asks for batches. Its schema is that of the reader,
+        whatever is requested."""
         return stream_capsule(self)
 
     def read_all(self) -> list[Batch]:
@@ -92,17 +92,17 @@ class Reader:
     def _advance(self) -> Batch | None:
         """Reads no more bytes than come before the next decision, and returns the batch if they
         complete one. So no byte after the end-of-stream mark is read."""
-        self._decoder._home.check("reader")
-        if self._is_closed:
-            raise ValueError("the reader is closed")
-        size = min(self._decoder.wanted, _PIECE)
-        count = self._file.readinto(self._room[:size]) if size else 0
-        if count is None:
-            raise BlockingIOError("the file has no bytes yet")
-        if not count:
-            self._decoder.close()
-            return None
-        return self._decoder._feed_wanted(self._room[:count])
+        with self._decoder._lock:
+            if self._is_closed:
+                raise ValueError("the reader is closed")
+            size = min(self._decoder.wanted, _PIECE)
+            count = self._file.readinto(self._room[:size]) if size else 0
+            if count is None:
+                raise BlockingIOError("the file has no bytes yet")
+            if not count:
+                self._decoder.close()
+                return None
+            return self._decoder._feed_wanted(self._room[:count])
 
 
 def read(

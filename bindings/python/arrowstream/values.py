@@ -10,7 +10,7 @@ import operator
 import re
 import zoneinfo
 from itertools import compress
-from typing import TYPE_CHECKING, Any, Callable, Iterator
+from typing import TYPE_CHECKING, Any, Callable, Dict, Iterator
 
 if TYPE_CHECKING:
     from .batch import Column
@@ -153,9 +153,17 @@ def _durations(numbers: list[int], unit: str) -> Iterator[datetime.timedelta]:
     return map(one.__mul__, numbers)
 
 
+class _Dates(Dict[int, datetime.date]):
+    """The dates of days. Each is made once, since the days of a column mostly repeat."""
+
+    def __missing__(self, day: int) -> datetime.date:
+        date = self[day] = datetime.date.fromordinal(EPOCH_DAY + day)
+        return date
+
+
 def _dates(numbers: list[int], unit: str) -> Iterator[datetime.date]:
     days = numbers if unit == "day" else _divided(numbers, unit, PER_DAY_MS, "days")
-    return map(datetime.date.fromordinal, map(EPOCH_DAY.__add__, days))
+    return map(_Dates().__getitem__, days)
 
 
 def _times(numbers: list[int], unit: str) -> Iterator[datetime.time]:

@@ -3,8 +3,10 @@
 from __future__ import annotations
 
 import ctypes
+import functools
 import json
-from typing import Any, BinaryIO, Dict, Iterable, Sequence, Union
+import threading
+from typing import Any, BinaryIO, Callable, Dict, Iterable, Sequence, TypeVar, Union, cast
 
 from . import _library as c
 from . import cdata
@@ -20,6 +22,18 @@ _PIECE = 1 << 20
 
 # A value for each column: in order, or by the names of the columns.
 Row = Union[Sequence[Any], Dict[str, Any]]
+_Method = TypeVar("_Method", bound=Callable[..., Any])
+
+
+def _in_turn(method: _Method) -> _Method:
+    """A method of a writer that waits while another thread runs one."""
+
+    @functools.wraps(method)
+    def run(writer: Writer, *arguments: Any, **named: Any) -> Any:
+        with writer._lock:
+            return method(writer, *arguments, **named)
+
+    return cast(_Method, run)
 
 
 def _schema_at(address: int) -> Schema:
@@ -61,9 +75,9 @@ class Writer:
     exception they are not: the stream ends without its mark. Bytes are written as each batch is
     sent, so memory holds one batch.
 
-    A refused row, batch or schema raises ArrowError. Use a writer on the thread that made it: any
-    other thread gets a RuntimeError. A closed writer raises ValueError, and a writer is closed
-    when its file raises an exception.
+    A refused row, batch or schema raises ArrowError. A closed writer raises ValueError, and a
+    writer is closed when its file raises an exception. Any thread may use a writer, and calls from
+    several threads take turns.
     """
 
     def __init__(
@@ -82,7 +96,7 @@ class Writer:
         Raises ArrowError: X6 if there is no such schema, and W1 or W6 if it breaks a rule or a
         limit. Raises MemoryError if memory runs out.
         """
-        self._home = c.Home()
+        self._lock = threading.RLock()
         self._file = file
         self._waiting = False
         self._handle = ctypes.c_void_p()
@@ -112,6 +126,7 @@ class Writer:
         state = "open" if self._handle else "closed"
         return f"<arrowstream.Writer to {self._file!r}, {state}, columns {self.schema.names}>"
 
+    @_in_turn
     def write_row(self, row: Row) -> None:
         """Adds a row to those that wait for `send`. Values are those of `Column.to_list`: None,
         bool, int, str, bytes, an object of `datetime`, a list, and for a struct a dict, a tuple of
@@ -138,6 +153,7 @@ class Writer:
             self._waiting = was_waiting
             self._raise(status)
 
+    @_in_turn
     def send(self, metadata: Iterable[tuple[str, str]] = ()) -> None:
         """Sends the rows that wait as one batch, with these pairs of key and value. There may be no
         rows.
@@ -159,6 +175,7 @@ class Writer:
         self._waiting = False
         self._flush()
 
+    @_in_turn
     def write_batch(
         self,
         batch: Batch | dict[str, Sequence[Any]] | Iterable[Row],
@@ -195,11 +212,13 @@ class Writer:
             self._drop_waiting()
             raise
 
+    @_in_turn
     def _send_imported(self, source: cdata.Imported) -> None:
         for array in source.arrays:
             cdata.send(self._handle, source.schema, array)
             self._flush()
 
+    @_in_turn
     def close(self) -> None:
         """Sends the rows that wait, if there are any, and the end-of-stream mark. A closed writer
         stays as it is."""
@@ -213,7 +232,6 @@ class Writer:
         self._free()
 
     def _check(self) -> None:
-        self._home.check("writer")
         if not self._handle:
             raise ValueError("the writer is closed")
 
@@ -252,10 +270,11 @@ class Writer:
                 raise BlockingIOError("the file takes no bytes, or does not return how many")
             piece = piece[count:]
 
+    @_in_turn
     def _free(self) -> None:
         handle, self._handle = self._handle, ctypes.c_void_p()
         if handle:
-            self._home.free(c.library.arrowstream_writer_free, handle)
+            c.library.arrowstream_writer_free(handle)
 
 
 def write(

@@ -101,9 +101,12 @@ impl Drop for ArrowArray {
     }
 }
 
-/// Exports batches of one schema. It stays on one thread; what it exports may be used by any.
+/// Exports batches of one schema.
 #[derive(Debug)]
 pub struct Exporter(NonNull<ffi::Exporter>);
+
+// SAFETY: any thread may use an exporter, by one call at a time.
+unsafe impl Send for Exporter {}
 
 impl Exporter {
     /// Creates an exporter of batches whose schema the JSON text states, such as that of

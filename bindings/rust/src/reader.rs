@@ -57,8 +57,8 @@ pub enum End {
     Closed,
 }
 
-/// A stream that is read: an iterator over its batches. It stays on one thread. No byte after the
-/// end-of-stream mark is read from the source.
+/// A stream that is read: an iterator over its batches. It may move to another thread if its source
+/// may. No byte after the end-of-stream mark is read from the source.
 ///
 /// After an error, and after the end, the iterator returns `None`. Only if the source has no bytes
 /// yet ([`ErrorKind::WouldBlock`]) the next call reads on.
@@ -74,9 +74,12 @@ pub struct Reader<R> {
     failed: bool,
 }
 
-// The library's reader. A pointer is neither `Send` nor `Sync`.
+// The library's reader.
 #[derive(Debug)]
 struct Handle(NonNull<ffi::Reader>);
+
+// SAFETY: any thread may use a reader, by one call at a time.
+unsafe impl Send for Handle {}
 
 impl Drop for Handle {
     fn drop(&mut self) {

@@ -31,7 +31,7 @@ pub enum Cell<'a> {
     Struct(&'a [Cell<'a>]),
 }
 
-/// A stream that is written to `sink`. It stays on one thread.
+/// A stream that is written to `sink`. It may move to another thread if the sink may.
 ///
 /// Bytes are written as each batch is sent, so memory holds one batch. If the writer is dropped
 /// before [`Writer::finish`], the stream ends without its end-of-stream mark.
@@ -50,9 +50,12 @@ pub struct Writer<W> {
 // A writer of the library that was not freed.
 pub(crate) type RawWriter = *mut ffi::Writer;
 
-// The library's writer. A pointer is neither `Send` nor `Sync`.
+// The library's writer.
 #[derive(Debug)]
 struct Handle(NonNull<ffi::Writer>);
+
+// SAFETY: any thread may use a writer, by one call at a time.
+unsafe impl Send for Handle {}
 
 impl Drop for Handle {
     fn drop(&mut self) {

@@ -1,4 +1,4 @@
-//! Batches that change their thread.
+//! Readers, writers and batches that change their thread.
 
 use arrowstream::{Batch, Buffer, Cell, Limits, Reader, Writer, DICTIONARY};
 use std::thread;
@@ -37,6 +37,30 @@ fn batches_are_read_while_the_reader_goes_on() {
     for (text, wanted) in texts.expect("values").iter().zip(wanted) {
         assert!(text.starts_with(&wanted));
     }
+}
+
+#[test]
+fn readers_and_writers_change_their_thread() {
+    let mut writer = Writer::open(Vec::new(), SCHEMA, &Limits::standard()).expect("a writer");
+    writer.row(&[Cell::Text("first")]).expect("a row");
+    let mut writer = thread::spawn(move || {
+        writer.send().expect("a batch");
+        writer
+    })
+    .join()
+    .expect("a thread");
+    writer.row(&[Cell::Text("second")]).expect("a row");
+    let stream = thread::spawn(move || writer.finish().expect("a stream"));
+    let stream = stream.join().expect("a thread");
+    let mut reader = Reader::open(&stream[..], &Limits::standard()).expect("a reader");
+    let first = reader.next().expect("a batch").expect("a batch");
+    let rest = thread::scope(|scope| {
+        scope
+            .spawn(move || reader.map(|batch| batch.expect("a batch").rows()).sum::<usize>())
+            .join()
+            .expect("a thread")
+    });
+    assert_eq!((first.rows(), rest), (1, 1));
 }
 
 #[test]

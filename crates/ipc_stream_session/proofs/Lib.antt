@@ -1,3 +1,7 @@
 mod Begun
+mod Given
+mod Invalid
 mod Moved
+mod Pairs
 mod Sent
+pub mod Sendable

@@ -25,7 +25,7 @@ pub sends : (t u : TableState) (b : BatchRows) (after : Writer) (sent : Result �
     → u.stream.failed ≡ false → LeavesBatch u.stream b after sent
     → MatchResult sent (λ _. AcceptsBatch u.stream.limits u.stream.schema b)
     (λ fault. (fault ≡ w.Failed → ⊥) → RefusesBatch u.stream.limits u.stream.schema b fault)
-    → IsAfter after u.schema sent new → SendsBatch t b new sent
+    → IsAfter u after sent new → SendsBatch t b new sent
 sends t u b after sent new is works leaves judged stays = subst (λ (x : TableState). SendsBatch x b new sent) is (record {
   after = after;
   leaves = leaves;

@@ -1,4 +1,4 @@
-use Rattle.std.proofs.Common.{refl, sym, w64, Err}
+use Rattle.std.proofs.Common.{refl, w64, Err}
 use Rattle.std.proofs.lemmas.Int.{to_z-of_z}
 use Rattle.std.proofs.lemmas.Result.{err_from_is_err_and}
 use Rattle.ipc_stream_session.proofs.write_session.WriteSession.try_copy_dictionary.Goals as goal
