@@ -78,7 +78,7 @@ fn read_invocation_and_schema(rt: &HostRuntime) -> Result<(Invocation, SchemaFil
 {
     let invocation = read_command_line(rt)?;
     check_terminals(rt, &invocation.job)?;
-    let schema = open_schema(rt, &invocation.job)?;
+    let schema = open_schema(rt, &invocation)?;
     Ok((invocation, schema))
 }
 
@@ -110,8 +110,15 @@ fn draw_seed(rt: &HostRuntime) -> Seed {
 }
 
 // Appends a line with the system's words for the failure of a device, if the system gave a code. A
-// device that does not wait is no failure of the system's: another program has set it so.
-fn explain_device<W: Write>(alloc: Global, messages: &mut W, name: &str, code: Option<i32>) {
+// device that does not wait is no failure of the system's: another program has set it so. The line
+// begins with the label.
+fn explain_device<W: Write>(
+    alloc: Global,
+    messages: &mut W,
+    label: &str,
+    name: &str,
+    code: Option<i32>,
+) {
     let Some(code) = code else {
         return;
     };
@@ -120,7 +127,7 @@ fn explain_device<W: Write>(alloc: Global, messages: &mut W, name: &str, code: O
         io::ErrorKind::WouldBlock => "; another program has set it not to wait (O_NONBLOCK)",
         _ => "",
     };
-    if let Ok(line) = format!(in alloc; "{name}: {error}{hint}\n") {
+    if let Ok(line) = format!(in alloc; "{label}{name}: {error}{hint}\n") {
         let _ = messages.write_all(line.as_bytes());
     }
 }
@@ -134,7 +141,9 @@ fn run_job(rt: &HostRuntime, invocation: Invocation, schema: SchemaFile) -> Resu
         return Err(Usage::OutOfMemory);
     };
     let mut messages = Device::new(stderr);
-    let mut progress = ProgressLine::start(rt, invocation.progress);
+    let label = String::from_str(alloc, invocation.label.as_str())?;
+    let label = label.as_str();
+    let mut progress = ProgressLine::start(rt, invocation.progress, label);
     let explain = invocation.explain;
     let (status, input, output, file) = run(
         alloc,
@@ -159,7 +168,7 @@ fn run_job(rt: &HostRuntime, invocation: Invocation, schema: SchemaFile) -> Resu
             ("standard output", output.into_inner().code()),
         ];
         for &(name, code) in &devices {
-            explain_device(alloc, &mut messages, name, code);
+            explain_device(alloc, &mut messages, label, name, code);
         }
     }
     let _ = messages.flush();

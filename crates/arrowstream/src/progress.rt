@@ -29,12 +29,13 @@ struct Times {
 /// Writes lines to standard error: the bytes that were read, the batches, the rows, and the speed
 /// in MB/s.
 ///
-/// A line is written after a batch, and at most every five seconds. At a terminal it is written
-/// over the one before, and at most twice a second. `finish` writes the last state. An error of the
-/// clock or of standard error changes nothing else.
+/// Each line begins with the label. A line is written after a batch, and at most every five
+/// seconds. At a terminal it is written over the one before, and at most twice a second. `finish`
+/// writes the last state. An error of the clock or of standard error changes nothing else.
 #[derive(Drop)]
 pub struct ProgressLine<'a> {
     rt: &'a HostRuntime,
+    label: &'a str,
     is_terminal: bool,
     times: Option<Times>,
     counts: Option<Counts>,
@@ -42,7 +43,7 @@ pub struct ProgressLine<'a> {
 
 impl<'a> ProgressLine<'a> {
     /// Starts the clock, or writes nothing at all if `on` is false or there is no clock.
-    pub fn start(rt: &'a HostRuntime, on: bool) -> ProgressLine<'a> {
+    pub fn start(rt: &'a HostRuntime, on: bool, label: &'a str) -> ProgressLine<'a> {
         let times = match Instant::now(rt) {
             Ok(now) if on => Some(Times {
                 start: now,
@@ -52,6 +53,7 @@ impl<'a> ProgressLine<'a> {
         };
         ProgressLine {
             rt,
+            label,
             is_terminal: rt.stderr().is_terminal(),
             times,
             counts: None,
@@ -66,13 +68,14 @@ impl<'a> ProgressLine<'a> {
             rows,
         } = counts;
         let speed = bytes as u128 / elapsed.as_micros().max(1);
+        let label = self.label;
         let (start, end) = if self.is_terminal {
             ("\r", "  ")
         } else {
             ("", "\n")
         };
         let line = format!(in self.rt.alloc();
-            "{start}{bytes} bytes, {batches} batches, {rows} rows, {speed} MB/s{end}"
+            "{start}{label}{bytes} bytes, {batches} batches, {rows} rows, {speed} MB/s{end}"
         );
         if let Ok(line) = line {
             let _ = Retry::new(self.rt.stderr()).write_all(line.as_bytes());

@@ -1,13 +1,13 @@
 //! The file with the schema that a job names.
 use ipc_device::{Device, Retry};
-use job_arguments::{Job, Usage};
+use job_arguments::{Invocation, Job, Usage};
 use std::fs::File;
 use std::io;
 
 /// The file with the schema, or why the system did not open it.
 #[derive(Drop)]
 pub struct SchemaFile {
-    /// Its path; empty if the job names none.
+    /// Its path; empty if the words name none.
     pub path: String,
     /// The file, if it was opened.
     pub file: Option<Device<Retry<File>>>,
@@ -15,9 +15,18 @@ pub struct SchemaFile {
     pub code: Option<i32>,
 }
 
-/// Opens the file with the schema, if the job names one.
-pub fn open_schema(rt: &HostRuntime, job: &Job) -> Result<SchemaFile, Usage> {
-    let Job::FromCsv { schema, .. } = job else {
+// The path of the file with the schema, if the words name one: that of the records, or that which a
+// stream must have.
+fn schema_path(invocation: &Invocation) -> Option<&String> {
+    match &invocation.job {
+        Job::FromCsv { schema, .. } => Some(schema),
+        _ => invocation.expect.as_ref(),
+    }
+}
+
+/// Opens the file with the schema, if the words name one.
+pub fn open_schema(rt: &HostRuntime, invocation: &Invocation) -> Result<SchemaFile, Usage> {
+    let Some(schema) = schema_path(invocation) else {
         return Ok(SchemaFile {
             path: String::new(rt.alloc()),
             file: None,

@@ -1,8 +1,10 @@
 -- What a command line asks for.
 use Rattle.std.specs.Prelude.{◌≡◌, ◌≢◌, ◌⊎◌, ◌↔◌, ◌≤◌, ℕ, ◌^◌, ◌-◌, Bool, IsTrue, List, [], ◌∷◌}
 use Rattle.std.specs.Prelude.{Option, None, Some, ⊤, codes, false, true, string_bytes, ◌++◌, ◌==◌}
-use Rattle.std.specs.Prelude.{slice_get}
-use Rattle.std.specs.List.{starts_with}
+use Rattle.std.specs.Prelude.{IsFalse, String, chars, slice_get}
+use Rattle.std.specs.Char.{is_control}
+use Rattle.std.specs.declared.alloc.Global.{Global}
+use Rattle.std.specs.List.{list_any, starts_with}
 use Rattle.std.specs.Str.Parse.{IsNumeral, digits_value, without_leading_plus}
 use Rattle.clap.specs.Words.{App, IsAmong, Row, Text, app_of, fault_of, first_of, one_of}
 use Rattle.clap.specs.Words.{subcommand_of}
@@ -47,9 +49,30 @@ abbrev pub LacksCount : Text → ℕ → ℕ → List Row → Type 0
 LacksCount name least greatest rows =
     (first_of name rows ≢ None) × LacksNumber name least greatest rows
 
+-- the option has this text, if the words have the option
+abbrev pub HasText : Text → List Row → Option (String Global) → Type 0
+HasText name rows None = first_of name rows ≡ None
+HasText name rows (Some text) = first_of name rows ≡ Some (string_bytes text)
+
 -- the flag is `true` exactly where the words have it
 abbrev pub HasFlag : Text → List Row → Bool → Type 0
 HasFlag name rows flag = IsTrue flag ↔ (one_of name rows ≡ Some (codes "true"))
+
+-- a name that may precede lines: it is not empty, and has no control character
+abbrev pub IsLabel : Text → Type 0
+IsLabel name = (name ≢ []) × IsFalse (list_any is_control (chars name))
+
+-- the options ask for this text before each line of messages: none, or a name with a colon and a
+-- space
+abbrev pub AskForLabel : List Row → String Global → Type 0
+AskForLabel rows label = ((first_of (codes "label") rows ≡ None) × (string_bytes label ≡ []))
+    ⊎ ((name : Text) × (first_of (codes "label") rows ≡ Some name) × IsLabel name
+    × (string_bytes label ≡ name ++ codes ": "))
+
+-- the name that precedes lines is not allowed
+abbrev pub HasWrongLabel : List Row → Type 0
+HasWrongLabel rows =
+    (name : Text) × (first_of (codes "label") rows ≡ Some name) × ¬ IsLabel name
 
 -- the options of a subcommand ask for these limits
 pub record AskForLimits (rows : List Row) (limits : Limits) : Type 0 where
@@ -113,7 +136,7 @@ HasGoodSize (job.Check limits mark) = ⊤
 HasGoodSize (job.Show limits objects pairs count mark) = ⊤
 HasGoodSize (job.ToCsv limits dialect count mark) = ⊤
 HasGoodSize (job.Rewrite limits output mark) = ⊤
-HasGoodSize (job.FromCsv path size dialect strict) = IsBatchSize size
+HasGoodSize (job.FromCsv path size bytes dialect strict) = IsBatchSize size
 
 -- the subcommand of this name, with what was found for its options, asks for this job
 abbrev pub IsJobOf : Text → List Row → Job → Type 0
@@ -132,9 +155,10 @@ IsJobOf name rows (job.ToCsv limits dialect count mark) =
 IsJobOf name rows (job.Rewrite limits output mark) =
     (name ≡ codes "rewrite") × AskForLimits rows limits × AskForOutput rows output
     × HasFlag (codes "require-mark") rows mark
-IsJobOf name rows (job.FromCsv path size dialect strict) = (name ≡ codes "from-csv")
+IsJobOf name rows (job.FromCsv path size bytes dialect strict) = (name ≡ codes "from-csv")
     × (first_of (codes "schema") rows ≡ Some (string_bytes path))
-    × HasNumber (codes "batch") 1 max_slots rows size × AskForDialect rows dialect
+    × HasNumber (codes "batch") 1 max_slots rows size
+    × HasCount (codes "batch-bytes") 0 max_body rows bytes × AskForDialect rows dialect
     × HasFlag (codes "strict") rows strict
 
 -- the subcommand of this name has options for limits
@@ -162,6 +186,8 @@ pub data HasWrongValue (name : Text) (rows : List Row) : Type 0 where
   count : HasLimit name → LacksCount (codes "limit") 0 (2 ^ 64 - 1) rows → HasWrongValue name rows
   -- the maximum of held bytes is no number of 64 bits
   held : LacksCount (codes "max-held") 0 (2 ^ 64 - 1) rows → HasWrongValue name rows
+  -- the name that precedes lines is not allowed
+  label : HasWrongLabel rows → HasWrongValue name rows
   -- a limit of what is written is out of its range
   output : name ≡ codes "rewrite" → HasWrongOutput rows → HasWrongValue name rows
   -- the dialect of CSV is not allowed
@@ -171,17 +197,22 @@ pub data HasWrongValue (name : Text) (rows : List Row) : Type 0 where
   -- its batch size is no number from 1 to 2^31 - 1
   size : name ≡ codes "from-csv" → LacksNumber (codes "batch") 1 max_slots rows
       → HasWrongValue name rows
+  -- its maximum of bytes of a batch is above its greatest value
+  bytes : name ≡ codes "from-csv" → LacksCount (codes "batch-bytes") 0 max_body rows
+      → HasWrongValue name rows
   -- there is no such subcommand
   other : IsNoSubcommand name → HasWrongValue name rows
 
 -- the subcommand of this name, with what was found for its options, asks for this job, and has
--- these flags and this maximum of held bytes
+-- these flags, this maximum of held bytes, this path of the schema that is expected and this label
 abbrev pub IsInvocationOf : Text → List Row → Invocation → Type 0
 IsInvocationOf name rows asked =
     IsJobOf name rows asked.job × HasFlag (codes "explain") rows asked.explain
     × HasFlag (codes "progress") rows asked.progress
     × HasFlag (codes "require-eof") rows asked.require_eof
     × HasCount (codes "max-held") 0 (2 ^ 64 - 1) rows asked.max_held
+    × HasText (codes "expect") rows asked.expect
+    × AskForLabel rows asked.label
 
 -- the words ask for this: `clap` finds no fault in them, and they name a subcommand that asks for
 -- it

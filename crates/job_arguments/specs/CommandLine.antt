@@ -38,6 +38,14 @@ count name least greatest = record (option name) { parser = Some (Unsigned least
 abbrev pub explain : Rule
 explain = flag (codes "explain")
 
+-- the option with the name that precedes each line of messages
+abbrev pub label : Rule
+label = option (codes "label")
+
+-- a subcommand with the options for what is printed to standard error
+abbrev pub with_messages : App → App
+with_messages a = with_rule (with_rule a explain) label
+
 -- a subcommand with the options for the limits of a message
 abbrev pub with_message_limits : App → App
 with_message_limits a = with_rule (with_rule (with_rule a
@@ -55,18 +63,22 @@ with_schema_limits a = with_rule (with_rule (with_rule (with_rule a
 
 -- a subcommand with the options for the end of a stream, and for what is reported of it
 abbrev pub with_reports : App → App
-with_reports a = with_rule (with_rule (with_rule (with_rule a (flag (codes "require-mark")))
-    (flag (codes "require-eof"))) explain) (flag (codes "progress"))
+with_reports a = with_rule (with_messages (with_rule (with_rule a (flag (codes "require-mark")))
+    (flag (codes "require-eof")))) (flag (codes "progress"))
 
 -- the option with the maximum number of bytes that are held of a stream
 abbrev pub max_held : Rule
 max_held = count (codes "max-held") 0 (2 ^ 64 - 1)
 
--- a subcommand with the options of those that read a stream: its limits, its end, and what is
--- reported of it
+-- the option with the path of the file with the schema that a stream must have
+abbrev pub expect : Rule
+expect = option (codes "expect")
+
+-- a subcommand with the options of those that read a stream: its limits, its schema, its end, and
+-- what is reported of it
 abbrev pub with_stream : App → App
-with_stream a =
-    with_reports (with_schema_limits (with_rule (with_message_limits a) max_held))
+with_stream a = with_reports
+    (with_rule (with_schema_limits (with_rule (with_message_limits a) max_held)) expect)
 
 -- the subcommand that validates a stream
 abbrev pub check : App
@@ -94,10 +106,15 @@ to_csv = with_stream (with_rule (with_dialect (new_app (codes "to-csv"))) limit)
 abbrev pub batch : Rule
 batch = number (codes "batch") 1 max_slots (codes "65536")
 
+-- the option with the maximum number of bytes of the body of a batch
+abbrev pub batch_bytes : Rule
+batch_bytes = count (codes "batch-bytes") 0 max_body
+
 -- the subcommand that makes a stream of records of CSV
 abbrev pub from_csv : App
-from_csv = with_rule (with_rule (with_dialect (with_rule (with_rule (new_app (codes "from-csv"))
-    (needed (codes "schema"))) batch)) (flag (codes "strict"))) explain
+from_csv = with_messages (with_rule (with_dialect (with_rule (with_rule (with_rule
+    (new_app (codes "from-csv")) (needed (codes "schema"))) batch) batch_bytes))
+    (flag (codes "strict")))
 
 -- a subcommand with the options for the limits of what is written
 abbrev pub with_output_limits : App → App

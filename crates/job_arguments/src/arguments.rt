@@ -1,13 +1,14 @@
 //! Reads the arguments of a command line.
-ghost use Rattle.std.specs.Prelude.{◌≡◌, ◌^◌, ◌-◌, ◌++◌, ℕ, IfErr, IfOk, IfSome, None};
-ghost use Rattle.std.specs.Prelude.{codes, map, string_bytes};
+ghost use Rattle.std.specs.Prelude.{◌≡◌, ◌↔◌, ◌^◌, ◌-◌, ◌++◌, ℕ, IfErr, IfOk, IfSome, None};
+ghost use Rattle.std.specs.Prelude.{IsTrue, codes, map, string_bytes};
 ghost use Rattle.clap.specs.Words.{found_of, kind_of, rows_of, subcommand_rows_of};
 ghost use Rattle.job_arguments.specs.Arguments.{AskForDialect, AskForLimits, AskForOutput};
-ghost use Rattle.job_arguments.specs.Arguments.{Asks, AsksNoJob};
+ghost use Rattle.job_arguments.specs.Arguments.{AskForLabel, Asks, AsksNoJob, HasWrongLabel};
+ghost use Rattle.job_arguments.specs.Arguments.{IsLabel};
 ghost use Rattle.job_arguments.specs.Arguments.{IsFound, IsHint, IsInvocationOf, IsJobOf, IsNamed};
 ghost use Rattle.job_arguments.specs.Arguments.{hint};
 ghost use Rattle.job_arguments.specs.Arguments.{HasCount, HasFlag, HasGoodSize, HasNumber};
-ghost use Rattle.job_arguments.specs.Arguments.{IsDelimiter};
+ghost use Rattle.job_arguments.specs.Arguments.{HasText, IsDelimiter};
 ghost use Rattle.job_arguments.specs.Arguments.{HasWrongDialect, HasWrongLimit, HasWrongOutput};
 ghost use Rattle.job_arguments.specs.Arguments.{HasWrongValue};
 ghost use Rattle.job_arguments.specs.Arguments.{IsUsageOf, IsWrong, IsWrongFor, IsWrongFound};
@@ -86,6 +87,9 @@ pub enum Job {
         schema: String,
         /// The number of rows of a batch; the last batch may have fewer.
         batch: u64,
+        /// The maximum number of bytes of a message's body, at most 2^42. If it is given, a batch
+        /// with which they would be exceeded has fewer rows.
+        batch_bytes: Option<u64>,
         /// The dialect of CSV.
         dialect: CsvDialect,
         /// Whether only the strict form of CSV is read.
@@ -107,6 +111,11 @@ pub struct Invocation {
     /// The maximum number of bytes that are held of a stream that is read, or `None` for any
     /// number: those that came of the current message, and the bodies of the dictionaries in force.
     pub max_held: Option<u64>,
+    /// The path of a file with the schema, as JSON, that a stream must have, or `None` for any
+    /// schema.
+    pub expect: Option<String>,
+    /// The text before each line of messages: a name with a colon and a space, or the empty text.
+    pub label: String,
 }
 
 /// Why a command line contains no job.
@@ -149,6 +158,11 @@ error: with this --delimiter and --null, a value could be taken for null or for 
 --null must not contain the delimiter, '\"' or an end of a line.
 --null must not begin with a digit, or with '-' and a digit.
 --null must not be true, false or pairs of hexadecimal digits.
+";
+
+// The message for a name that may not precede lines.
+const LABEL: &str = "\
+error: --label takes a text that is not empty and has no control characters
 ";
 
 // The subcommand that the second word names, or `check` if it names none.
@@ -285,6 +299,43 @@ fn read_count(
     }
 }
 
+// The text of an option, if the words have the option.
+fn read_text(
+    alloc: Global,
+    options: &ArgMatches<'_>,
+    name: &str,
+) -> Result<Option<String>, AllocError>
+    ensures asked { IfOk result (HasText name.now (rows_of (found_of options.now))) }
+{
+    match options.get_str(name) {
+        Some(text) => Ok(Some(String::from_str(alloc, text)?)),
+        None => Ok(None),
+    }
+}
+
+// Whether a name may precede lines.
+fn is_label(name: &str) -> bool
+    ensures { IsTrue result ↔ IsLabel name.now }
+{
+    !name.is_empty() && !name.chars().any(|c| c.is_control())
+}
+
+// The text before each line of messages that the options ask for.
+fn read_label(alloc: Global, options: &ArgMatches<'_>) -> Result<String, Usage>
+    ensures asked { IfOk result (AskForLabel (rows_of (found_of options.now))) }
+    ensures refused { IfErr result (IsWrongFor (HasWrongLabel (rows_of (found_of options.now)))) }
+{
+    let Some(name) = options.get_str("label") else {
+        return Ok(String::new(alloc));
+    };
+    if !is_label(name) {
+        return Err(wrong(alloc, LABEL));
+    }
+    let mut label = String::from_str(alloc, name)?;
+    label.push_str(": ")?;
+    Ok(label)
+}
+
 // The limits of what is written that the options ask for.
 fn read_output(alloc: Global, options: &ArgMatches<'_>) -> Result<OutputLimits, Usage>
     ensures asked { IfOk result (AskForOutput (rows_of (found_of options.now))) }
@@ -363,7 +414,7 @@ fn read_to_csv(alloc: Global, options: &ArgMatches<'_>) -> Result<Job, Usage>
     })
 }
 
-// The schema's path and the batch size that `from-csv` is given.
+// The job of `from-csv` that is given these options.
 fn read_from_csv(alloc: Global, options: &ArgMatches<'_>) -> Result<Job, Usage>
     ensures asked { IfOk result (IsJobOf (codes "from-csv") (rows_of (found_of options.now))) }
     ensures refused { IfErr result
@@ -379,6 +430,7 @@ fn read_from_csv(alloc: Global, options: &ArgMatches<'_>) -> Result<Job, Usage>
     Ok(Job::FromCsv {
         schema: String::from_str(alloc, path)?,
         batch,
+        batch_bytes: read_count(alloc, options, "batch-bytes", MAX_BODY)?,
         dialect: read_dialect(alloc, options)?,
         strict: has_flag(options, "strict"),
     })
@@ -445,6 +497,8 @@ fn read_invocation(alloc: Global, name: &str, options: &ArgMatches<'_>) -> Resul
         progress: has_flag(options, "progress"),
         require_eof: has_flag(options, "require-eof"),
         max_held: read_count(alloc, options, "max-held", u64::MAX)?,
+        expect: read_text(alloc, options, "expect")?,
+        label: read_label(alloc, options)?,
     })
 }
 

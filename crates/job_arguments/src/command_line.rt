@@ -146,6 +146,23 @@ fn explain<'a>(alloc: Global) -> Arg<'a>
     flag(alloc, "explain", help)
 }
 
+// The option for the name before each line of messages.
+fn label<'a>(alloc: Global) -> Arg<'a>
+    ensures rule { rule_of result ≡ line.label }
+    ensures own { result.global ≡ false }
+{
+    let help = "Begin each line on standard error with this name, a colon and a space";
+    option(alloc, "label", "NAME").help(help)
+}
+
+// The options for what is printed to standard error.
+fn with_messages<'a>(alloc: Global, command: Command<'a>) -> Result<Command<'a>, AllocError>
+    requires { IsCommand (app_of command) command }
+    ensures { IfOk result (IsCommand (line.with_messages (app_of command.entry))) }
+{
+    command.arg(explain(alloc))?.arg(label(alloc))
+}
+
 // The options for the limits of a schema.
 fn with_schema_limits<'a>(alloc: Global, command: Command<'a>) -> Result<Command<'a>, AllocError>
     requires { IsCommand (app_of command) command }
@@ -223,23 +240,12 @@ fn with_reports<'a>(alloc: Global, command: Command<'a>) -> Result<Command<'a>, 
     requires { IsCommand (app_of command) command }
     ensures { IfOk result (IsCommand (line.with_reports (app_of command.entry))) }
 {
-    command
-        .arg(flag(
-            alloc,
-            "require-mark",
-            "Refuse a stream that ends without the end-of-stream mark",
-        ))?
-        .arg(flag(
-            alloc,
-            "require-eof",
-            "Refuse a stream with a byte after its end-of-stream mark",
-        ))?
-        .arg(explain(alloc))?
-        .arg(flag(
-            alloc,
-            "progress",
-            "Print the bytes, batches and rows so far to standard error",
-        ))
+    let help = "Refuse a stream that ends without the end-of-stream mark";
+    let command = command.arg(flag(alloc, "require-mark", help))?;
+    let help = "Refuse a stream with a byte after its end-of-stream mark";
+    let command = command.arg(flag(alloc, "require-eof", help))?;
+    let help = "Print the bytes, batches and rows so far to standard error";
+    with_messages(alloc, command)?.arg(flag(alloc, "progress", help))
 }
 
 // The option for the number of bytes that are held of a stream.
@@ -251,13 +257,24 @@ fn max_held<'a>(alloc: Global) -> Arg<'a>
     count(alloc, "max-held", u64::MAX, help)
 }
 
-// The options of a subcommand that reads a stream: its limits, its end, and what is reported of it.
+// The option that names the file with the schema that a stream must have.
+fn expect<'a>(alloc: Global) -> Arg<'a>
+    ensures rule { rule_of result ≡ line.expect }
+    ensures own { result.global ≡ false }
+{
+    let help = "Refuse a stream with another schema than that of this file, as JSON";
+    option(alloc, "expect", "PATH").help(help)
+}
+
+// The options of a subcommand that reads a stream: its limits, its schema, its end, and what is
+// reported of it.
 fn with_stream<'a>(alloc: Global, command: Command<'a>) -> Result<Command<'a>, AllocError>
     requires { IsCommand (app_of command) command }
     ensures { IfOk result (IsCommand (line.with_stream (app_of command.entry))) }
 {
     let command = with_message_limits(alloc, command)?.arg(max_held(alloc))?;
-    with_reports(alloc, with_schema_limits(alloc, command)?)
+    let command = with_schema_limits(alloc, command)?.arg(expect(alloc))?;
+    with_reports(alloc, command)
 }
 
 // The option for the number of rows that are printed.
@@ -355,17 +372,28 @@ fn batch<'a>(alloc: Global) -> Arg<'a>
     number(alloc, "batch", 1, MAX_SLOTS, "65536", help)
 }
 
+// The option that says how many bytes a batch has.
+fn batch_bytes<'a>(alloc: Global) -> Arg<'a>
+    ensures rule { rule_of result ≡ line.batch_bytes }
+    ensures own { result.global ≡ false }
+{
+    let help = "Maximum bytes of a batch's body; a batch ends before it would have more";
+    count(alloc, "batch-bytes", MAX_BODY, help)
+}
+
 // The subcommand that writes a stream of CSV.
 fn from_csv<'a>(alloc: Global) -> Result<Command<'a>, AllocError>
     ensures { IfOk result (IsCommand line.from_csv) }
 {
     let about = "Convert CSV to an Arrow IPC stream";
     let from_csv = command_with_help(alloc, "from-csv", about, FROM_CSV_EXAMPLES);
-    let from_csv = from_csv.arg(schema(alloc))?.arg(batch(alloc))?;
+    let from_csv = from_csv
+        .arg(schema(alloc))?
+        .arg(batch(alloc))?
+        .arg(batch_bytes(alloc))?;
     let help = "Refuse blank lines, quotes inside fields, and a last line without its end";
-    with_dialect(alloc, from_csv)?
-        .arg(flag(alloc, "strict", help))?
-        .arg(explain(alloc))
+    let from_csv = with_dialect(alloc, from_csv)?.arg(flag(alloc, "strict", help))?;
+    with_messages(alloc, from_csv)
 }
 
 // The options for the limits of what is written.

@@ -4,12 +4,12 @@ use Rattle.std.proofs.Common.{ap, append_assoc, add-one, arith, subst, sym, Opti
 use Rattle.std.proofs.KnownBytes.{Appends-trans}
 use Rattle.std.specs.Fmt.{decimal}
 use Rattle.std.specs.Io.KnownBytes.{Appends}
-use Rattle.std.specs.Prelude.{OnOk}
+use Rattle.std.specs.Prelude.{◌==◌, OnOk, if◌then◌else◌}
 use Rattle.ipc_model.specs.Texts.{with_dots, steps_text, write_fault_text}
 use Rattle.ipc_model.specs.declared.fault.WriteFault.{WriteFault}
 use Rattle.ipc_model.specs.declared.fault.WriteFault.TheVariants as w
 use Rattle.ipc_device.specs.Failures.{CountsFailures}
-use Rattle.job_command.specs.Lines.{write_line}
+use Rattle.job_command.specs.Lines.{labelled_after, write_line}
 
 -- after a part that went out, the next one
 pub sent_then : {T E : Type 0} (a b c : Option (List ℕ)) (s t : List ℕ) (r : Result T E) → Appends a b s → OnOk r (Appends b c t)
@@ -49,3 +49,25 @@ next_step done whole ns i below is =
     ap (λ (l : List ℕ). l ++ with_dots (drop (i + 1) ns)) (append_assoc done (codes ".") (decimal (slice_index ns i)))
     ∙ append_assoc done text (with_dots (drop (i + 1) ns))
     ∙ ap (λ (l : List ℕ). done ++ l) (rw add-one (sym (dotted_from ns i below))) ∙ is
+
+-- the bytes from i on are the byte at i, with what precedes it, and those after it
+labelled_from : (before : ℕ) (label xs : List ℕ) (i : ℕ) → i < length xs → labelled_after before label (drop i xs)
+    ≡ (if before == 10 then label else []) ++ slice_index xs i ∷ labelled_after (slice_index xs i) label (drop (suc i) xs)
+labelled_from before label [] i below = absurd (omega arith)
+labelled_from before label (x ∷ xs) zero below = refl
+labelled_from before label (x ∷ xs) (suc i) below = labelled_from before label xs i (omega arith)
+
+-- after the byte at i and what precedes it, the bytes from i + 1 on are left
+pub next_labelled : (from old middle new : Option (List ℕ)) (whole label start xs : List ℕ) (before i : ℕ) → i < length xs
+    → start ≡ (if before == 10 then label else []) → Appends old middle start → Appends middle new (slice_index xs i ∷ [])
+    → (done : List ℕ) × Appends from old done × (done ++ labelled_after before label (drop i xs) ≡ whole)
+    → (done : List ℕ) × Appends from new done × (done ++ labelled_after (slice_index xs i) label (drop (i + 1) xs) ≡ whole)
+next_labelled from old middle new whole label start xs before i below marks first next now =
+    let x = slice_index xs i in
+    let rest = labelled_after x label (drop (i + 1) xs) in (
+      (now.0 ++ start) ++ x ∷ [],
+      Appends-trans _ _ _ _ _ (Appends-trans _ _ _ _ _ now.1 first) next,
+      append_assoc (now.0 ++ start) (x ∷ []) rest ∙ append_assoc now.0 start (x ∷ rest)
+          ∙ ap (λ (l : List ℕ). now.0 ++ l)
+          (ap (λ (l : List ℕ). l ++ x ∷ rest) marks ∙ rw add-one (sym (labelled_from before label xs i below))) ∙ now.2,
+    )

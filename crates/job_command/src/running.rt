@@ -1,28 +1,31 @@
 //! Does jobs, each between an input and a sink.
 ghost use Rattle.std.specs.Io.KnownBytes.{Appends};
 ghost use Rattle.std.specs.Prelude.{◌≡◌, ◌≢◌, ◌⊎◌, ◌++◌, ◌∷◌, [], Result, Some, OnOk, is_some, ⊤};
-ghost use Rattle.std.specs.Prelude.{ℕ, IfSome, IsOk, IsTrue, List, Option};
+ghost use Rattle.std.specs.Prelude.{ℕ, IfSome, IsOk, IsTrue, List, Option, false, option_copied};
+ghost use Rattle.std.specs.Prelude.{string_bytes};
 ghost use Rattle.ipc_device.specs.Failures.{CountsFailures};
-ghost use Rattle.job_command.specs.Jobs.{Answers, AnswersCsv, AnswersPrint, AnswersRewrite};
+ghost use Rattle.job_command.specs.Jobs.{Answers, AnswersCsv, AnswersExpecting, AnswersPrint};
+ghost use Rattle.job_command.specs.Jobs.{AnswersRewrite};
 ghost use Rattle.job_command.specs.Jobs.{AnswersSchemaJob, row_shape, file_bytes, exit_status};
 ghost use Rattle.job_command.specs.Jobs.{ReportsBatches, ReportsPrint, ReportsRewrite};
 ghost use Rattle.job_command.specs.Jobs.{EndsJob, GivesFileBack, MeetsEnd, no_messages};
 ghost use Rattle.job_command.specs.Jobs.{failures_of, job_result, rewrite_options, stop_of_csv};
-ghost use Rattle.job_command.specs.Lines.{ExplainsStop, PrintsStopLines, stop_text};
+ghost use Rattle.job_command.specs.Lines.{ExplainsStop, PrintsStopLines, labelled, stop_text};
 ghost use Rattle.job_arguments.specs.Arguments.{HasGoodSize, IsBatchSize};
 ghost use Rattle.job_command.specs.declared.stop.Stop.{Stop};
 ghost use Rattle.job_print.specs.declared.form.Form.TheVariants.{Rows};
 
 use crate::schema_file::read_schema;
 use crate::stop::Stop;
-use ipc_device::{Failed, Progress, Sink, Source, send_all};
+use crate::stop_line::{send, send_labelled};
+use ipc_device::{Failed, Progress, Sink, Source};
 use ipc_model::{Fault, Limits, Schema};
 use ipc_stream::Seed;
 use ipc_text_csv::Dialect;
 use ipc_text_json::RowShape;
 use job_arguments::{Invocation, Job, OutputLimits};
 use job_explain::{Recorder, explain_record, explain_schema, explain_write};
-use job_from_csv::from_csv;
+use job_from_csv::{BatchSize, from_csv};
 use job_print::{Form, PrintOptions, print, print_schema};
 use job_rewrite::{RewriteOptions, rewrite};
 use std::alloc::Global;
@@ -32,17 +35,18 @@ fn schema_job<S: Source, W: Sink>(
     alloc: Global,
     limits: Limits,
     max_held: Option<u64>,
+    expected: Option<&Schema>,
     input: S,
     sink: W,
 ) -> (Result<Option<u64>, Stop>, S, W)
-    ensures answers { AnswersSchemaJob max_held limits (S.remaining input) (S.remaining result.1)
-        (W.written sink) (W.written result.2) (S.failures input) (S.failures result.1)
-        (W.failures sink) (W.failures result.2) result.0 }
+    ensures answers { AnswersSchemaJob max_held (option_copied expected.entry) limits
+        (S.remaining input) (S.remaining result.1) (W.written sink) (W.written result.2)
+        (S.failures input) (S.failures result.1) (W.failures sink) (W.failures result.2) result.0 }
     ensures handed_on { OnOk result.0 (W.held_back result.2 ≡ Some []) }
     ensures works { exit_status result.0 ≢ 3 → W.failures sink ≡ 0 → W.failures result.2 ≡ 0 }
 {
     let mut sink = sink;
-    let (result, source) = print_schema(alloc, limits, max_held, input, &mut sink);
+    let (result, source) = print_schema(alloc, limits, max_held, expected, input, &mut sink);
     let result = match result {
         Ok(()) => Ok(None),
         Err(why) => Err(why.into()),
@@ -55,20 +59,21 @@ fn print_job<S: Source, W: Sink, N: Progress>(
     alloc: Global,
     options: PrintOptions<'_>,
     limits: Limits,
+    expected: Option<&Schema>,
     input: S,
     sink: W,
     progress: &mut N,
 ) -> (Result<Option<u64>, Stop>, S, W)
-    ensures answers { AnswersPrint options.entry limits (S.remaining input) (S.remaining result.1)
-        (W.written sink) (W.written result.2) (S.failures input) (S.failures result.1)
-        (W.failures sink) (W.failures result.2) result.0 }
+    ensures answers { AnswersPrint options.entry (option_copied expected.entry) limits
+        (S.remaining input) (S.remaining result.1) (W.written sink) (W.written result.2)
+        (S.failures input) (S.failures result.1) (W.failures sink) (W.failures result.2) result.0 }
     ensures handed_on { OnOk result.0 (W.held_back result.2 ≡ Some []) }
     ensures works { exit_status result.0 ≢ 3 → W.failures sink ≡ 0 → W.failures result.2 ≡ 0 }
     ensures reports { ReportsPrint limits (S.remaining input) (S.remaining result.1)
         (N.reports progress.old) (N.reports progress.new) result.0 }
 {
     let mut sink = sink;
-    let (result, source) = print(alloc, limits, options, input, &mut sink, progress);
+    let (result, source) = print(alloc, limits, options, expected, input, &mut sink, progress);
     let result = match result {
         Ok(messages) => Ok(messages),
         Err(why) => Err(why.into()),
@@ -82,19 +87,22 @@ fn rewrite_job<S: Source, W: Sink, N: Progress>(
     seed: Seed,
     options: RewriteOptions,
     limits: Limits,
+    expected: Option<&Schema>,
     input: S,
     sink: W,
     progress: &mut N,
 ) -> (Result<Option<u64>, Stop>, S, W)
-    ensures answers { AnswersRewrite options limits (S.remaining input) (S.remaining result.1)
-        (W.written sink) (W.written result.2) (S.failures input) (S.failures result.1)
-        (W.failures sink) (W.failures result.2) result.0 }
+    ensures answers { AnswersRewrite options (option_copied expected.entry) limits
+        (S.remaining input) (S.remaining result.1) (W.written sink) (W.written result.2)
+        (S.failures input) (S.failures result.1) (W.failures sink) (W.failures result.2) result.0 }
     ensures handed_on { OnOk result.0 (W.held_back result.2 ≡ Some []) }
     ensures works { exit_status result.0 ≢ 3 → W.failures sink ≡ 0 → W.failures result.2 ≡ 0 }
     ensures reports { ReportsRewrite limits (S.remaining input) (S.remaining result.1)
         (N.reports progress.old) (N.reports progress.new) result.0 }
 {
-    let (result, source, sink) = rewrite(alloc, seed, options, limits, input, sink, progress);
+    let (result, source, sink) = rewrite(
+        alloc, seed, options, limits, expected, input, sink, progress,
+    );
     let result = match result {
         Ok(messages) => Ok(Some(messages)),
         Err(why) => Err(why.into()),
@@ -121,13 +129,13 @@ fn csv_job<P: Source, S: Source, W: Sink>(
     seed: Seed,
     dialect: Dialect<'_>,
     file: Option<P>,
-    batch: u64,
+    size: BatchSize,
     input: S,
     sink: W,
 ) -> (Result<Option<u64>, Stop>, S, W, Option<P>)
-    requires { IsBatchSize batch }
+    requires { IsBatchSize size.rows }
     ensures answers { AnswersCsv dialect.entry (file_bytes P.remaining file)
-        (failures_of P.failures result.3) batch (S.remaining input) (W.written sink)
+        (failures_of P.failures result.3) size (S.remaining input) (W.written sink)
         (W.written result.2) (S.failures input) (S.failures result.1) (W.failures sink)
         (W.failures result.2) result.0 }
     ensures handed_on { OnOk result.0 (W.held_back result.2 ≡ Some []) }
@@ -139,7 +147,7 @@ fn csv_job<P: Source, S: Source, W: Sink>(
         Ok(schema) => schema,
         Err(why) => return (Err(why), input, sink, file),
     };
-    let (result, input, sink) = from_csv(alloc, seed, dialect, input, sink, &schema, batch);
+    let (result, input, sink) = from_csv(alloc, seed, dialect, input, sink, &schema, size);
     (csv_result(result, schema), input, sink, file)
 }
 
@@ -195,37 +203,38 @@ fn rewrite_options(
     }
 }
 
-// Does a job, as `run` without `require_eof`. Returns how many messages a stream has that was read
-// to its end.
+// Does a job on a stream that must have the schema that is expected, if there is one. Returns how
+// many messages a stream has that was read to its end.
 fn do_job<P: Source, S: Source, W: Sink, N: Progress>(
     alloc: Global,
     seed: Seed,
     job: Job,
     max_held: Option<u64>,
+    expected: Option<&Schema>,
     schema: Option<P>,
     input: S,
     sink: W,
     progress: &mut N,
 ) -> (Result<Option<u64>, Stop>, S, W, Option<P>)
     requires { HasGoodSize job }
-    ensures answers { Answers job max_held (file_bytes P.remaining schema)
-        (failures_of P.failures result.3) (S.remaining input) (S.remaining result.1)
-        (W.written sink) (W.written result.2) (S.failures input) (S.failures result.1)
-        (W.failures sink) (W.failures result.2) result.0 }
+    ensures answers { Answers job max_held (option_copied expected.entry)
+        (file_bytes P.remaining schema) (failures_of P.failures result.3) (S.remaining input)
+        (S.remaining result.1) (W.written sink) (W.written result.2) (S.failures input)
+        (S.failures result.1) (W.failures sink) (W.failures result.2) result.0 }
     ensures handed_on { OnOk result.0 (W.held_back result.2 ≡ Some []) }
     ensures works { exit_status result.0 ≢ 3 → W.failures sink ≡ 0 → W.failures result.2 ≡ 0 }
-    ensures file { GivesFileBack job schema result.3 }
+    ensures file { GivesFileBack false job schema result.3 }
     ensures reports { ReportsBatches job (S.remaining input) (S.remaining result.1)
         (N.reports progress.old) (N.reports progress.new) result.0 }
 {
     let (result, input, sink) = match job {
-        Job::Schema(limits) => schema_job(alloc, limits, max_held, input, sink),
+        Job::Schema(limits) => schema_job(alloc, limits, max_held, expected, input, sink),
         Job::Check {
             limits,
             require_mark,
         } => {
             let options = print_options(Form::Counts, None, require_mark, max_held);
-            print_job(alloc, options, limits, input, sink, progress)
+            print_job(alloc, options, limits, expected, input, sink, progress)
         }
         Job::Show {
             limits,
@@ -236,7 +245,7 @@ fn do_job<P: Source, S: Source, W: Sink, N: Progress>(
         } => {
             let form = rows_form(objects, pairs);
             let options = print_options(form, limit, require_mark, max_held);
-            print_job(alloc, options, limits, input, sink, progress)
+            print_job(alloc, options, limits, expected, input, sink, progress)
         }
         Job::ToCsv {
             limits,
@@ -246,7 +255,7 @@ fn do_job<P: Source, S: Source, W: Sink, N: Progress>(
         } => {
             let form = Form::Records(dialect.dialect());
             let options = print_options(form, limit, require_mark, max_held);
-            print_job(alloc, options, limits, input, sink, progress)
+            print_job(alloc, options, limits, expected, input, sink, progress)
         }
         Job::Rewrite {
             limits,
@@ -254,19 +263,66 @@ fn do_job<P: Source, S: Source, W: Sink, N: Progress>(
             require_mark,
         } => {
             let options = rewrite_options(output, require_mark, max_held);
-            rewrite_job(alloc, seed, options, limits, input, sink, progress)
+            rewrite_job(
+                alloc, seed, options, limits, expected, input, sink, progress,
+            )
         }
         Job::FromCsv {
             schema: _,
             batch,
+            batch_bytes,
             dialect,
             strict,
         } => {
             let dialect = dialect.dialect().with_strict(strict);
-            return csv_job(alloc, seed, dialect, schema, batch, input, sink);
+            let size = BatchSize {
+                rows: batch,
+                bytes: batch_bytes,
+            };
+            return csv_job(alloc, seed, dialect, schema, size, input, sink);
         }
     };
     (result, input, sink, schema)
+}
+
+// Does a job, as `run` without `require_eof`. If it expects a schema of its stream, reads that from
+// the file first. Returns how many messages a stream has that was read to its end.
+fn do_expecting<P: Source, S: Source, W: Sink, N: Progress>(
+    alloc: Global,
+    seed: Seed,
+    job: Job,
+    max_held: Option<u64>,
+    expects: bool,
+    schema: Option<P>,
+    input: S,
+    sink: W,
+    progress: &mut N,
+) -> (Result<Option<u64>, Stop>, S, W, Option<P>)
+    requires { HasGoodSize job }
+    ensures answers { AnswersExpecting expects job max_held (file_bytes P.remaining schema)
+        (failures_of P.failures result.3) (S.remaining input) (S.remaining result.1)
+        (W.written sink) (W.written result.2) (S.failures input) (S.failures result.1)
+        (W.failures sink) (W.failures result.2) (N.reports progress.old) (N.reports progress.new)
+        result.0 }
+    ensures handed_on { OnOk result.0 (W.held_back result.2 ≡ Some []) }
+    ensures works { exit_status result.0 ≢ 3 → W.failures sink ≡ 0 → W.failures result.2 ≡ 0 }
+    ensures file { GivesFileBack expects job schema result.3 }
+{
+    if !expects {
+        return do_job(
+            alloc, seed, job, max_held, None, schema, input, sink, progress,
+        );
+    }
+    let (expected, schema) = read_schema(alloc, schema);
+    match expected {
+        Ok(expected) => {
+            let expected = Some(&expected);
+            do_job(
+                alloc, seed, job, max_held, expected, schema, input, sink, progress,
+            )
+        }
+        Err(why) => (Err(why), input, sink, schema),
+    }
 }
 
 // Asks the input for a byte after a stream with this number of messages. If one comes, it is F1.
@@ -351,33 +407,41 @@ fn explanation_of<S: Source>(
     }
 }
 
-// Prints the line of a job that stopped, and the lines that explain it.
-fn write_stop<E: Sink>(messages: &mut E, stop: &Stop, lines: &[u8]) -> Result<(), Failed>
+// Prints the line of a job that stopped, and the lines that explain it, each with the label before
+// it.
+fn write_stop<E: Sink>(
+    messages: &mut E,
+    label: &str,
+    stop: &Stop,
+    lines: &[u8],
+) -> Result<(), Failed>
     ensures prints { OnOk result (Appends (E.written messages.old) (E.written messages.new)
-        (stop_text stop.now ++ 10 ∷ lines.now)) }
+        (label.now ++ stop_text stop.now ++ 10 ∷ labelled label.now lines.now)) }
     ensures failures { CountsFailures (E.failures messages.old) (E.failures messages.new) result }
 {
+    send(messages, label)?;
     stop.write_line(messages)?;
-    send_all(messages, lines)
+    send_labelled(messages, label, lines)
 }
 
 // Prints why a job stopped, if it did, and returns the exit status.
 fn report<S: Source, E: Sink>(
     alloc: Global,
     explain: bool,
+    label: &str,
     outcome: &Result<(), Stop>,
     input: &Recorder<S>,
     messages: &mut E,
 ) -> u8
     ensures status { result ≡ exit_status outcome.now }
-    ensures prints { PrintsStopLines explain (E.written messages.old) (E.written messages.new)
-        (E.failures messages.new) outcome.now }
+    ensures prints { PrintsStopLines explain label.now (E.written messages.old)
+        (E.written messages.new) (E.failures messages.new) outcome.now }
 {
     match outcome {
         Ok(()) => 0,
         Err(stop) => {
             let lines = explanation_of(alloc, explain, stop, input);
-            let _ = write_stop(messages, stop, lines.as_slice());
+            let _ = write_stop(messages, label, stop, lines.as_slice());
             stop.exit_status()
         }
     }
@@ -385,12 +449,16 @@ fn report<S: Source, E: Sink>(
 
 /// Does a job: reads `input` batch by batch and writes the result to `sink`. After a refusal it
 /// prints the fault's line to `messages`, and with `explain` lines that explain it; at success
-/// nothing. The bytes that were sent remain sent. Of a stream, no byte after its end-of-stream mark
-/// is read, unless `invocation.require_eof` is set. Then a byte after a stream that was read to its
-/// end is F1 at the number of the message after the last one; what the job sends was sent before.
+/// nothing. `invocation.label` precedes each of these lines. The bytes that were sent remain sent.
 ///
-/// `schema` is the file that the job names, or `None` if it cannot be opened. Only `FromCsv` reads
-/// it. The batch size must be from 1 to 2^31 - 1, as `read_words` returns it. `progress` receives
+/// Of a stream, no byte after its end-of-stream mark is read, unless `invocation.require_eof` is
+/// set. Then a byte after a stream that was read to its end is F1 at the number of the message
+/// after the last one; what the job sends was sent before.
+///
+/// `schema` is the file that the job or `invocation.expect` names, or `None` if it cannot be
+/// opened. If `invocation.expect` is set, the schema in the file is read before the input, and a
+/// stream with another schema is refused before anything is sent. Else only `FromCsv` reads the
+/// file. The batch size must be from 1 to 2^31 - 1, as `read_words` returns it. `progress` receives
 /// the reports that `print` and `rewrite` make; other jobs make none. The code hashes the values of
 /// dictionaries with `seed`; no clause says so. With a random seed nobody who does not know it can
 /// choose values whose hashes collide.
@@ -415,28 +483,29 @@ pub fn run<P: Source, S: Source, W: Sink, N: Progress, E: Sink>(
     requires { HasGoodSize invocation.job }
     // The job has an answer, which says what was read, what went out and which device failed. The
     // status is that of this answer, or of the check that nothing follows the stream. Exactly its
-    // line was printed, and with `explain` the lines that explain it; at success nothing. Each
-    // batch of a stream that was read was reported, as `print` and `rewrite` state it.
+    // line was printed, and with `explain` the lines that explain it, with the label before each;
+    // at success nothing. Each batch of a stream that was read was reported, as `print` and
+    // `rewrite` state it.
     ensures answers { (answer : Result (Option ℕ) Stop) × (r : Result ⊤ Stop)
         × (between : Option (List ℕ)) × (failures : ℕ) × (result.0 ≡ exit_status r)
-        × Answers invocation.job invocation.max_held (file_bytes P.remaining schema)
-        (failures_of P.failures result.3) (S.remaining input) between (W.written sink)
-        (W.written result.2) (S.failures input) failures (W.failures sink) (W.failures result.2)
+        × AnswersExpecting (is_some invocation.expect) invocation.job invocation.max_held
+        (file_bytes P.remaining schema) (failures_of P.failures result.3) (S.remaining input)
+        between (W.written sink) (W.written result.2) (S.failures input) failures
+        (W.failures sink) (W.failures result.2) (N.reports progress.old) (N.reports progress.new)
         answer
         × EndsJob invocation.require_eof between (S.remaining result.1) failures
         (S.failures result.1) answer r
-        × PrintsStopLines invocation.explain (E.written messages.old) (E.written messages.new)
-        (E.failures messages.new) r
-        × ReportsBatches invocation.job (S.remaining input) between (N.reports progress.old)
-        (N.reports progress.new) answer }
+        × PrintsStopLines invocation.explain (string_bytes invocation.label)
+        (E.written messages.old) (E.written messages.new) (E.failures messages.new) r }
     // Where all was done the sink holds nothing back.
     ensures handed_on { result.0 ≡ 0 → W.held_back result.2 ≡ Some [] }
     // A sink fails only at 3.
     ensures works { result.0 ≢ 3 → W.failures sink ≡ 0 → W.failures result.2 ≡ 0 }
     // There is no other status.
     ensures one { (result.0 ≡ 0) ⊎ (result.0 ≡ 1) ⊎ (result.0 ≡ 3) ⊎ (result.0 ≡ 4) }
-    // Only `FromCsv` reads the file. One that was opened comes back, and none is made up.
-    ensures file { GivesFileBack invocation.job schema result.3 }
+    // Only `FromCsv` reads the file, and a job that expects a schema. One that was opened comes
+    // back, and none is made up.
+    ensures file { GivesFileBack (is_some invocation.expect) invocation.job schema result.3 }
 {
     let Invocation {
         job,
@@ -444,13 +513,16 @@ pub fn run<P: Source, S: Source, W: Sink, N: Progress, E: Sink>(
         progress: _,
         require_eof,
         max_held,
+        expect,
+        label,
     } = invocation;
+    let expects = expect.is_some();
     let input = record(alloc, &job, explain, input);
-    let (answer, input, sink, schema) = do_job(
-        alloc, seed, job, max_held, schema, input, sink, progress,
+    let (answer, input, sink, schema) = do_expecting(
+        alloc, seed, job, max_held, expects, schema, input, sink, progress,
     );
     let mut input = input;
     let result = check_eof(require_eof, answer, &mut input);
-    let status = report(alloc, explain, &result, &input, messages);
+    let status = report(alloc, explain, label.as_str(), &result, &input, messages);
     (status, input.into_inner(), sink, schema)
 }

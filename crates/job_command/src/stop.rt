@@ -6,8 +6,8 @@ ghost use Rattle.job_command.specs.Lines.{stop_text};
 ghost use Rattle.ipc_device.specs.Failures.{CountsAny, CountsFailures};
 
 use crate::stop_line::{
-    end_line, send, send_above, send_fault, send_held, send_read_fault, send_text_fault,
-    send_write_fault,
+    end_line, send, send_above, send_fault, send_held, send_other_schema, send_read_fault,
+    send_text_fault, send_write_fault,
 };
 use csv::ByteRecord;
 use ipc_device::{Failed, Sink};
@@ -35,6 +35,9 @@ pub enum Stop {
     /// With the next part of the message with this number, more bytes would be held of the stream
     /// than the maximum.
     Held(u64),
+    /// The schema of the stream is another than the one that is expected: the path of the first
+    /// field that differs.
+    OtherSchema(Vec<u64>),
     /// Rows of CSV could not be written.
     Rows {
         /// Why they could not be written.
@@ -75,6 +78,7 @@ impl From<job_print::PrintStop> for Stop {
             job_print::PrintStop::Write(fault) => Stop::Write(fault),
             job_print::PrintStop::Text(fault) => Stop::Text(fault),
             job_print::PrintStop::Held(message) => Stop::Held(message),
+            job_print::PrintStop::OtherSchema(path) => Stop::OtherSchema(path),
         }
     }
 }
@@ -89,6 +93,7 @@ impl From<job_rewrite::RewriteStop> for Stop {
             job_rewrite::RewriteStop::Above(total, number) => Stop::Above(total, number),
             job_rewrite::RewriteStop::NoRoom => Stop::NoRoom,
             job_rewrite::RewriteStop::Held(message) => Stop::Held(message),
+            job_rewrite::RewriteStop::OtherSchema(path) => Stop::OtherSchema(path),
         }
     }
 }
@@ -123,16 +128,16 @@ impl Stop {
             Stop::Rows { fault, .. } => fault.exit_status(),
             Stop::Text(TextFault::OutOfMemory) => WriteFault::OutOfMemory.exit_status(),
             Stop::Text(_) => 1,
-            Stop::SchemaText(_) => 1,
+            Stop::SchemaText(_) | Stop::OtherSchema(_) => 1,
             Stop::Record { .. } => 1,
         }
     }
 
     /// Writes it as one line to a sink: the fault with the number of its message, as in
     /// `F4 Truncated at message 1`, or the option whose total the output would exceed, with the
-    /// number of the batch, or that of held bytes, with the number of the message. The input and
-    /// the schema's file have a line without a message, and out of memory has no number. Nothing is
-    /// allocated.
+    /// number of the batch, or that of held bytes, with the number of the message, or the path at
+    /// which the schema is another than the one that is expected. The input and the schema's file
+    /// have a line without a message, and out of memory has no number. Nothing is allocated.
     ///
     /// Errors: the sink failed, and it may have taken a part of the line.
     pub fn write_line<E: Sink>(&self, messages: &mut E) -> Result<(), Failed>
@@ -159,6 +164,7 @@ impl Stop {
             Stop::Above(total, number) => send_above(messages, total, *number),
             Stop::NoRoom => send(messages, "output above --max-total-bytes at the schema"),
             Stop::Held(message) => send_held(messages, *message),
+            Stop::OtherSchema(path) => send_other_schema(messages, path),
             Stop::Rows { fault, .. } => send_write_fault(messages, fault),
             Stop::Text(fault) => send_text_fault(messages, fault),
             Stop::SchemaText(_) => send_text_fault(messages, &TextFault::BadSchemaJson),

@@ -6,7 +6,8 @@ ghost use Rattle.ipc_model.specs.Texts.{fault_text, label, place_text, steps_tex
 ghost use Rattle.ipc_model.specs.Texts.{code_text};
 ghost use Rattle.ipc_text_temporal.specs.FaultLines.{text_fault_line};
 ghost use Rattle.ipc_device.specs.Failures.{CountsAny, CountsFailures};
-ghost use Rattle.job_command.specs.Lines.{above_text, held_text, write_line};
+ghost use Rattle.job_command.specs.Lines.{above_text, held_text, labelled, other_schema_text};
+ghost use Rattle.job_command.specs.Lines.{write_line};
 
 use ipc_device::{Failed, Sink, send_all};
 use ipc_model::{Fault, WriteFault};
@@ -21,6 +22,23 @@ pub fn send<E: Sink>(messages: &mut E, text: &str) -> Result<(), Failed>
     ensures failures { CountsAny (E.failures messages.old) (E.failures messages.new) result }
 {
     send_all(messages, text.as_bytes())
+}
+
+// Sends lines, each with this label before it.
+pub fn send_labelled<E: Sink>(messages: &mut E, label: &str, lines: &[u8]) -> Result<(), Failed>
+    ensures sent { OnOk result
+        (Appends (E.written messages.old) (E.written messages.new) (labelled label.now lines.now)) }
+    ensures failures { CountsAny (E.failures messages.old) (E.failures messages.new) result }
+{
+    let mut before = b'\n';
+    for byte in lines {
+        if before == b'\n' {
+            send(messages, label)?;
+        }
+        send_all(messages, &[*byte])?;
+        before = *byte;
+    }
+    Ok(())
 }
 
 // Sends the digits of a number.
@@ -105,6 +123,25 @@ fn send_steps<E: Sink>(messages: &mut E, path: &[u32]) -> Result<(), Failed>
     Ok(())
 }
 
+// Sends the path to a field of a schema, as `send_steps` the path to a value. Its numbers have 64
+// bits: a schema of any length has one.
+fn send_field_path<E: Sink>(messages: &mut E, path: &[u64]) -> Result<(), Failed>
+    ensures sent { OnOk result
+        (Appends (E.written messages.old) (E.written messages.new) (steps_text path.now)) }
+    ensures failures { CountsAny (E.failures messages.old) (E.failures messages.new) result }
+{
+    let Some((first, rest)) = path.split_first() else {
+        return Ok(());
+    };
+    send(messages, " ")?;
+    send_number(messages, *first)?;
+    for number in rest {
+        send(messages, ".")?;
+        send_number(messages, *number)?;
+    }
+    Ok(())
+}
+
 // Sends the number of the row that does not fit, and the path to its value.
 fn send_place<E: Sink>(messages: &mut E, fault: &WriteFault) -> Result<(), Failed>
     ensures sent { OnOk result
@@ -167,6 +204,16 @@ pub fn send_held<E: Sink>(messages: &mut E, message: u64) -> Result<(), Failed>
 {
     send(messages, "held above --max-held at message ")?;
     send_number(messages, message)
+}
+
+// Sends the path of the first field in which a schema is another than the one that is expected.
+pub fn send_other_schema<E: Sink>(messages: &mut E, path: &[u64]) -> Result<(), Failed>
+    ensures sent { OnOk result (Appends (E.written messages.old) (E.written messages.new)
+        (other_schema_text path.now)) }
+    ensures failures { CountsAny (E.failures messages.old) (E.failures messages.new) result }
+{
+    send(messages, "other schema at path")?;
+    send_field_path(messages, path)
 }
 
 // Sends a fault of texts with its place, the record before the column.

@@ -126,6 +126,7 @@ fn job_of(alloc: Global, asked: JobKind) -> Result<Job, AllocError>
         JobKind::FromCsv => Job::FromCsv {
             schema: String::new(alloc),
             batch: 2,
+            batch_bytes: None,
             dialect: commas(alloc)?,
             strict: false,
         },
@@ -156,7 +157,9 @@ fn done(
         explain: false,
         progress: false,
         require_eof: false,
+        expect: None,
         max_held: None,
+        label: String::new(alloc),
     };
     let schema = Some(schema);
     let (status, _, sink, _) = run(

@@ -24,6 +24,11 @@ returns-in-NoRoom-clause-sent g c = sent_as _ _ _ _ c.send-in-NoRoom.result (ap 
 pub returns-in-Held-clause-sent : goal.returns-in-Held-clause-sent
 returns-in-Held-clause-sent g c = sent_as _ _ _ _ c.send_held.result (ap stop_text c.in-Held.is) c.send_held.ensures.sent
 
+pub returns-in-OtherSchema-clause-sent : goal.returns-in-OtherSchema-clause-sent
+returns-in-OtherSchema-clause-sent g c =
+    sent_as _ _ _ _ c.send_other_schema.result (ap stop_text c.in-OtherSchema.is)
+    (rw c.deref.ensures.value at c.send_other_schema.ensures.sent)
+
 pub returns-in-Rows-clause-sent : goal.returns-in-Rows-clause-sent
 returns-in-Rows-clause-sent g c =
     sent_as _ _ _ _ c.send_write_fault-in-Rows.result (ap stop_text c.in-Rows.is) c.send_write_fault-in-Rows.ensures.sent

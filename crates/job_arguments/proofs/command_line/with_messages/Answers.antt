@@ -1,0 +1,8 @@
+use Rattle.std.proofs.lemmas.Result.{IfOk-weaker}
+use Rattle.job_arguments.proofs.LineWords.{added_arg}
+use Rattle.job_arguments.proofs.command_line.with_messages.Goals as goal
+
+pub returns : goal.returns
+returns c =
+    let one = added_arg _ _ _ _ _ c.requires c.explain.ensures.rule c.explain.ensures.own c.in_ok-arg.ensures in
+    IfOk-weaker c.arg-2.result _ _ (λ r h. added_arg _ _ _ _ _ one c.label.ensures.rule c.label.ensures.own h) c.arg-2.ensures
