@@ -60,6 +60,7 @@ CRATES = {
     "ipc_frame": ("batches", 4, 450, "bytes to messages"),
     "ipc_meta": ("metadata", 3, 270, "metadata both ways"),
     "ipc_device": ("streams", 3, 500, "sources and sinks"),
+    "job_expect": ("jobs", 2, 870, "compares schemas"),
     "ipc_build": ("metadata", 2, 210, "writes FlatBuffers"),
     "ipc_flat": ("metadata", 1, 210, "reads FlatBuffers"),
     "ipc_model": ("values", 1, 540, "types, values, faults"),
