@@ -33,6 +33,7 @@ impl BatchSize {
 
     // Whether a batch with rows ends before a row because of this answer to its push: with the row
     // it would be too long for the bytes of this size.
+    #[inline(always)]
     pub(crate) fn is_exceeded(self, pushed: &Result<(), WriteFault>) -> bool
         ensures exceeded { result ≡ true
             → IsSome self.bytes × (pushed.now ≡ Err WriteFault.TooLong) }

@@ -41,6 +41,7 @@ pub(crate) enum BatchEnd {
 }
 
 // Reads the next row. Returns false if no record remains.
+#[inline(always)]
 fn next_row<R: Read + ReportsFailure>(
     alloc: Global,
     dialect: Dialect<'_>,
