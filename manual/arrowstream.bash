@@ -13,11 +13,11 @@ _arrowstream() {
     *" --batch"|*" --batch-bytes"|*" --delimiter"|*" --label"|*" --limit"|*" --max-batches"|*" --max-body"|*" --max-depth"|*" --max-fields"|*" --max-held"|*" --max-metadata"|*" --max-output-body"|*" --max-pairs"|*" --max-rows"|*" --max-text"|*" --max-total-bytes"|*" --max-total-rows"|*" --null") return ;;
   esac
   case "${COMP_WORDS[1]}" in
-    check) words='--schema --max-metadata --max-body --max-rows --max-held --max-fields --max-depth --max-text --max-pairs --expect --require-mark --require-eof --explain --label --progress --help' ;;
-    show) words='--objects --pairs --limit --max-metadata --max-body --max-rows --max-held --max-fields --max-depth --max-text --max-pairs --expect --require-mark --require-eof --explain --label --progress --help' ;;
-    to-csv) words='--delimiter --null --limit --max-metadata --max-body --max-rows --max-held --max-fields --max-depth --max-text --max-pairs --expect --require-mark --require-eof --explain --label --progress --help' ;;
-    from-csv) words='--schema --batch --batch-bytes --delimiter --null --strict --explain --label --help' ;;
-    rewrite) words='--max-output-body --max-batches --max-total-rows --max-total-bytes --max-metadata --max-body --max-rows --max-held --max-fields --max-depth --max-text --max-pairs --expect --require-mark --require-eof --explain --label --progress --help' ;;
+    check) words='--schema --max-metadata --max-body --max-rows --max-held --max-fields --max-depth --max-text --max-pairs --expect --require-mark --require-eof --explain --label --summary --progress --help' ;;
+    show) words='--objects --pairs --limit --max-metadata --max-body --max-rows --max-held --max-fields --max-depth --max-text --max-pairs --expect --require-mark --require-eof --explain --label --summary --progress --help' ;;
+    to-csv) words='--delimiter --null --limit --max-metadata --max-body --max-rows --max-held --max-fields --max-depth --max-text --max-pairs --expect --require-mark --require-eof --explain --label --summary --progress --help' ;;
+    from-csv) words='--schema --batch --batch-bytes --delimiter --null --strict --explain --label --summary --help' ;;
+    rewrite) words='--max-output-body --max-batches --max-total-rows --max-total-bytes --max-metadata --max-body --max-rows --max-held --max-fields --max-depth --max-text --max-pairs --expect --require-mark --require-eof --explain --label --summary --progress --help' ;;
     help) words='check show to-csv from-csv rewrite' ;;
   esac
   [ "$COMP_CWORD" -gt 1 ] || words='check show to-csv from-csv rewrite help --help --version'

@@ -12,7 +12,7 @@ use descriptors::fill_closed;
 use ipc_device::{Device, Retry, Sink};
 use ipc_stream::Seed;
 use job_arguments::{Invocation, Job, Usage, read_words};
-use job_command::run;
+use job_command::{Counted, LastReport, run};
 use progress::ProgressLine;
 use schema_file::{SchemaFile, open_schema};
 use std::alloc::{AllocError, Global};
@@ -44,20 +44,17 @@ fn read_command_line(rt: &HostRuntime) -> Result<Invocation, Usage>
     }
 }
 
-// The job's subcommand.
-fn subcommand_of(job: &Job) -> &'static str {
+// The job's subcommand, with the option that it needs.
+fn words_of(job: &Job) -> &'static str {
     match job {
-        Job::Schema(_) | Job::Check { .. } => "check",
-        Job::Show { .. } => "show",
-        Job::ToCsv { .. } => "to-csv",
-        Job::Rewrite { .. } => "rewrite",
         Job::FromCsv { .. } => "from-csv --schema PATH",
+        _ => job.subcommand(),
     }
 }
 
 // Refuses a terminal as standard input, and as standard output of a job that writes a stream.
 fn check_terminals(rt: &HostRuntime, job: &Job) -> Result<(), Usage> {
-    let name = subcommand_of(job);
+    let name = words_of(job);
     if rt.stdin().is_terminal() {
         return Err(Usage::Wrong(format!(in rt.alloc();
             "error: standard input is a terminal; use: arrowstream {name} < FILE\n"
@@ -132,46 +129,49 @@ fn explain_device<W: Write>(
     }
 }
 
-// Does the job, and returns the exit status. All that is printed of a job that stops is one write.
+// Does the job, and returns the exit status. All that is printed of a job that stops is one write,
+// and the summary after it is another.
 fn run_job(rt: &HostRuntime, invocation: Invocation, schema: SchemaFile) -> Result<u8, Usage>
     requires { HasGoodSize invocation.job }
 {
     let alloc = rt.alloc();
-    let Ok(stderr) = BufWriter::new(alloc, Retry::new(rt.stderr())) else {
+    let messages = BufWriter::new(alloc, Retry::new(rt.stderr()));
+    let summary = BufWriter::new(alloc, Retry::new(rt.stderr()));
+    let (Ok(messages), Ok(summary)) = (messages, summary) else {
         return Err(Usage::OutOfMemory);
     };
-    let mut messages = Device::new(stderr);
+    let mut messages = Device::new(messages);
+    let mut summary = Device::new(summary);
     let label = String::from_str(alloc, invocation.label.as_str())?;
     let label = label.as_str();
-    let mut progress = ProgressLine::start(rt, invocation.progress, label);
+    let mut progress = LastReport::new(ProgressLine::start(rt, invocation.progress, label));
     let explain = invocation.explain;
     let (status, input, output, file) = run(
         alloc,
         draw_seed(rt),
         invocation,
         schema.file,
-        Device::new(Retry::new(rt.reader())),
-        Device::new(Retry::new(io::writer(rt))),
+        Counted::new(Device::new(Retry::new(rt.reader()))),
+        Counted::new(Device::new(Retry::new(io::writer(rt)))),
         &mut progress,
         &mut messages,
+        &mut summary,
     );
-    progress.finish();
+    progress.into_inner().finish();
     let mut messages = messages.into_inner();
     if explain {
-        let schema_code = match file {
-            Some(file) => file.into_inner().code(),
-            None => schema.code,
-        };
+        let schema_code = file.map_or(schema.code, |file| file.into_inner().code());
         let devices = [
             (schema.path.as_str(), schema_code),
-            ("standard input", input.into_inner().code()),
-            ("standard output", output.into_inner().code()),
+            ("standard input", input.into_inner().into_inner().code()),
+            ("standard output", output.into_inner().into_inner().code()),
         ];
         for &(name, code) in &devices {
             explain_device(alloc, &mut messages, label, name, code);
         }
     }
     let _ = messages.flush();
+    let _ = summary.into_inner().flush();
     Ok(status)
 }
 

@@ -161,6 +161,20 @@ IsJobOf name rows (job.FromCsv path size bytes dialect strict) = (name ≡ codes
     × HasCount (codes "batch-bytes") 0 max_body rows bytes × AskForDialect rows dialect
     × HasFlag (codes "strict") rows strict
 
+-- the name of the job's subcommand
+abbrev pub subcommand_name : Job → Text
+subcommand_name (job.Schema limits) = codes "check"
+subcommand_name (job.Check limits mark) = codes "check"
+subcommand_name (job.Show limits objects pairs count mark) = codes "show"
+subcommand_name (job.ToCsv limits dialect count mark) = codes "to-csv"
+subcommand_name (job.Rewrite limits output mark) = codes "rewrite"
+subcommand_name (job.FromCsv path size bytes dialect strict) = codes "from-csv"
+
+-- whether the job reads a stream
+abbrev pub reads_stream : Job → Bool
+reads_stream (job.FromCsv path size bytes dialect strict) = false
+reads_stream _ = true
+
 -- the subcommand of this name has options for limits
 abbrev pub HasLimits : Text → Type 0
 HasLimits name = (name ≡ codes "check")
@@ -212,7 +226,7 @@ IsInvocationOf name rows asked =
     × HasFlag (codes "require-eof") rows asked.require_eof
     × HasCount (codes "max-held") 0 (2 ^ 64 - 1) rows asked.max_held
     × HasText (codes "expect") rows asked.expect
-    × AskForLabel rows asked.label
+    × AskForLabel rows asked.label × HasFlag (codes "summary") rows asked.summary
 
 -- the words ask for this: `clap` finds no fault in them, and they name a subcommand that asks for
 -- it

@@ -44,7 +44,7 @@ label = option (codes "label")
 
 -- a subcommand with the options for what is printed to standard error
 abbrev pub with_messages : App → App
-with_messages a = with_rule (with_rule a explain) label
+with_messages a = with_rule (with_rule (with_rule a explain) label) (flag (codes "summary"))
 
 -- a subcommand with the options for the limits of a message
 abbrev pub with_message_limits : App → App

@@ -4,7 +4,7 @@ ghost use Rattle.std.specs.Prelude.{IsTrue, codes, map, string_bytes};
 ghost use Rattle.clap.specs.Words.{found_of, kind_of, rows_of, subcommand_rows_of};
 ghost use Rattle.job_arguments.specs.Arguments.{AskForDialect, AskForLimits, AskForOutput};
 ghost use Rattle.job_arguments.specs.Arguments.{AskForLabel, Asks, AsksNoJob, HasWrongLabel};
-ghost use Rattle.job_arguments.specs.Arguments.{IsLabel};
+ghost use Rattle.job_arguments.specs.Arguments.{IsLabel, reads_stream, subcommand_name};
 ghost use Rattle.job_arguments.specs.Arguments.{IsFound, IsHint, IsInvocationOf, IsJobOf, IsNamed};
 ghost use Rattle.job_arguments.specs.Arguments.{hint};
 ghost use Rattle.job_arguments.specs.Arguments.{HasCount, HasFlag, HasGoodSize, HasNumber};
@@ -97,6 +97,28 @@ pub enum Job {
     },
 }
 
+impl Job {
+    /// Returns the name of the job's subcommand.
+    pub fn subcommand(&self) -> &'static str
+        ensures { result.now ≡ subcommand_name self.now }
+    {
+        match self {
+            Job::Schema(_) | Job::Check { .. } => "check",
+            Job::Show { .. } => "show",
+            Job::ToCsv { .. } => "to-csv",
+            Job::Rewrite { .. } => "rewrite",
+            Job::FromCsv { .. } => "from-csv",
+        }
+    }
+
+    /// Returns whether the job reads a stream.
+    pub fn reads_stream(&self) -> bool
+        ensures { result ≡ reads_stream self.now }
+    {
+        !matches!(self, Job::FromCsv { .. })
+    }
+}
+
 /// What a command line asks for.
 #[derive(Debug, Drop)]
 pub struct Invocation {
@@ -116,6 +138,8 @@ pub struct Invocation {
     pub expect: Option<String>,
     /// The text before each line of messages: a name with a colon and a space, or the empty text.
     pub label: String,
+    /// Whether to print a summary as a line of JSON at the end.
+    pub summary: bool,
 }
 
 /// Why a command line contains no job.
@@ -499,6 +523,7 @@ fn read_invocation(alloc: Global, name: &str, options: &ArgMatches<'_>) -> Resul
         max_held: read_count(alloc, options, "max-held", u64::MAX)?,
         expect: read_text(alloc, options, "expect")?,
         label: read_label(alloc, options)?,
+        summary: has_flag(options, "summary"),
     })
 }
 

@@ -160,7 +160,9 @@ fn with_messages<'a>(alloc: Global, command: Command<'a>) -> Result<Command<'a>,
     requires { IsCommand (app_of command) command }
     ensures { IfOk result (IsCommand (line.with_messages (app_of command.entry))) }
 {
-    command.arg(explain(alloc))?.arg(label(alloc))
+    let command = command.arg(explain(alloc))?.arg(label(alloc))?;
+    let help = "At the end, print one line of JSON with counts to standard error";
+    command.arg(flag(alloc, "summary", help))
 }
 
 // The options for the limits of a schema.

@@ -2,7 +2,7 @@
 ghost use Rattle.std.specs.Io.KnownBytes.{Appends};
 ghost use Rattle.std.specs.Prelude.{◌≡◌, ◌≢◌, ◌⊎◌, ◌++◌, ◌∷◌, [], Result, Some, OnOk, is_some, ⊤};
 ghost use Rattle.std.specs.Prelude.{ℕ, IfSome, IsOk, IsTrue, List, Option, false, option_copied};
-ghost use Rattle.std.specs.Prelude.{string_bytes};
+ghost use Rattle.std.specs.Prelude.{None, if◌then◌else◌, string_bytes};
 ghost use Rattle.ipc_device.specs.Failures.{CountsFailures};
 ghost use Rattle.job_command.specs.Jobs.{Answers, AnswersCsv, AnswersExpecting, AnswersPrint};
 ghost use Rattle.job_command.specs.Jobs.{AnswersRewrite};
@@ -10,14 +10,17 @@ ghost use Rattle.job_command.specs.Jobs.{AnswersSchemaJob, row_shape, file_bytes
 ghost use Rattle.job_command.specs.Jobs.{ReportsBatches, ReportsPrint, ReportsRewrite};
 ghost use Rattle.job_command.specs.Jobs.{EndsJob, GivesFileBack, MeetsEnd, no_messages};
 ghost use Rattle.job_command.specs.Jobs.{failures_of, job_result, rewrite_options, stop_of_csv};
+ghost use Rattle.job_command.specs.Summaries.{PrintsSummary, stream_number, summary_text};
 ghost use Rattle.job_command.specs.Lines.{ExplainsStop, PrintsStopLines, labelled, stop_text};
-ghost use Rattle.job_arguments.specs.Arguments.{HasGoodSize, IsBatchSize};
+ghost use Rattle.job_arguments.specs.Arguments.{HasGoodSize, IsBatchSize, subcommand_name};
 ghost use Rattle.job_command.specs.declared.stop.Stop.{Stop};
 ghost use Rattle.job_print.specs.declared.form.Form.TheVariants.{Rows};
 
+use crate::counted::{Counted, LastReport};
 use crate::schema_file::read_schema;
 use crate::stop::Stop;
 use crate::stop_line::{send, send_labelled};
+use crate::summary::send_summary;
 use ipc_device::{Failed, Progress, Sink, Source};
 use ipc_model::{Fault, Limits, Schema};
 use ipc_stream::Seed;
@@ -447,6 +450,38 @@ fn report<S: Source, E: Sink>(
     }
 }
 
+// Prints the summary of a job, if it is asked for: `counts` are the numbers of batches and rows,
+// and `bytes` those of bytes that were read and written.
+fn summarize<E: Sink>(
+    summary: &mut E,
+    asked: bool,
+    label: &str,
+    job: &str,
+    status: u8,
+    outcome: &Result<(), Stop>,
+    counts: (Option<u64>, Option<u64>),
+    bytes: (u64, u64),
+)
+    ensures { PrintsSummary asked label.now (E.written summary.old) (E.written summary.new)
+        (E.failures summary.new)
+        (summary_text job.now status outcome.now counts.0 counts.1 bytes.0 bytes.1) }
+{
+    if asked {
+        let (batches, rows) = counts;
+        let (bytes_in, bytes_out) = bytes;
+        let _ = send_summary(
+            summary, label, job, status, outcome, batches, rows, bytes_in, bytes_out,
+        );
+    }
+}
+
+// A number of what a stream has, if the job reads one.
+fn stream_number(reads_stream: bool, number: u64) -> Option<u64>
+    ensures { result ≡ (if reads_stream then Some number else None) }
+{
+    if reads_stream { Some(number) } else { None }
+}
+
 /// Does a job: reads `input` batch by batch and writes the result to `sink`. After a refusal it
 /// prints the fault's line to `messages`, and with `explain` lines that explain it; at success
 /// nothing. `invocation.label` precedes each of these lines. The bytes that were sent remain sent.
@@ -459,12 +494,17 @@ fn report<S: Source, E: Sink>(
 /// opened. If `invocation.expect` is set, the schema in the file is read before the input, and a
 /// stream with another schema is refused before anything is sent. Else only `FromCsv` reads the
 /// file. The batch size must be from 1 to 2^31 - 1, as `read_words` returns it. `progress` receives
-/// the reports that `print` and `rewrite` make; other jobs make none. The code hashes the values of
-/// dictionaries with `seed`; no clause says so. With a random seed nobody who does not know it can
-/// choose values whose hashes collide.
+/// the reports that `print` and `rewrite` make; other jobs make none.
 ///
-/// Returns the exit status, the input, the sink and the schema's file. A failing `messages` changes
-/// nothing. The exit status is:
+/// With `invocation.summary`, one line of JSON goes to `summary`, with the label before it: the
+/// subcommand, the status, the line and the message of a refusal, and the numbers that `progress`,
+/// `input` and `sink` have then. `FromCsv` has no numbers of batches and rows.
+///
+/// The code hashes the values of dictionaries with `seed`; no clause says so. With a random seed
+/// nobody who does not know it can choose values whose hashes collide.
+///
+/// Returns the exit status, the input, the sink and the schema's file. A failing `messages` or
+/// `summary` changes nothing. The exit status is:
 ///
 /// - 0 if the job is done;
 /// - 1 if what was read is refused;
@@ -475,32 +515,39 @@ pub fn run<P: Source, S: Source, W: Sink, N: Progress, E: Sink>(
     seed: Seed,
     invocation: Invocation,
     schema: Option<P>,
-    input: S,
-    sink: W,
-    progress: &mut N,
+    input: Counted<S>,
+    sink: Counted<W>,
+    progress: &mut LastReport<N>,
     messages: &mut E,
-) -> (u8, S, W, Option<P>)
+    summary: &mut E,
+) -> (u8, Counted<S>, Counted<W>, Option<P>)
     requires { HasGoodSize invocation.job }
     // The job has an answer, which says what was read, what went out and which device failed. The
     // status is that of this answer, or of the check that nothing follows the stream. Exactly its
     // line was printed, and with `explain` the lines that explain it, with the label before each;
     // at success nothing. Each batch of a stream that was read was reported, as `print` and
-    // `rewrite` state it.
+    // `rewrite` state it. The summary is printed exactly if it is asked for. Its numbers are those
+    // of the last report, and the counts of the input and the sink.
     ensures answers { (answer : Result (Option ℕ) Stop) × (r : Result ⊤ Stop)
         × (between : Option (List ℕ)) × (failures : ℕ) × (result.0 ≡ exit_status r)
         × AnswersExpecting (is_some invocation.expect) invocation.job invocation.max_held
-        (file_bytes P.remaining schema) (failures_of P.failures result.3) (S.remaining input)
-        between (W.written sink) (W.written result.2) (S.failures input) failures
-        (W.failures sink) (W.failures result.2) (N.reports progress.old) (N.reports progress.new)
-        answer
-        × EndsJob invocation.require_eof between (S.remaining result.1) failures
-        (S.failures result.1) answer r
+        (file_bytes P.remaining schema) (failures_of P.failures result.3)
+        (S.remaining input.device) between (W.written sink.device) (W.written result.2.device)
+        (S.failures input.device) failures (W.failures sink.device) (W.failures result.2.device)
+        (N.reports progress.old.progress) (N.reports progress.new.progress) answer
+        × EndsJob invocation.require_eof between (S.remaining result.1.device) failures
+        (S.failures result.1.device) answer r
         × PrintsStopLines invocation.explain (string_bytes invocation.label)
-        (E.written messages.old) (E.written messages.new) (E.failures messages.new) r }
+        (E.written messages.old) (E.written messages.new) (E.failures messages.new) r
+        × PrintsSummary invocation.summary (string_bytes invocation.label)
+        (E.written summary.old) (E.written summary.new) (E.failures summary.new)
+        (summary_text (subcommand_name invocation.job) result.0 r
+        (stream_number invocation.job progress.new.batches)
+        (stream_number invocation.job progress.new.rows) result.1.count result.2.count) }
     // Where all was done the sink holds nothing back.
-    ensures handed_on { result.0 ≡ 0 → W.held_back result.2 ≡ Some [] }
+    ensures handed_on { result.0 ≡ 0 → W.held_back result.2.device ≡ Some [] }
     // A sink fails only at 3.
-    ensures works { result.0 ≢ 3 → W.failures sink ≡ 0 → W.failures result.2 ≡ 0 }
+    ensures works { result.0 ≢ 3 → W.failures sink.device ≡ 0 → W.failures result.2.device ≡ 0 }
     // There is no other status.
     ensures one { (result.0 ≡ 0) ⊎ (result.0 ≡ 1) ⊎ (result.0 ≡ 3) ⊎ (result.0 ≡ 4) }
     // Only `FromCsv` reads the file, and a job that expects a schema. One that was opened comes
@@ -515,8 +562,11 @@ pub fn run<P: Source, S: Source, W: Sink, N: Progress, E: Sink>(
         max_held,
         expect,
         label,
+        summary: asked,
     } = invocation;
     let expects = expect.is_some();
+    let name = job.subcommand();
+    let reads_stream = job.reads_stream();
     let input = record(alloc, &job, explain, input);
     let (answer, input, sink, schema) = do_expecting(
         alloc, seed, job, max_held, expects, schema, input, sink, progress,
@@ -524,5 +574,21 @@ pub fn run<P: Source, S: Source, W: Sink, N: Progress, E: Sink>(
     let mut input = input;
     let result = check_eof(require_eof, answer, &mut input);
     let status = report(alloc, explain, label.as_str(), &result, &input, messages);
-    (status, input.into_inner(), sink, schema)
+    let input = input.into_inner();
+    let counts = (
+        stream_number(reads_stream, progress.batches),
+        stream_number(reads_stream, progress.rows),
+    );
+    let bytes = (input.count, sink.count);
+    summarize(
+        summary,
+        asked,
+        label.as_str(),
+        name,
+        status,
+        &result,
+        counts,
+        bytes,
+    );
+    (status, input, sink, schema)
 }

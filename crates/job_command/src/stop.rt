@@ -151,7 +151,7 @@ impl Stop {
     }
 
     // Sends the line without its line feed.
-    fn send_text<E: Sink>(&self, messages: &mut E) -> Result<(), Failed>
+    pub(crate) fn send_text<E: Sink>(&self, messages: &mut E) -> Result<(), Failed>
         ensures sent { OnOk result
             (Appends (E.written messages.old) (E.written messages.new) (stop_text self.now)) }
         ensures failures { CountsAny (E.failures messages.old) (E.failures messages.new) result }

@@ -42,7 +42,7 @@ pub fn send_labelled<E: Sink>(messages: &mut E, label: &str, lines: &[u8]) -> Re
 }
 
 // Sends the digits of a number.
-fn send_number<E: Sink>(messages: &mut E, number: u64) -> Result<(), Failed>
+pub fn send_number<E: Sink>(messages: &mut E, number: u64) -> Result<(), Failed>
     ensures sent { OnOk result
         (Appends (E.written messages.old) (E.written messages.new) (decimal number)) }
     ensures failures { CountsAny (E.failures messages.old) (E.failures messages.new) result }

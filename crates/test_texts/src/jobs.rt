@@ -5,7 +5,7 @@ ghost use Rattle.job_arguments.specs.Arguments.{HasGoodSize};
 use ipc_model::Limits;
 use ipc_stream::{Limited, Memory, Seed};
 use job_arguments::{CsvDialect, Invocation, Job, OutputLimits};
-use job_command::run;
+use job_command::{Counted, LastReport, run};
 use std::alloc::{AllocError, Global};
 use std::test::Fail;
 
@@ -151,6 +151,7 @@ fn done(
     let input = limited(Vec::from_slice(alloc, input)?, reads);
     let sink = limited(Vec::new(alloc), writes);
     let mut messages = Memory::new(Vec::new(alloc));
+    let mut summary = Memory::new(Vec::new(alloc));
     let job = job_of(alloc, asked)?;
     let asked = Invocation {
         job,
@@ -160,6 +161,7 @@ fn done(
         expect: None,
         max_held: None,
         label: String::new(alloc),
+        summary: false,
     };
     let schema = Some(schema);
     let (status, _, sink, _) = run(
@@ -167,14 +169,15 @@ fn done(
         Seed::Fixed,
         asked,
         schema,
-        input,
-        sink,
-        &mut (),
+        Counted::new(input),
+        Counted::new(sink),
+        &mut LastReport::new(()),
         &mut messages,
+        &mut summary,
     );
     Ok((
         status,
-        sink.into_inner().into_bytes(),
+        sink.into_inner().into_inner().into_bytes(),
         messages.into_bytes(),
     ))
 }
